@@ -1,5 +1,6 @@
 -- There is an answer about a plan, and only one.
-use Rattle.sas_answers.proofs.Imports.{◌≡◌, refl, sym, ap, ◌∙◌, inl, inr, Some, Parts, PlanParts, WellRanged, IsLayered, PlanFault, Memory, NoOperator, NotApplicable, Conflict, GoalMissed, CostDiffers, IsFaultOf, some_verdict, valid_has_no_fault, fault_is_one, Output, valid_answer, invalid_answer, VerdictAnswer}
+use Rattle.sas_answers.proofs.Imports.{◌≡◌, refl, sym, ap, ◌∙◌, inl, inr, Some, Parts, PlanParts, WellRanged, IsLayered, PlanFault, NoOperator, NotApplicable, Conflict, GoalMissed, CostDiffers, IsFaultOf, some_verdict, valid_has_no_fault, fault_is_one, Output, valid_answer, invalid_answer, VerdictAnswer}
+use Rattle.sas_run.specs.declared.plan_check.PlanFault.TheVariants.{Memory}
 use Rattle.sas_answers.proofs.AnswerLaws.{OneAnswer, SomeAnswer}
 
 pub one_verdict_answer : (p : Parts) → IsLayered p → OneAnswer (VerdictAnswer p)

@@ -11,8 +11,8 @@ use Rattle.sas_groups.specs.Joint.{AreJointVerdicts}
 use Rattle.sas_run.specs.declared.plan_check.PlanFault.{PlanFault}
 use Rattle.sas_run.specs.Plans.{IsValid}
 use Rattle.sas_run.specs.Verdicts.{IsFaultOf}
-use Rattle.sas_output.specs.declared.ending.Status.TheVariants.{Yes, No}
-use Rattle.sas_output.specs.Ending.{Output}
+use Rattle.sas_answers.specs.declared.ending.Status.TheVariants.{Yes, No}
+use Rattle.sas_answers.specs.Ending.{Output}
 use Rattle.sas_answers.specs.GroupWords.{verdict_lines, groups_status}
 use Rattle.sas_answers.specs.LayerWords.{layer_words, layers_line}
 use Rattle.sas_answers.specs.PlanWords.{valid_line, fault_words, invalid_line}

@@ -2,8 +2,8 @@
 use Rattle.std.specs.Prelude.{ℕ, ◌+◌, List, [], ◌∷◌, ◌++◌, codes, decimal}
 use Rattle.sas_groups.specs.declared.verdict.Verdict.{Verdict}
 use Rattle.sas_groups.specs.declared.verdict.Verdict.TheVariants.{Exclusive, Derived, Initial, Broken}
-use Rattle.sas_output.specs.declared.ending.Status.{Status}
-use Rattle.sas_output.specs.declared.ending.Status.TheVariants.{Yes, No}
+use Rattle.sas_answers.specs.declared.ending.Status.{Status}
+use Rattle.sas_answers.specs.declared.ending.Status.TheVariants.{Yes, No}
 
 -- the words for the verdict on a group
 abbrev pub verdict_words : Verdict → List ℕ

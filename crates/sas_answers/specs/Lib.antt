@@ -1,3 +1,12 @@
+pub mod Ending
+pub mod Pieces
+pub mod Placing
+pub mod Sink
+pub mod Words
+pub mod Facts
+pub mod Laws
+pub mod Line
+pub mod Wording
 pub mod LayerWords
 pub mod PlanWords
 pub mod GroupWords

@@ -1,12 +1,12 @@
 // Whether a task is layered, as an answer.
 ghost use Rattle.std.specs.Prelude.{◌≡◌, Some, None, IfOk, option_map};
 ghost use Rattle.sas_answers.specs.Answers.{layers_refusal, layers_verdict};
-ghost use Rattle.sas_output.specs.Ending.{output_of};
+ghost use Rattle.sas_answers.specs.Ending.{output_of};
 ghost use Rattle.sas_answers.specs.LayerWords.{layer_words, layers_line, words_at_part};
 
+use crate::{Answer, Status};
 use sas_lines::{push_line, push_number};
 use sas_meaning::LayerFault;
-use sas_output::{Answer, Status};
 use std::alloc::{AllocError, Global};
 
 /// Returns the answer about a task that is layered.

@@ -1,15 +1,15 @@
 // Whether a plan solves a task, as an answer.
 ghost use Rattle.std.specs.Prelude.{◌≡◌, option_map, Some, IfOk};
 ghost use Rattle.sas_answers.specs.Answers.{VerdictAnswer, valid_answer, invalid_answer};
-ghost use Rattle.sas_output.specs.Ending.{output_of};
+ghost use Rattle.sas_answers.specs.Ending.{output_of};
 ghost use Rattle.sas_answers.specs.PlanWords.{valid_line, fault_words, step_words, goal_words, sum_words, invalid_line};
 
+use crate::{Answer, Status};
 use sas_axioms::Worklist;
 use sas_core::{Grounded, Stepwise};
 use sas_flat::{FlatPlan, FlatTask};
 use sas_lines::{push_line, push_number};
 use sas_meaning::Layered;
-use sas_output::{Answer, Status};
 use sas_run::{LoadedTask, PlanFault, check_once};
 use std::alloc::{AllocError, Global};
 

@@ -24,19 +24,19 @@ pub use Rattle.sas_lines.specs.Lines.{text}
 unfoldable pub use Rattle.sas_lines.specs.Lines.{lines}
 pub use Rattle.sas_meaning.specs.Layers.{IsLayered}
 pub use Rattle.sas_meaning.specs.declared.layered.LayerFault.{LayerFault}
-pub use Rattle.sas_output.specs.Ending.{Output, EndsCounting}
-pub use Rattle.sas_output.specs.declared.ending.Status.{Status}
-pub use Rattle.sas_output.specs.declared.ending.Status.TheVariants.{Yes, No}
-pub use Rattle.sas_output.specs.declared.ending.ToolFault.{ToolFault}
-pub use Rattle.sas_output.specs.declared.ending.ToolFault.TheVariants.{Memory, Read, TooLong, Write}
-pub use Rattle.sas_outputs.proofs.Headlines.{ReportsValid, headline_of, reports_valid}
-pub use Rattle.sas_outputs.proofs.Outputs.{same_output}
-pub use Rattle.sas_outputs.proofs.PlanOutputs.{Refuses, plain_refuses}
-pub use Rattle.sas_outputs.specs.Headline.{Headline, Invariants}
-pub use Rattle.sas_outputs.specs.Output.{CheckOut, FileOut, TaskOut, UnlayeredAnswer, PlanOut, PlanOutBy, VerdictOut, plain_refusal}
-pub use Rattle.sas_outputs.specs.declared.Request.{Request}
-pub use Rattle.sas_outputs.specs.declared.Request.TheVariants.{Plan, Mutex}
-pub use Rattle.sas_plans.proofs.PlanLines.{IsLine, valid_plain, verdict_line, task_refused}
+pub use Rattle.sas_answers.specs.Ending.{Output, EndsCounting}
+pub use Rattle.sas_answers.specs.declared.ending.Status.{Status}
+pub use Rattle.sas_answers.specs.declared.ending.Status.TheVariants.{Yes, No}
+pub use Rattle.sas_answers.specs.declared.ending.ToolFault.{ToolFault}
+pub use Rattle.sas_answers.specs.declared.ending.ToolFault.TheVariants.{Memory, Read, TooLong, Write}
+pub use Rattle.sas_requests.proofs.Headlines.{ReportsValid, headline_of, reports_valid}
+pub use Rattle.sas_requests.proofs.Outputs.{same_output}
+pub use Rattle.sas_requests.proofs.PlanOutputs.{Refuses, plain_refuses}
+pub use Rattle.sas_requests.specs.Headline.{Headline, Invariants}
+pub use Rattle.sas_requests.specs.Output.{CheckOut, FileOut, TaskOut, UnlayeredAnswer, PlanOut, PlanOutBy, VerdictOut, plain_refusal}
+pub use Rattle.sas_requests.specs.declared.Request.{Request}
+pub use Rattle.sas_requests.specs.declared.Request.TheVariants.{Plan, Mutex}
+pub use Rattle.sas_requests.proofs.PlanLines.{IsLine, valid_plain, verdict_line, task_refused}
 pub use Rattle.sas_reader.proofs.Known.{known_answer}
 pub use Rattle.sas_reader.proofs.Plain.{plain}
 pub use Rattle.sas_reader.specs.Devices.{ValueOf}
@@ -51,9 +51,9 @@ pub use Rattle.sas_requests.specs.TraceOut.{TraceOut}
 pub use Rattle.sas_requests.specs.Why.{OutWhy, WithReasons}
 pub use Rattle.sas_requests.specs.declared.question.PlanDetail.TheVariants.{Reasons}
 pub use Rattle.sas_requests.specs.declared.question.PlanDetail.{PlanDetail}
-pub use Rattle.sas_task_format.specs.TaskFormat.{task_format}
-pub use Rattle.sas_trace.specs.Traced.{TraceVerdict}
-pub use Rattle.sas_why.specs.Verdict.{WhyVerdict}
+pub use Rattle.sas_task_file.specs.TaskFormat.{task_format}
+pub use Rattle.sas_plan_reasons.specs.Traced.{TraceVerdict}
+pub use Rattle.sas_plan_reasons.specs.Verdict.{WhyVerdict}
 pub use Rattle.sas_c.specs.Holding.{HoldsTask, HeldOut}
 pub use Rattle.sas_c.specs.Reporting.{Returns, ReturnsHeadline, EndsInLine, ReturnsLastLine, ReturnsInvariants, number_of_fault, number_of_status}
 pub use Rattle.sas_c.specs.TaskPointers.{owns_task}

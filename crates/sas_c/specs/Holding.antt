@@ -4,8 +4,8 @@ use Rattle.sas_core.specs.declared.parts.Parts.{Parts}
 use Rattle.sas_meaning.specs.Layers.{IsLayered}
 use Rattle.sas_reader.specs.Format.{ReadsAs}
 use Rattle.sas_reader.specs.Limit.{most_bytes}
-use Rattle.sas_task_format.specs.TaskFormat.{task_format}
-use Rattle.sas_output.specs.Ending.{Output}
+use Rattle.sas_task_file.specs.TaskFormat.{task_format}
+use Rattle.sas_answers.specs.Ending.{Output}
 use Rattle.sas_requests.specs.Answering.{PlanBy, VerdictBy}
 use Rattle.sas_requests.specs.Questions.{detail_of}
 use Rattle.sas_requests.specs.declared.question.PlanDetail.{PlanDetail}

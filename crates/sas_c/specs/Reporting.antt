@@ -1,12 +1,12 @@
 -- What a call of the library returns: a number, and an answer in the caller's memory.
 use Rattle.std.specs.Prelude.{◌≡◌, ℕ, ◌<◌, ◌≤◌, List, ◌++◌, length, take, drop, Option, Some, None}
 use Rattle.sas_lines.specs.Lines.{text}
-use Rattle.sas_output.specs.declared.ending.Status.{Status}
-use Rattle.sas_output.specs.declared.ending.Status.TheVariants.{Yes, No}
-use Rattle.sas_output.specs.declared.ending.ToolFault.{ToolFault}
-use Rattle.sas_output.specs.declared.ending.ToolFault.TheVariants.{TooLong}
-use Rattle.sas_output.specs.Ending.{Output}
-use Rattle.sas_outputs.specs.Headline.{Headline, Invariants}
+use Rattle.sas_answers.specs.declared.ending.Status.{Status}
+use Rattle.sas_answers.specs.declared.ending.Status.TheVariants.{Yes, No}
+use Rattle.sas_answers.specs.declared.ending.ToolFault.{ToolFault}
+use Rattle.sas_answers.specs.declared.ending.ToolFault.TheVariants.{TooLong}
+use Rattle.sas_answers.specs.Ending.{Output}
+use Rattle.sas_requests.specs.Headline.{Headline, Invariants}
 
 -- the number of an answer that is written
 abbrev pub number_of_status : Status → ℕ

@@ -2,7 +2,7 @@
 ghost use Rattle.std.specs.Prelude.{◌≡◌};
 ghost use Rattle.sas_c.specs.Reporting.{number_of_fault, number_of_status};
 
-use sas_output::{Status, ToolFault};
+use sas_answers::{Status, ToolFault};
 
 /// The answer is written, and is yes.
 pub const YES: u32 = 0;

@@ -1,9 +1,9 @@
 // Plans of a task that is held. It stays held.
 ghost use Rattle.std.specs.Prelude.{◌≡◌, List, ℕ, IfSome, IsNone};
 ghost use Rattle.sas_answers.specs.Answers.{VerdictAnswer};
-ghost use Rattle.sas_why.specs.Verdict.{WhyVerdict};
-ghost use Rattle.sas_outputs.specs.Output.{PlanOut, VerdictOut};
-ghost use Rattle.sas_trace.specs.Traced.{TraceVerdict};
+ghost use Rattle.sas_plan_reasons.specs.Verdict.{WhyVerdict};
+ghost use Rattle.sas_requests.specs.Output.{PlanOut, VerdictOut};
+ghost use Rattle.sas_plan_reasons.specs.Traced.{TraceVerdict};
 ghost use Rattle.sas_requests.specs.FileReasons.{PlanFileReasons};
 ghost use Rattle.sas_requests.specs.Why.{OutWhy, WithReasons};
 ghost use Rattle.sas_requests.specs.TraceOut.{TraceOut};
@@ -15,8 +15,7 @@ use crate::prepared::Prepared;
 use crate::reporting::{report_ended, return_answer};
 use crate::sas_task::SasTask;
 use sas_lines::Watched;
-use sas_plans::judge_bytes;
-use sas_requests::{PlanDetail, Request, answer_bytes};
+use sas_requests::{PlanDetail, Request, answer_bytes, judge_bytes};
 use std::alloc::Global;
 
 /// Answers whether the plan solves the task that is held, as `sas_plan` does. It stays held.

@@ -4,7 +4,7 @@ ghost use Rattle.std.specs.Prelude.{◌≡◌, IfSome};
 use sas_axioms::Worklist;
 use sas_flat::FlatTask;
 use sas_meaning::Layered;
-use sas_plans::load;
+use sas_requests::load;
 use sas_run::LoadedTask;
 use std::alloc::Global;
 

@@ -1,12 +1,12 @@
 // How an answer goes into the caller's memory.
 ghost use Rattle.std.specs.Prelude.{◌≡◌, ◌<◌, length, take, drop, IsTrue, IsFalse, Some};
-ghost use Rattle.sas_output.specs.Ending.{output_of};
+ghost use Rattle.sas_answers.specs.Ending.{output_of};
 ghost use Rattle.sas_c.specs.Reporting.{Returns};
 ghost use Rattle.sas_c.specs.Written.{IsWritten};
 
 use crate::numbers::{ROOM_TOO_SHORT, fault_number, status_number};
+use sas_answers::{Answer, Status, ToolFault};
 use sas_lines::Watched;
-use sas_output::{Answer, Status, ToolFault};
 
 /// Writes an answer with this text and this status. Returns the status as a number, or that the text is longer than the room.
 pub fn report(text: &[u8], status: Status, room: &mut [u8], size: &mut usize) -> u32

@@ -1,7 +1,7 @@
 // The calls of the library about a task, a plan, or both. Each takes an input as a pointer that isn't null and a length, and writes the
 // answer to the front of `room`, and its length in bytes to `size`. Behind the answer the room stays as it was.
 ghost use Rattle.std.specs.Prelude.{[]};
-ghost use Rattle.sas_outputs.specs.Output.{ShowOut, PrintOut, StepsOut, CheckOut, MutexOut, PlanOut};
+ghost use Rattle.sas_requests.specs.Output.{ShowOut, PrintOut, StepsOut, CheckOut, MutexOut, PlanOut};
 ghost use Rattle.sas_requests.specs.Why.{OutWhy};
 ghost use Rattle.sas_requests.specs.TraceOut.{TraceOut};
 ghost use Rattle.sas_c.specs.Reporting.{Returns, ReturnsHeadline, ReturnsInvariants, ReturnsLastLine};

@@ -1,7 +1,7 @@
 // A task that is read once, for many plans.
 ghost use Rattle.std.specs.Prelude.{◌≡◌, Some, None};
 ghost use Rattle.sas_answers.specs.Answers.{layers_verdict};
-ghost use Rattle.sas_outputs.specs.Output.{CheckOut};
+ghost use Rattle.sas_requests.specs.Output.{CheckOut};
 ghost use Rattle.sas_c.specs.Reporting.{Returns};
 ghost use Rattle.sas_c.specs.Holding.{HoldsTask};
 
@@ -9,10 +9,10 @@ use crate::numbers::{OUT_OF_MEMORY, YES};
 use crate::prepared::Prepared;
 use crate::reporting::{report, report_ended};
 use crate::sas_task::SasTask;
+use sas_answers::Status;
 use sas_flat::FlatTask;
 use sas_lines::Watched;
 use sas_meaning::Layered;
-use sas_output::Status;
 use sas_requests::{Detail, ReadTask, read_layered};
 use std::alloc::Global;
 

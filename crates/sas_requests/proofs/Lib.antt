@@ -1,3 +1,13 @@
+pub mod Summaries
+mod ShownTexts
+mod FileTexts
+pub mod FileReasonLines
+pub mod Outputs
+pub mod PlanOutputs
+pub mod Headlines
+pub mod Endings
+pub mod Lengths
+pub mod PlainLines
 pub mod InvariantGroups
 mod SummaryLengths
 pub mod ShortOutputs
@@ -12,4 +22,16 @@ pub mod ReasonedOutputs
 pub mod TraceLaws
 mod FileEnds
 pub mod RequestEnds
+mod SideBySide
+mod BestPlans
+mod Tallying
+mod PlanVerdicts
+mod Turns
+mod SaidPlans
+mod TaskAnswers
+mod JudgeLaws
+mod LastBytes
+pub mod PlanLines
+mod PlansHeadlines
+mod InMemory
 mod Imports

@@ -1,5 +1,6 @@
 -- Each line of reasons begins with two spaces, and holds neither LF nor CR.
-use Rattle.sas_requests.proofs.Imports.{◌≡◌, ℕ, true, List, [], ◌∷◌, map, ap, AllByRecursion, Parts, IsName, WellRanged, IsPlain, Line, IsReasonLine, line_bytes, lines_are_reasons, FileLine, file_line_bytes, file_lines, file_lines_are_reasons, is_reason}
+use Rattle.sas_requests.proofs.Imports.{◌≡◌, ℕ, true, List, [], ◌∷◌, map, ap, AllByRecursion, Parts, IsName, WellRanged, IsPlain, Line, IsReasonLine, line_bytes, lines_are_reasons, FileLine, file_line_bytes, file_lines, is_reason}
+use Rattle.sas_requests.proofs.FileReasonLines.{file_lines_are_reasons}
 
 -- the line is one of reasons
 pub record IsReason (line : List ℕ) : Type 0 where

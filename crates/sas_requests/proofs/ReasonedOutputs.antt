@@ -1,6 +1,9 @@
 -- The output with reasons behind refusals of files: it is the same answer as the one without, there is one, and always some; and
 -- what it says of plans and groups holds.
-use Rattle.sas_requests.proofs.Imports.{◌≡◌, ◌⊎◌, ℕ, append-nil, List, [], ◌∷◌, ◌++◌, arith, codes, refl, sym, ap, subst, ◌∙◌, inl, inr, Option, Some, false, option_map, Appends, lines, Fault, IsPlain, Exclusive, FileLine, file_lines, file_text, Yes, No, Output, group_line, valid_line, with_reasons, why_refusal, WhyCheckAnswer, WhyMutexAnswer, one_why_check, is_reason, without_reasons, OutOfRead, OutWhy, WithReasons, IsSameAnswer, SameAnswer, RefusalReasons, some_why_check, one_why_mutex, some_why_mutex, WhyVerdict, Request, Plan, Mutex, Solves, Invariants, word_of, refusal, refusal_line, HasOneOutput, IsLong, IsSolved, IsOther, sent_same, headline_by, out_reported, out_solved, output_for, file_words, file_plain, kind_plain, worded, SaysHeadline}
+use Rattle.sas_requests.proofs.Imports.{◌≡◌, ◌⊎◌, ℕ, append-nil, List, [], ◌∷◌, ◌++◌, arith, codes, refl, sym, ap, subst, ◌∙◌, inl, inr, Option, Some, false, option_map, Appends, lines, Fault, IsPlain, Exclusive, FileLine, file_lines, file_text, Yes, No, Output, group_line, valid_line, with_reasons, why_refusal, WhyCheckAnswer, WhyMutexAnswer, one_why_check, is_reason, without_reasons, OutOfRead, OutWhy, WithReasons, IsSameAnswer, SameAnswer, RefusalReasons, some_why_check, one_why_mutex, some_why_mutex, WhyVerdict, Request, Plan, Mutex, Solves, Invariants, word_of, refusal, refusal_line, HasOneOutput, IsLong, worded}
+use Rattle.sas_requests.proofs.Headlines.{IsSolved, IsOther, sent_same, headline_by, out_reported, out_solved, SaysHeadline}
+use Rattle.sas_requests.proofs.PlanOutputs.{output_for}
+use Rattle.sas_requests.proofs.PlainLines.{file_words, file_plain, kind_plain}
 use Rattle.std.specs.Prelude.{Contains}
 use Rattle.sas_requests.proofs.InvariantGroups.{SaysNone, line_says_none, why_groups, invariants_of}
 use Rattle.sas_requests.proofs.ReasonLines.{file_lines_report}

@@ -1,7 +1,8 @@
 -- Why a file is refused: one list of reasons, and always some.
 use Rattle.std.proofs.Common.{arith}
 use Rattle.std.proofs.lemmas.Grind.{common_steps}
-use Rattle.sas_requests.proofs.Imports.{◌≡◌, ◌≢◌, ℕ, List, [], ◌∷◌, refl, sym, subst, ◌∙◌, inl, inr, Result, Ok, Err, lines, unfinished, Fault, Kind, Format, FaultOf, KindAt, too_long, trailing, wrong, ReadsAs, Laws, most_bytes, IsAbout, of_line, of_byte, of_end, AboutLaws, about_laws_of, plan_format, PlanLineFits, plan_node, plan_start, plan_grammar, FaultReasons, reported, past_limit, ReadReasons, FileReasons, AreTaskReasons, ArePlanReasons, TaskFileReasons, PlanFileReasons, RefusalReasons, plan_laws_hold, process_node, task_format, TaskLineFits, task_start, one_task_reason, some_task_reason, task_grammar, task_laws_hold, FileLine, Request, Steps, Plan, IsLayeredText, Worded, plan_worded, task_worded}
+use Rattle.sas_requests.proofs.Imports.{◌≡◌, ◌≢◌, ℕ, List, [], ◌∷◌, refl, sym, subst, ◌∙◌, inl, inr, Result, Ok, Err, lines, unfinished, Fault, Kind, Format, FaultOf, KindAt, too_long, trailing, wrong, ReadsAs, Laws, most_bytes, IsAbout, of_line, of_byte, of_end, AboutLaws, about_laws_of, plan_format, PlanLineFits, plan_node, plan_start, plan_grammar, FaultReasons, reported, past_limit, ReadReasons, FileReasons, AreTaskReasons, ArePlanReasons, TaskFileReasons, PlanFileReasons, RefusalReasons, plan_laws_hold, process_node, task_format, TaskLineFits, task_start, one_task_reason, some_task_reason, task_grammar, task_laws_hold, FileLine, Request, Steps, Plan, IsLayeredText}
+use Rattle.sas_requests.proofs.Outputs.{Worded, plan_worded, task_worded}
 use Rattle.sas_reader.specs.declared.fault.Kind.TheVariants as kinds
 
 pub task_reporting : AboutLaws task_format

@@ -1,6 +1,7 @@
 -- How the output of a request goes out.
-use Rattle.sas_requests.proofs.Imports.{◌≡◌, ℕ, false, true, List, [], codes, inl, inr, refl, sym, ap, subst, ◌∙◌, Option, Some, None, Result, Ok, Err, IsTrue, IfOk, IsSomeAnd, Appends, Parts, PlanParts, LayerFault, IsLayered, Device, ValueOf, ReadsAll, ReadsAs, most_bytes, known_answer, plan_format, task_format, Status, Yes, ToolFault, Output, EndsCounting, Answers, ends_by, answers_by, layers_verdict, LayeredGroupsAnswer, Consumes-nil, Detail, Reasons, PlanDetail, detail_of, CheckBy, MutexBy, VerdictBy, UnlayeredBy, layers_by, TaskBy, PlanBy, OutBy, IfLayered, IfRefused, refused_by, EndsRequest, TaskFileReasons, PlanFileReasons, RefusalReasons, layered_answer, check_layered, check_refused, groups_refused, IsTraced, TraceVerdict, Request, Headline, Invariants, TaskOut, VerdictOut, PlanOutBy, PrintAnswer, AreInputs, reads_task, first_alone, second_alone, not_refused, EndsFile}
-use Rattle.sas_outputs.specs.declared.Request.TheVariants as request
+use Rattle.sas_requests.proofs.Imports.{◌≡◌, ℕ, false, true, List, [], codes, inl, inr, refl, sym, ap, subst, ◌∙◌, Option, Some, None, Result, Ok, Err, IsTrue, IfOk, IsSomeAnd, Appends, Parts, PlanParts, LayerFault, IsLayered, Device, ValueOf, ReadsAll, ReadsAs, most_bytes, known_answer, plan_format, task_format, Status, Yes, ToolFault, Output, EndsCounting, Answers, ends_by, answers_by, layers_verdict, LayeredGroupsAnswer, Consumes-nil, Detail, Reasons, PlanDetail, detail_of, CheckBy, MutexBy, VerdictBy, UnlayeredBy, layers_by, TaskBy, PlanBy, OutBy, IfLayered, IfRefused, refused_by, EndsRequest, TaskFileReasons, PlanFileReasons, RefusalReasons, layered_answer, check_layered, check_refused, groups_refused, IsTraced, TraceVerdict, Request, Headline, Invariants, TaskOut, VerdictOut, PlanOutBy, PrintAnswer, AreInputs, reads_task, EndsFile}
+use Rattle.sas_requests.proofs.PlanOutputs.{first_alone, second_alone, not_refused}
+use Rattle.sas_requests.specs.declared.Request.TheVariants as request
 use Rattle.sas_requests.specs.declared.question.Detail.TheVariants.{Plain}
 use Rattle.sas_requests.proofs.RefusalReasons.{more_reasoned}
 

@@ -1,6 +1,10 @@
 -- How long a summary is. What is read of a task is at most 4 GiB, and so a `usize` holds the length of its summary.
-use Rattle.sas_requests.proofs.Imports.{◌≡◌, ℕ, suc, zero, ◌+◌, ◌*◌, ◌^◌, ◌<◌, ◌≤◌, Bool, true, false, if◌then◌else◌, List, [], ◌∷◌, ◌++◌, length, map, codes, length-append, arith, refl, sym, ap, subst, ◌∙◌, inl, inr, Option, Some, None, ◌⊎◌, decimal, slice_get, is_some, enumerate_from, flat_map, length-decimal-le, flat_map-append, map-append, cases_lt, count_by-le-length, none-some, mul-le-mul_left, Fact, Variable, Parts, WellRanged, text, ValueOf, TaskLine, word, name, number, signed, fact, task_line_bytes, single_line, between, counted, version_lines, metric_lines, variable_lines, group_lines, state_lines, operator_lines, rule_lines, task_layout, task_format, Outline, OutlineOf, outline_of, value_name, unwrap_or, joined, fact_line, derived_count, number_line, number_lines, initial_lines, goal_fact_lines, summary_lines, text_short, goal_text, initial_text, goal_is, initial_is, summary_is}
-use Rattle.sas_task_format.specs.TaskFormat as file
+use Rattle.sas_requests.proofs.Imports.{◌≡◌, ℕ, suc, zero, ◌+◌, ◌*◌, ◌^◌, ◌<◌, ◌≤◌, Bool, true, false, if◌then◌else◌, List, [], ◌∷◌, ◌++◌, length, map, codes, length-append, arith, refl, sym, ap, subst, ◌∙◌, inl, inr, Option, Some, None, ◌⊎◌, decimal, slice_get, is_some, enumerate_from, length-decimal-le, flat_map-append, map-append, cases_lt, count_by-le-length, none-some, mul-le-mul_left, Fact, Variable, Parts, WellRanged, text, ValueOf, TaskLine, word, name, signed, fact, task_line_bytes, single_line, between, counted, version_lines, metric_lines, variable_lines, group_lines, state_lines, operator_lines, rule_lines, task_layout, task_format, Outline, OutlineOf, outline_of, value_name, unwrap_or, joined, fact_line, derived_count, number_line, number_lines, initial_lines, goal_fact_lines, summary_lines, initial_text, initial_is}
+use Rattle.std.specs.List.{flat_map}
+use Rattle.sas_task_file.specs.TaskFormat.{number}
+use Rattle.sas_requests.proofs.Lengths.{text_short}
+use Rattle.sas_requests.proofs.Summaries.{goal_text, goal_is, summary_is}
+use Rattle.sas_task_file.specs.TaskFormat as file
 
 -- ---- how many bytes lines of a file take
 

@@ -9,19 +9,19 @@ use Rattle.sas_reader.specs.Format.{Format}
 use Rattle.sas_reader.specs.Found.{kept_bytes}
 use Rattle.sas_plan_file.specs.declared.plan_refusal.PlanRefusal.{PlanRefusal}
 use Rattle.sas_plan_file.specs.PlanFormat.{plan_format}
-use Rattle.sas_task_format.specs.TaskFormat.{task_format}
+use Rattle.sas_task_file.specs.TaskFormat.{task_format}
 use Rattle.sas_task_reader.specs.declared.task_refusal.TaskRefusal.{TaskRefusal}
-use Rattle.sas_outputs.specs.FileLine.{FileLine}
-use Rattle.sas_outputs.specs.FileReasons.{task_reasons, plan_reasons, file_text}
-use Rattle.sas_output.specs.declared.ending.Status.{Status}
-use Rattle.sas_output.specs.declared.ending.ToolFault.{ToolFault}
-use Rattle.sas_output.specs.Ending.{Output}
+use Rattle.sas_requests.specs.FileLine.{FileLine}
+use Rattle.sas_requests.specs.FileLines.{task_reasons, plan_reasons, file_text}
+use Rattle.sas_answers.specs.declared.ending.Status.{Status}
+use Rattle.sas_answers.specs.declared.ending.ToolFault.{ToolFault}
+use Rattle.sas_answers.specs.Ending.{Output}
 use Rattle.sas_answers.specs.Answers.{CheckAnswer, MutexAnswer, VerdictAnswer}
 use Rattle.sas_task_reasons.specs.WhyLayers.{with_reasons, why_refusal, WhyCheckAnswer, WhyMutexAnswer}
-use Rattle.sas_trace.specs.Traced.{TraceVerdict}
-use Rattle.sas_why.specs.Verdict.{WhyVerdict}
-use Rattle.sas_outputs.specs.declared.Request.{Request}
-use Rattle.sas_outputs.specs.Output.{FileOut, OutOf, UnlayeredAnswer, refusal, plain_refusal}
+use Rattle.sas_plan_reasons.specs.Traced.{TraceVerdict}
+use Rattle.sas_plan_reasons.specs.Verdict.{WhyVerdict}
+use Rattle.sas_requests.specs.declared.Request.{Request}
+use Rattle.sas_requests.specs.Output.{FileOut, OutOf, UnlayeredAnswer, refusal, plain_refusal}
 use Rattle.sas_requests.specs.declared.question.Detail.{Detail}
 use Rattle.sas_requests.specs.declared.question.Detail.TheVariants.{Reasons}
 use Rattle.sas_requests.specs.declared.question.PlanDetail.{PlanDetail}

@@ -2,13 +2,13 @@
 use Rattle.std.specs.Prelude.{◌≡◌, ◌↔◌, ◌||◌, ℕ, List, Option, Some, Result, IsErrOf, IsFalse, IsTrue}
 use Rattle.std.specs.Io.KnownBytes.{Consumes}
 use Rattle.sas_lines.specs.Device.{Device}
-use Rattle.sas_output.specs.declared.ending.Status.{Status}
-use Rattle.sas_output.specs.declared.ending.ToolFault.{ToolFault}
-use Rattle.sas_output.specs.declared.ending.ToolFault.TheVariants as fault
-use Rattle.sas_output.specs.Ending.{IsDecided}
-use Rattle.sas_outputs.specs.declared.Request.{Request}
-use Rattle.sas_outputs.specs.declared.Request.TheVariants as requests
-use Rattle.sas_outputs.specs.Output.{AreInputs, IsLayeredText, reads_plan, reads_task}
+use Rattle.sas_answers.specs.declared.ending.Status.{Status}
+use Rattle.sas_answers.specs.declared.ending.ToolFault.{ToolFault}
+use Rattle.sas_answers.specs.declared.ending.ToolFault.TheVariants as fault
+use Rattle.sas_answers.specs.Ending.{IsDecided}
+use Rattle.sas_requests.specs.declared.Request.{Request}
+use Rattle.sas_requests.specs.declared.Request.TheVariants as requests
+use Rattle.sas_requests.specs.Output.{AreInputs, IsLayeredText, reads_plan, reads_task}
 
 -- How a run ends that answers a request. `left_task` and `left_plan` map the devices to the bytes
 -- that they have left, where these are known. `Ended` says how it ends for bytes of the task and of

@@ -7,15 +7,15 @@ use Rattle.sas_reader.specs.Format.{Format, ReadsAs}
 use Rattle.sas_reader.specs.Limit.{most_bytes}
 use Rattle.sas_reader.specs.About.{IsAbout}
 use Rattle.sas_plan_file.specs.PlanFormat.{plan_format}
-use Rattle.sas_task_format.specs.declared.marks.Mark.{Mark}
-use Rattle.sas_task_format.specs.declared.marks.WrongWord.{WrongWord}
-use Rattle.sas_task_format.specs.TaskFormat.{task_format}
-use Rattle.sas_task_format.specs.TaskReasons.{IsTaskReason}
-use Rattle.sas_outputs.specs.FileLine.{FileLine}
-use Rattle.sas_outputs.specs.FileReasons.{task_reasons, plan_reasons}
-use Rattle.sas_outputs.specs.declared.Request.{Request}
-use Rattle.sas_outputs.specs.declared.Request.TheVariants.{Steps, Plan}
-use Rattle.sas_outputs.specs.Output.{IsLayeredText}
+use Rattle.sas_task_file.specs.declared.marks.Mark.{Mark}
+use Rattle.sas_task_file.specs.declared.marks.WrongWord.{WrongWord}
+use Rattle.sas_task_file.specs.TaskFormat.{task_format}
+use Rattle.sas_task_file.specs.TaskReasons.{IsTaskReason}
+use Rattle.sas_requests.specs.FileLine.{FileLine}
+use Rattle.sas_requests.specs.FileLines.{task_reasons, plan_reasons}
+use Rattle.sas_requests.specs.declared.Request.{Request}
+use Rattle.sas_requests.specs.declared.Request.TheVariants.{Steps, Plan}
+use Rattle.sas_requests.specs.Output.{IsLayeredText}
 
 -- ---- one file
 

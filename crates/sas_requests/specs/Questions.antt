@@ -1,6 +1,6 @@
 -- What is asked: a request, and how much is reported.
-use Rattle.sas_outputs.specs.declared.Request.{Request}
-use Rattle.sas_outputs.specs.declared.Request.TheVariants.{Plan}
+use Rattle.sas_requests.specs.declared.Request.{Request}
+use Rattle.sas_requests.specs.declared.Request.TheVariants.{Plan}
 use Rattle.sas_requests.specs.declared.question.Detail.{Detail}
 use Rattle.sas_requests.specs.declared.question.Detail.TheVariants.{Plain, Reasons}
 use Rattle.sas_requests.specs.declared.question.PlanDetail.{PlanDetail}

@@ -1,9 +1,9 @@
 -- What `trace` prints: the output of `plan`, with the trace of the plan before it if it is judged.
 use Rattle.std.specs.Prelude.{◌≡◌, ℕ, List, ◌++◌, Option, Some}
-use Rattle.sas_output.specs.Ending.{Output}
-use Rattle.sas_outputs.specs.declared.Request.TheVariants.{Plan}
-use Rattle.sas_outputs.specs.Output.{Out, PlanOutBy, plain_refusal}
-use Rattle.sas_trace.specs.Traced.{TraceVerdict}
+use Rattle.sas_answers.specs.Ending.{Output}
+use Rattle.sas_requests.specs.declared.Request.TheVariants.{Plan}
+use Rattle.sas_requests.specs.Output.{Out, PlanOutBy, plain_refusal}
+use Rattle.sas_plan_reasons.specs.Traced.{TraceVerdict}
 
 -- the output about the bytes b of the task and c of the plan
 abbrev pub TraceOut : List ℕ → List ℕ → Option Output → Type 0

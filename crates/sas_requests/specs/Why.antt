@@ -1,15 +1,15 @@
 -- What the program prints with `--why`: the output without it, and reasons after a no.
 use Rattle.std.specs.Prelude.{◌≡◌, ℕ, Bool, not, List, take, filter, bytes_eq, codes, Option, Some, option_map}
 use Rattle.sas_lines.specs.Lines.{text, lines}
-use Rattle.sas_output.specs.declared.ending.Status.TheVariants.{Yes, No}
-use Rattle.sas_output.specs.Ending.{Output}
-use Rattle.sas_outputs.specs.FileLine.{FileLine}
-use Rattle.sas_outputs.specs.FileReasons.{file_text}
+use Rattle.sas_answers.specs.declared.ending.Status.TheVariants.{Yes, No}
+use Rattle.sas_answers.specs.Ending.{Output}
+use Rattle.sas_requests.specs.FileLine.{FileLine}
+use Rattle.sas_requests.specs.FileLines.{file_text}
 use Rattle.sas_task_reasons.specs.WhyLayers.{with_reasons, why_refusal, WhyCheckAnswer, WhyMutexAnswer}
-use Rattle.sas_why.specs.Verdict.{WhyVerdict}
-use Rattle.sas_outputs.specs.declared.Request.{Request}
+use Rattle.sas_plan_reasons.specs.Verdict.{WhyVerdict}
+use Rattle.sas_requests.specs.declared.Request.{Request}
 use Rattle.sas_requests.specs.FileReasons.{RefusalReasons}
-use Rattle.sas_outputs.specs.Output.{Out, OutOf}
+use Rattle.sas_requests.specs.Output.{Out, OutOf}
 
 -- the output with the reasons of what was read: why a task isn't layered, a mutex group isn't
 -- exclusive, or a plan isn't valid

@@ -1,10 +1,18 @@
-// Laws of the outputs.
+// Laws of the lines of reasons.
+ghost use Rattle.sas_requests.specs.FileLaws.{FileLinesAreReasons};
 ghost use Rattle.std.specs.Prelude.{List, ℕ};
-ghost use Rattle.sas_outputs.specs.declared.Request.{Request};
-ghost use Rattle.sas_outputs.specs.declared.Request.TheVariants.{Plan};
-ghost use Rattle.sas_outputs.specs.Output.{HasOneOutput, IsLong, Out, ShortOutput};
+ghost use Rattle.sas_requests.specs.declared.Request.{Request};
+ghost use Rattle.sas_requests.specs.declared.Request.TheVariants.{Plan};
+ghost use Rattle.sas_requests.specs.Output.{HasOneOutput, IsLong, Out, ShortOutput};
 ghost use Rattle.sas_requests.specs.Why.{OutWhy, SameAnswer};
 ghost use Rattle.sas_requests.specs.TraceOut.{EndsAsPlan, TraceOut};
+ghost use Rattle.sas_requests.specs.Judged.{JudgeOut};
+ghost use Rattle.sas_requests.specs.PlansLaws.{EachIsThatOfPlan, IsOneLong, RefusesAsPlan};
+
+/// Ensures that each line of reasons begins with two spaces and contains neither LF nor CR.
+pub fn file_reason_laws()
+    ensures { FileLinesAreReasons }
+{}
 
 /// What holds of outputs: a request has one output over the same inputs, and it can't have nothing; it has none only
 /// where an input passes the limit. Each output is shorter than 2^64 bytes.
@@ -29,4 +37,14 @@ pub fn explain_laws()
 pub fn trace_output_laws()
     ensures plan { EndsAsPlan }
     ensures outputs { (b c : List ℕ) → HasOneOutput (TraceOut b c) (IsLong Plan b c) }
+{}
+
+/// What holds of what is printed of many plans: of each it is its label, and then what `plan` prints; a task is refused as
+/// by `plan`; there is one output over the same inputs, and it can't have nothing; there is none only where an input passes the
+/// limit.
+pub fn judge_laws()
+    ensures each { EachIsThatOfPlan }
+    ensures refuses { RefusesAsPlan }
+    ensures outputs { (labels : List (List ℕ)) (b : List ℕ) (cs : List (List ℕ))
+        → HasOneOutput (JudgeOut labels b cs) (IsOneLong b cs) }
 {}

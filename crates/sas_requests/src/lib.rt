@@ -1,32 +1,68 @@
-//! The requests, but for many plans: what each answers about its inputs, and how it is written.
+//! The requests: what each answers about its inputs, as definitions and as code, and how it is written. Many plans of one task are judged one
+//! after another.
 #![tactic(auto)]
 
 mod answers;
+mod dues;
+mod file_reasons;
+mod file_refusal;
+mod found;
+mod inputs;
+mod judging;
 mod laws;
+mod loaded;
 mod plans;
 mod question;
 mod refusals;
+mod reporting;
+mod slices;
+mod summary;
+mod tally;
 mod tasks;
+mod verdicts;
 
 ghost use Rattle.std.specs.Prelude.{◌≡◌, false, List, ℕ, Some, IfOk};
 ghost use Rattle.std.specs.Io.KnownBytes.{Appends};
-ghost use Rattle.sas_outputs.specs.Output.{Out, AreInputs};
-ghost use Rattle.sas_outputs.specs.Headline.{Headline, Invariants};
+ghost use Rattle.sas_requests.specs.Output.{Out, AreInputs};
+ghost use Rattle.sas_requests.specs.Headline.{Headline, Invariants};
 ghost use Rattle.sas_requests.specs.EndsRequest.{EndsRequest};
 ghost use Rattle.sas_requests.specs.Why.{OutWhy, HasNoReasons};
 ghost use Rattle.sas_requests.specs.TraceOut.{TraceOut};
-ghost use Rattle.sas_output.specs.Ending.{Answers, Ends, EndsCounting};
+ghost use Rattle.sas_answers.specs.Ending.{Answers, Ends, EndsCounting};
 
 pub use answers::answer;
-pub use laws::{explain_laws, run_laws, trace_output_laws};
+pub use file_reasons::{push_plan_reasons, push_task_reasons};
+pub use file_refusal::refuse_file;
+pub use inputs::{InputFault, JudgeFault, PlanInputs, is_label};
+pub use judging::judge;
+pub use laws::{explain_laws, file_reason_laws, judge_laws, run_laws, trace_output_laws};
+pub use loaded::{judge_bytes, load};
 pub use plans::answer_bytes;
 pub use question::{Detail, PlanDetail, Question};
+pub use sas_answers::{Status, ToolFault};
 use sas_lines::Watched;
-pub use sas_output::{Status, ToolFault};
-pub use sas_outputs::{Request, refuse_file};
+pub use slices::{PlanBytes, PlanSlices, are_labels, judge_slices};
 use std::alloc::Global;
 use std::io::{Read, Write};
+pub use summary::write_summary;
 pub use tasks::{ReadTask, read_layered};
+
+/// A request.
+#[derive(Clone, Copy, Debug, PartialEq, Eq)]
+pub enum Request {
+    /// Print the summary of a task.
+    Show,
+    /// Print a task again, as a task file.
+    Print,
+    /// Print a plan again, as a plan file.
+    Steps,
+    /// Check whether a task is layered.
+    Check,
+    /// Check whether a plan solves a task.
+    Plan,
+    /// Check which mutex groups of a task are exclusive.
+    Mutex,
+}
 
 /// Answers the request about the inputs. `Show`, `Print`, `Check` and `Mutex` read the task alone, and `Steps` the
 /// plan; `Plan` reads the task, and then the plan if the task is layered. Nothing is written before the answer is

@@ -1,7 +1,7 @@
 // Whether a plan solves a task. Both are read, the plan only if it is needed.
 ghost use Rattle.std.specs.Prelude.{◌≡◌, false, IsSomeAnd};
-ghost use Rattle.sas_output.specs.Ending.{Answers, EndsCounting, Writes};
-ghost use Rattle.sas_outputs.specs.EndsFile.{EndsFile};
+ghost use Rattle.sas_answers.specs.Ending.{Answers, EndsCounting, Writes};
+ghost use Rattle.sas_requests.specs.EndsFile.{EndsFile};
 ghost use Rattle.sas_requests.specs.Answering.{OutBy, PlanBy, VerdictBy};
 ghost use Rattle.sas_requests.specs.EndsRequest.{EndsRequest};
 ghost use Rattle.sas_requests.specs.Questions.{detail_of};
@@ -15,8 +15,7 @@ use sas_flat::{FlatPlan, FlatTask};
 use sas_lines::Watched;
 use sas_meaning::Layered;
 use sas_plan_file::read_flat_plan;
-use sas_trace::write_trace;
-use sas_why::write_explained;
+use sas_plan_reasons::{write_explained, write_trace};
 use std::alloc::Global;
 use std::io::{Read, Write};
 

@@ -1,12 +1,11 @@
 // Refusals of files, as they go out.
 ghost use Rattle.std.specs.Prelude.{◌≡◌, ◌↔◌, codes, false, IsErrOf};
-ghost use Rattle.sas_output.specs.Ending.{Answers, Ends};
+ghost use Rattle.sas_answers.specs.Ending.{Answers, Ends};
 ghost use Rattle.sas_requests.specs.Answering.{plan_refusal_lines, refusal_by, task_refusal_lines};
 
 use crate::question::Detail;
-use crate::{Status, ToolFault};
+use crate::{Status, ToolFault, push_plan_reasons, push_task_reasons, refuse_file};
 use sas_lines::Watched;
-use sas_outputs::{push_plan_reasons, push_task_reasons, refuse_file};
 use sas_plan_file::PlanRefusal;
 use sas_reader::Kind;
 use sas_task_reader::TaskRefusal;

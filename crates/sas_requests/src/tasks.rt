@@ -1,10 +1,10 @@
 // Tasks that are read and are layered. Others are refused.
 ghost use Rattle.std.specs.Prelude.{◌≡◌, false, Ok, Some, IsSomeAnd};
 ghost use Rattle.sas_meaning.specs.Layers.{IsLayered};
-ghost use Rattle.sas_output.specs.Ending.{Answers, EndsCounting, Writes};
+ghost use Rattle.sas_answers.specs.Ending.{Answers, EndsCounting, Writes};
 ghost use Rattle.sas_reader.specs.Devices.{ReadsAll, ValueOf};
-ghost use Rattle.sas_task_format.specs.TaskFormat.{task_format};
-ghost use Rattle.sas_outputs.specs.EndsFile.{EndsFile};
+ghost use Rattle.sas_task_file.specs.TaskFormat.{task_format};
+ghost use Rattle.sas_requests.specs.EndsFile.{EndsFile};
 ghost use Rattle.sas_requests.specs.Answering.{IfLayered, IfRefused, TaskBy, UnlayeredBy, layers_by, refused_by};
 
 use crate::question::Detail;

@@ -1,19 +1,29 @@
 -- What the proofs use of other crates, and of the definitions of this one.
-pub use Rattle.std.proofs.Common.{◌≡◌, ℕ, zero, suc, ◌<◌, ◌⊎◌, List, [], ◌∷◌, length, slice_index, slice_index_or, bytes_eq, subst, inl, inr, arith, ◌≢◌, ◌+◌, ◌≤◌, ◌++◌, get_or, set, Option, None, Some, refl, sym, ◌∙◌, ap, ◌-◌, take, drop, Result, Ok, Err, rules, IsTrue, vec_capacity, filter_map, option_map, ◌*◌, ◌^◌, true≢false, is_some, cond, append_assoc}
+pub use Rattle.std.proofs.Common.{◌≡◌, IsTrue, ℕ, ◌+◌, ◌<◌, ◌≤◌, ◌≢◌, List, length, get_or, slice_set, Option, None, Some, sym, ap, subst, ◌∙◌, inl, inr, arith, [], Bool, true, false, nat_eq, refl, if◌then◌else◌, true≢false, ◌-◌, ◌⊎◌, ◌∷◌, ◌++◌, vec_capacity, rules, zero, suc, slice_index, slice_index_or, bytes_eq, set, take, drop, Result, Ok, Err, filter_map, option_map, ◌*◌, ◌^◌, is_some, cond, append_assoc}
+pub use Rattle.std.proofs.Math.Nat.{eq-or-lt_of_le}
 pub use Rattle.std.proofs.Math.Seq.{take-append_seam, get_or-append_seam}
-pub use Rattle.std.proofs.lemmas.Bool.{cases_eq, cases_lt, cases_Bool, ltb-false, true_from_ne_false}
+pub use Rattle.std.proofs.lemmas.Bool.{cases_eq, eqb-true, eq-eqb, cases_lt, cases_Bool, ltb-false, true_from_ne_false}
 pub use Rattle.std.proofs.lemmas.Grind.{common_steps}
-pub use Rattle.std.proofs.lemmas.List.{get_or-set_same, get_or-set_other, get_or_append_left, length-append, take_all, get_or-take, get_or_default, length-take, length-set, take-append-drop, drop_more, get_or-append-add, get_or-map, length-map, same_lists, take_more, get_or-drop, length-take-le, length-drop}
+pub use Rattle.std.proofs.lemmas.List.{get_or-set_same, get_or-set_other, length-set, get_or_append_left, get_or_push, get_or_read, length-append, take_all, get_or-take, get_or_default, length-take, take-append-drop, drop_more, get_or-append-add, get_or-map, length-map, same_lists, take_more, get_or-drop, length-take-le, length-drop}
 pub use Rattle.std.proofs.lemmas.List.Elements.{All-nil, All-cons, All-push, All-weaker, All-head, All-tail, All-map, All-append, All-from_recursion, Contains-get_or, Contains-append_left, Contains-append_right, Contains-push}
 pub use Rattle.std.proofs.lemmas.List.Quantifiers.{all_pairs_push}
 pub use Rattle.std.proofs.lemmas.List.Sums.{count_by_more_no, count_by_more_yes, sum_by-cons}
-pub use Rattle.std.proofs.lemmas.Option.{slice_get-get_or, same_Some}
+pub use Rattle.std.proofs.lemmas.Map.Text.{is_eq-slice_cmp}
+pub use Rattle.std.proofs.lemmas.Option.{none-some, same_Some, slice_get-get_or}
 pub use Rattle.std.proofs.lemmas.Result.{err_from_is_err_and}
 pub use Rattle.std.proofs.lemmas.Slice.Eq.{bytes_eq-Decides}
+pub use Rattle.std.specs.BTreeMap.{BTreeMap, is_at}
+pub use Rattle.std.specs.Cmp.{nat_eq_equiv}
+pub use Rattle.std.specs.Cmp.Lexicographic.{pointwise, bytes_decides, slice_cmp, lists_equiv}
+pub use Rattle.std.specs.Global.{Vec}
 pub use Rattle.std.specs.List.{All, cons_option, AllByRecursion, count_by}
+pub use Rattle.std.specs.Map.{IsKeyTest, AreApart}
+unfoldable pub use Rattle.std.specs.Map.{KeepsOthers}
 pub use Rattle.std.specs.Option.{option_and_then}
+pub use Rattle.std.specs.Ordering.{eq_by_cmp, nat_cmp}
 pub use Rattle.std.specs.Prelude.{unwrap_or}
 pub use Rattle.std.specs.Result.{IsOk}
+pub use Rattle.indexmap.specs.IndexMap.{get, IndexMap, UpdatesBy}
 pub use Rattle.sas_core.proofs.Fitting.{operator_fits, effect_fits}
 pub use Rattle.sas_core.proofs.Places.{holds_at}
 pub use Rattle.sas_core.proofs.PlainEffects.{as_many_effects, effect_is_plain}
@@ -34,31 +44,39 @@ pub use Rattle.sas_meaning.proofs.Forced.{state_set, fact_within}
 pub use Rattle.sas_meaning.proofs.Layers.{layer_cases}
 pub use Rattle.sas_meaning.proofs.Settling.{settled_where_empty}
 pub use Rattle.sas_meaning.proofs.Unique.{settled_is_one, step_is_one}
+pub use Rattle.sas_meaning.specs.ChangedVariables.{CoversChanges}
 pub use Rattle.sas_meaning.specs.Following.{HaveGone}
 pub use Rattle.sas_meaning.specs.Layers.{IsBasic, IsLayered}
 pub use Rattle.sas_meaning.specs.Reachable.{IsInitial, Reachable, Initial, Next}
 pub use Rattle.sas_meaning.specs.Settled.{Settles, IsSettled, SameBasic}
 pub use Rattle.sas_meaning.specs.States.{Holds, AllHold}
 pub use Rattle.sas_meaning.specs.Steps.{preconditions, Step, Fires, Agree, old_fact}
-pub use Rattle.sas_meaning.specs.ChangedVariables.{CoversChanges}
 pub use Rattle.sas_meaning.specs.declared.changed_variables.ChangedVariables.{ChangedVariables}
-pub use Rattle.sas_names.proofs.Searching.{left}
-pub use Rattle.sas_names.specs.Chains.{IsChain, HaveChains}
-pub use Rattle.sas_names.specs.Named.{IsNamed}
-pub use Rattle.sas_names.specs.Names.{AreFirsts, IsNextNamed}
+pub use Rattle.sas_run.specs.Chains.{AreChains, AreFound, HaveChains, IsChain}
 pub use Rattle.sas_run.specs.Deletions.{DeletedHasRoom, NotesOn}
 pub use Rattle.sas_run.specs.Executions.{Executed, next_name, next_operator, Executes, IsFound, Advances, executed_of, IsExecuting}
 pub use Rattle.sas_run.specs.Given.{given_to, Replaces, value_after, NothingGiven, IsGiven, IsGivenTo, GivesValue, GivesOther}
 pub use Rattle.sas_run.specs.Laws.{LeadsToReachable, LastIsReachable, SomeVerdict, ValidHasNoFault, ValidIsOne, FaultIsOne, SomeRun, OneRun}
-pub use Rattle.sas_run.specs.PlainSteps.{AreApart, AreMade, IsPlainStep, OldHolds}
+pub use Rattle.sas_run.specs.Likely.{IsLikely, AreLikely}
+unfoldable pub use Rattle.sas_run.specs.NameDigest.{digest_of}
+pub use Rattle.sas_run.specs.NameTable.{value_of, AreNames, other_of, own_else, first_else, likely_of, operator_names, AreMappedFrom, AreNamesFrom, Exist, IsEmptyTable, PutsName, PutsDigest, PutsOther}
+pub use Rattle.sas_run.specs.Named.{IsNamed}
+pub use Rattle.sas_run.specs.Names.{IsNextNamed, IsLowestNamed, AreFirsts}
+pub use Rattle.sas_run.specs.PlainSteps.{AreMade, IsPlainStep, OldHolds}
 pub use Rattle.sas_run.specs.Plans.{IsApplicable, NoneApplicable, IsChosen, LeadTo, LeadsTo, IsValid, cost_of_all}
 pub use Rattle.sas_run.specs.Running.{StepFails, IsFinalVerdict, MakesStep, Steps, IsApplied, IsFirstConflict, IsFirstMissedFact, IsFirstChosen, IsStepFault}
 pub use Rattle.sas_run.specs.Runs.{Run, steps_before, RunEndsWith, IsEnding, state_at, last_state, StepsSucceed}
+unfoldable pub use Rattle.sas_run.specs.Shapes.{shape_of}
+pub use Rattle.sas_run.specs.StepNames.{AreStepNames, step_names, AreStepsOf, Numbers, HaveNumbers}
 pub use Rattle.sas_run.specs.Stepping.{IsPrepared, ListsChanges, Follows, HasFactOn}
 pub use Rattle.sas_run.specs.Verdicts.{IsFirstMissed, ComesTo, IsFaultOf}
+pub use Rattle.sas_run.specs.declared.chains.Chains.{Chains}
 pub use Rattle.sas_run.specs.declared.deletions.DeletedFacts.{DeletedFacts}
+pub use Rattle.sas_run.specs.declared.name_table.NameTable.{NameTable}
+pub use Rattle.sas_run.specs.declared.names.Names.{Names}
 pub use Rattle.sas_run.specs.declared.plan_check.PlanFault.{PlanFault}
 pub use Rattle.sas_run.specs.declared.plan_check.PlanFault.TheVariants.{Memory, NoOperator, NotApplicable, Conflict, GoalMissed, CostDiffers}
 pub use Rattle.sas_run.specs.declared.progress.Progress.{Progress}
+pub use Rattle.sas_run.specs.declared.step_names.StepNames.{StepNames}
 pub use Rattle.sas_run.specs.declared.stepper.Stepper.{Stepper}
 pub use Rattle.sas_run.specs.declared.steps.StepFault.{StepFault}

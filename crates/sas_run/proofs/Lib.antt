@@ -1,3 +1,11 @@
+mod TablePuts
+mod NamesFrom
+pub mod Searching
+mod NameShapes
+mod StepNumbers
+mod ChainsFrom
+mod FoundSteps
+mod LikelyOperators
 pub mod Determined
 pub mod Choosing
 pub mod NextStates

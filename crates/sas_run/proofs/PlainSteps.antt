@@ -1,5 +1,6 @@
 -- Making changes on different variables one after another.
-use Rattle.sas_run.proofs.Imports.{◌≡◌, ◌≢◌, ℕ, ◌+◌, ◌<◌, List, [], ◌∷◌, ◌++◌, length, get_or, set, Option, None, Some, sym, ◌∙◌, ap, subst, arith, filter_map, option_map, All, cons_option, cases_eq, get_or-set_same, get_or-set_other, get_or-map, length-map, All-nil, All-cons, All-head, All-tail, All-map, All-append, All-weaker, same_Some, Replaces, AreApart, AreMade, IsPlainStep, OldHolds, IsApplied, Change, Effect, Fact, Operator, Parts, plain_effect, plain_effects, change_of, operator_at, effect_at, HasValue, IsState, WellRanged, IsBasic, IsLayered, Holds, AllHold, preconditions, old_fact, Fires, fact_within, state_set, no_effect, as_many_effects, effect_is_plain}
+use Rattle.sas_run.proofs.Imports.{◌≡◌, ◌≢◌, ℕ, ◌+◌, ◌<◌, List, [], ◌∷◌, ◌++◌, length, get_or, set, Option, None, Some, sym, ◌∙◌, ap, subst, arith, filter_map, option_map, All, cons_option, cases_eq, get_or-set_same, get_or-set_other, get_or-map, length-map, All-nil, All-cons, All-head, All-tail, All-map, All-append, All-weaker, same_Some, Replaces, AreMade, IsPlainStep, OldHolds, IsApplied, Change, Effect, Fact, Operator, Parts, plain_effect, plain_effects, change_of, operator_at, effect_at, HasValue, IsState, WellRanged, IsBasic, IsLayered, Holds, AllHold, preconditions, old_fact, Fires, fact_within, state_set, no_effect, as_many_effects, effect_is_plain}
+use Rattle.sas_run.specs.PlainSteps.{AreApart}
 use Rattle.sas_run.proofs.NextStates.{effects_fit, effects_basic}
 use Rattle.sas_run.proofs.Deleted.{all_front, all_behind, DeletedSoFar, deleted_more}
 

@@ -6,7 +6,7 @@ use Rattle.sas_core.specs.Grounded.{operator_at}
 use Rattle.sas_core.specs.PlanParts.{PlanParts}
 use Rattle.sas_meaning.specs.declared.changed_variables.ChangedVariables.{ChangedVariables}
 use Rattle.sas_meaning.specs.Steps.{Step}
-use Rattle.sas_names.specs.Chains.{AreStepOperators}
+use Rattle.sas_run.specs.Chains.{AreStepOperators}
 use Rattle.sas_run.specs.declared.plan_check.PlanFault.{PlanFault}
 use Rattle.sas_run.specs.declared.progress.Progress.{Progress}
 use Rattle.sas_run.specs.declared.stepper.Stepper.{Stepper}

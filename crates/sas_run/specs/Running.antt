@@ -9,7 +9,7 @@ use Rattle.sas_core.specs.PlanParts.{PlanParts}
 use Rattle.sas_core.specs.Variables.{IsState}
 use Rattle.sas_meaning.specs.States.{AllHold}
 use Rattle.sas_meaning.specs.Steps.{preconditions, Fires, Agree, Step}
-use Rattle.sas_names.specs.Named.{IsNamed}
+use Rattle.sas_run.specs.Named.{IsNamed}
 use Rattle.sas_run.specs.declared.plan_check.PlanFault.{PlanFault}
 use Rattle.sas_run.specs.declared.plan_check.PlanFault.TheVariants as plan_fault
 use Rattle.sas_run.specs.declared.plan_check.Valid.{Valid}

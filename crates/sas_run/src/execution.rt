@@ -5,13 +5,13 @@ ghost use Rattle.sas_run.specs.Running.{IsLaterIfAny};
 ghost use Rattle.sas_run.specs.Runs.{Run};
 ghost use Rattle.sas_run.specs.Executions.{IsNew, Executes, IsFound, Advances, next_operator};
 
+use crate::StepOperators;
 use crate::plan_check::{PlanFault, find_fault};
 use crate::progress::Progress;
 use crate::runner::later_applicable;
 use crate::stepper::{Stepper, go_back, go_on_from, stepper_listing};
 use sas_core::{Fact, Grounded, Stepwise};
 use sas_meaning::{ChangedVariables, Layered, Settle, State};
-use sas_names::StepOperators;
 use std::alloc::{AllocError, Global};
 use std::marker::Model;
 

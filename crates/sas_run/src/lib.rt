@@ -1,20 +1,33 @@
-//! Makes steps, executes plans, and checks whether a plan is valid.
+//! Makes steps, finds operators by their names, executes plans, and checks whether a plan is valid.
 #![tactic(auto)]
 
+mod chains;
 mod deletions;
+mod digest;
 mod execution;
 mod laws;
 mod loaded_task;
+mod looking_up;
+mod name_table;
+mod named;
+mod names;
 mod plain_steps;
 mod plan_check;
 mod progress;
 mod runner;
+mod shapes;
+mod step_names;
+mod step_operators;
 mod stepper;
 mod steps;
 
+pub use chains::next_in;
 pub use execution::Execution;
 pub use laws::verdict_laws;
 pub use loaded_task::LoadedTask;
+pub use looking_up::first_operators;
+pub use names::{NamedTask, Names};
 pub use plan_check::{PlanFault, Valid, check_once};
 pub use runner::{Choice, Runner};
+pub use step_operators::{PlanOperators, StepOperators};
 pub use steps::StepFault;

@@ -1,10 +1,10 @@
 // Tasks that are kept for many plans.
 ghost use Rattle.std.specs.Prelude.{◌≡◌, IfOk};
 
+use crate::Names;
 use crate::stepper::{Stepper, stepper_for};
 use sas_core::{Grounded, Task};
 use sas_meaning::{Layered, Settle};
-use sas_names::Names;
 use std::alloc::{AllocError, Global};
 use std::marker::Model;
 
@@ -32,7 +32,7 @@ impl<E: Settle<T> + Drop, T: Grounded + Drop> Drop for LoadedTask<E, T> {
 
 impl<E: Settle<T> + Drop, T: Grounded + Drop> Model for LoadedTask<E, T> {
     ghost use Rattle.sas_core.specs.declared.parts.Parts.{Parts};
-    ghost use Rattle.sas_names.specs.NameTable.{AreNames};
+    ghost use Rattle.sas_run.specs.NameTable.{AreNames};
     ghost use Rattle.sas_run.specs.Stepping.{IsPrepared};
 
     ghost Value = { Parts };

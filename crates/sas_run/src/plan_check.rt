@@ -3,8 +3,8 @@ ghost use Rattle.std.specs.Prelude.{◌≡◌, ◌+◌, ◌<◌, ◌≤◌, [], 
 ghost use Rattle.sas_core.specs.Grounded.{operator_at};
 ghost use Rattle.sas_core.specs.Variables.{IsState};
 ghost use Rattle.sas_meaning.specs.Reachable.{IsInitial};
-ghost use Rattle.sas_names.specs.Chains.{IsChain, AreStepOperators};
-ghost use Rattle.sas_names.specs.Names.{IsFirst};
+ghost use Rattle.sas_run.specs.Chains.{IsChain, AreStepOperators};
+ghost use Rattle.sas_run.specs.Names.{IsFirst};
 ghost use Rattle.sas_run.specs.Running.{IsSolution, IsFaultOrMemory, MakesStep, StepFails};
 ghost use Rattle.sas_run.specs.Runs.{IsEnding};
 ghost use Rattle.sas_run.specs.Stepping.{Follows, IsPrepared};
@@ -13,9 +13,9 @@ use crate::loaded_task::LoadedTask;
 use crate::progress::{Progress, judge_last};
 use crate::runner::{Runner, first_applicable};
 use crate::stepper::{Stepper, go_on_from, stepper_for};
+use crate::{NamedTask, PlanOperators, StepOperators, first_operators};
 use sas_core::{Grounded, Stepwise};
 use sas_meaning::{Layered, Settle, State};
-use sas_names::{NamedTask, PlanOperators, StepOperators, first_operators};
 use std::alloc::{AllocError, Global};
 
 /// The result for a valid plan: the operators of its steps, and its cost.

@@ -3,7 +3,7 @@ ghost use Rattle.std.specs.Prelude.{◌≡◌, ◌<◌, ◌↔◌, length, IfOk,
 ghost use Rattle.sas_core.specs.Grounded.{operator_at};
 ghost use Rattle.sas_core.specs.Variables.{IsState};
 ghost use Rattle.sas_meaning.specs.Reachable.{IsInitial};
-ghost use Rattle.sas_names.specs.Chains.{IsChain};
+ghost use Rattle.sas_run.specs.Chains.{IsChain};
 ghost use Rattle.sas_run.specs.Plans.{IsApplicable};
 ghost use Rattle.sas_run.specs.Running.{IsChoice, IsFirstChosen, IsLaterIfAny, IsGoalAnswer, Steps};
 
@@ -11,9 +11,9 @@ use crate::plain_steps::old_values_hold;
 use crate::progress::first_missed;
 use crate::stepper::{Stepper, initial_of, step_on, stepper_for};
 use crate::steps::{StepFault, missed_precondition};
+use crate::{Names, next_in};
 use sas_core::{Grounded, Task};
 use sas_meaning::{Layered, Settle, State};
-use sas_names::{Names, next_in};
 use std::alloc::{AllocError, Global};
 use std::marker::Model;
 
@@ -49,7 +49,7 @@ impl<'a, E: Settle<T> + Drop, T: Grounded> Drop for Runner<'a, E, T> {
 
 impl<'a, E: Settle<T> + Drop, T: Grounded> Model for Runner<'a, E, T> {
     ghost use Rattle.sas_core.specs.declared.parts.Parts.{Parts};
-    ghost use Rattle.sas_names.specs.NameTable.{AreNames};
+    ghost use Rattle.sas_run.specs.NameTable.{AreNames};
     ghost use Rattle.sas_run.specs.Stepping.{IsPrepared};
 
     ghost Value = { Parts };

@@ -1,16 +1,25 @@
 -- What the proofs use of other crates, and of the definitions of this one.
-pub use Rattle.std.proofs.Common.{◌≡◌, ◌-◌, ◌^◌, ℕ, List, [], ◌∷◌, length, refl, ap, ◌∙◌, arith, min, ◌≢◌, Option, None, sym, subst, ◌≤◌, Ok, Err, ◌++◌, ◌<◌, take, ap₂, inl, inr, append_assoc, not, ◌==◌}
+pub use Rattle.std.proofs.Common.{◌≡◌, ℕ, List, Option, Some, None, Result, refl, sym, ap, subst, ◌∙◌, IfOk, ◌≢◌, [], ◌∷◌, ◌++◌, Bool, length, append_assoc, IsTrue, codes, suc, ◌<◌, ◌-◌, arith, Ok, ◌≤◌, ◌+◌, true, false, nat_lt, zero, drop, Err, take, ◌&&◌, rules, inr, inl, length-append, ◌==◌, ◌↔◌, slice_index_or, ◌^◌, min, ap₂, not}
 pub use Rattle.std.proofs.Math.Logic.{∥∥₁_elim, ∥∥₁_map}
 pub use Rattle.std.proofs.Props.{props}
+pub use Rattle.std.proofs.lemmas.Bool.{eqb-true, and_from, and_parts}
 pub use Rattle.std.proofs.lemmas.List.{append-nil}
 pub use Rattle.std.proofs.lemmas.List.Elements.{filter-append}
+pub use Rattle.std.proofs.lemmas.Option.{none-some}
 pub use Rattle.std.proofs.lemmas.Result.{on_ok_weaker, IfOk-weaker}
-pub use Rattle.std.specs.List.{AllByRecursion}
+pub use Rattle.std.specs.List.{AllByRecursion, flat_map, list_all}
+pub use Rattle.std.specs.Result.{result_err}
 pub use Rattle.sas_core.proofs.ChecksAreRules.{checks_are_the_rules}
 pub use Rattle.sas_core.proofs.Plain.{plain_parts}
+pub use Rattle.sas_core.specs.Changes.{plain_effect}
+pub use Rattle.sas_core.specs.Names.{IsName, is_name}
 pub use Rattle.sas_core.specs.Numbers.{IsNumber}
 pub use Rattle.sas_core.specs.Plain.{IsPlain}
+pub use Rattle.sas_core.specs.Variables.{fact_exists, range_of, has_value}
 pub use Rattle.sas_core.specs.WellRanged.{WellRanged}
+pub use Rattle.sas_core.specs.declared.parts.Effect.{Effect}
+pub use Rattle.sas_core.specs.declared.parts.Fact.{Fact}
+pub use Rattle.sas_core.specs.declared.parts.Operator.{Operator}
 pub use Rattle.sas_core.specs.declared.parts.Parts.{Parts}
 pub use Rattle.sas_core.specs.declared.parts.Variable.{Variable}
 pub use Rattle.sas_flat.proofs.Blocks.{lists_opened, one_list_more}
@@ -21,49 +30,68 @@ pub use Rattle.sas_flat.specs.Lists.{lists_in}
 pub use Rattle.sas_flat.specs.Operators.{operator}
 pub use Rattle.sas_flat.specs.Outlines.{outline_of}
 pub use Rattle.sas_flat.specs.Variables.{variable}
+pub use Rattle.sas_lines.proofs.Beginnings.{FrontOf, front_of_lines, line_before_end}
 pub use Rattle.sas_lines.proofs.EndedLines.{ended_lines, text_of_both}
 pub use Rattle.sas_lines.proofs.Returns.{returns_gone}
 pub use Rattle.sas_lines.proofs.Splitting.{lines-none}
-pub use Rattle.sas_lines.specs.Lines.{text, EndedLines, without_returns}
+pub use Rattle.sas_lines.specs.Lines.{without_return, text, EndedLines, without_returns}
 unfoldable pub use Rattle.sas_lines.specs.Lines.{lines}
 pub use Rattle.sas_lines.specs.Parts.{Without}
+pub use Rattle.sas_reader.proofs.AcceptedLines.{LinesAccepted, none_accepted, one_more, accepted}
 pub use Rattle.sas_reader.proofs.Conversion.{Follows, reads_of_format}
+pub use Rattle.sas_reader.proofs.Paths.{cut_at, after_ends, map-append, after_append}
+pub use Rattle.sas_reader.proofs.Plain.{plain}
 pub use Rattle.sas_reader.proofs.Reading.{reads_all, refuses_all, feeds, end_fault}
 pub use Rattle.sas_reader.proofs.Refusals.{reads_explained, refuses_explained}
 pub use Rattle.sas_reader.specs.Devices.{ValueOf, ReadsAll}
-pub use Rattle.sas_reader.specs.Format.{ReadsAs}
+pub use Rattle.sas_reader.specs.Format.{IsBegun, ReadsAs}
+pub use Rattle.sas_reader.specs.Machine.{IsFront, AcceptsAhead}
 pub use Rattle.sas_reader.specs.Reading.{Finishes}
 pub use Rattle.sas_reader.specs.Refusals.{behind_line, behind_text, at_end}
-pub use Rattle.sas_reader.specs.System.{Node, ended, before, Rejects}
+pub use Rattle.sas_reader.specs.System.{Grammar, LeadsToEnd, After, before, ended, IsAllowed, OneLine, IsRejected, Rejects, Node}
 pub use Rattle.sas_reader.specs.Texts.{Reads}
 pub use Rattle.sas_reader.specs.declared.fault.Fault.{Fault}
 pub use Rattle.sas_reader.specs.declared.fault.Kind.{Kind}
 pub use Rattle.sas_reader.specs.declared.reader.Front.{Front}
-pub use Rattle.sas_task_format.proofs.SomeWrongWord.{shape_of_value}
-pub use Rattle.sas_task_format.specs.Marks.{slot_of_due}
-pub use Rattle.sas_task_format.specs.TaskFormat.{TaskLine, TaskSlot, word_slot, name_slot, number_slot, signed_slot, fact_slot, effect_slot, head_slot, HasShape, NumbersKind, no_shape, no_value, TaskKind, task_format, TaskLineFits, task_texts}
-pub use Rattle.sas_task_format.specs.TaskReasons.{IsTaskReason}
-pub use Rattle.sas_task_format.specs.Tracker.{row_in}
-pub use Rattle.sas_task_format.specs.declared.marks.Due.{Due}
-pub use Rattle.sas_task_format.specs.declared.marks.Mark.{Mark}
-pub use Rattle.sas_task_format.specs.declared.marks.WrongWord.{WrongWord}
-pub use Rattle.sas_task_judge.proofs.Reasons.{task_reason, trailing_reason, led_still, ended_still, shape_still, wrong_still}
-pub use Rattle.sas_task_judge.proofs.TableGrammar.{table_grammar}
-pub use Rattle.sas_task_judge.proofs.TaskEnds.{over_if_ended, ends_with}
-pub use Rattle.sas_task_judge.specs.Marks.{mark_of, due_slot, WrongWordIn}
-pub use Rattle.sas_task_judge.specs.Sections.{behind_variable, KeepsAhead}
-pub use Rattle.sas_task_judge.specs.TaskJudge.{state_of, HasEnded, RejectsLine}
-pub use Rattle.sas_task_judge.specs.TaskStates.{TaskState, table_node, table_start, node_of_due}
-pub use Rattle.sas_task_judge.specs.TaskMachine.{LedBy, LedTo, EndedAt, RejectsAt, MachineStopped}
-pub use Rattle.sas_task_judge.specs.declared.task_machine.TaskMachine.{TaskMachine}
-pub use Rattle.sas_task_line.specs.FirstWrong.{FirstWrong}
-pub use Rattle.sas_task_line.specs.Sections.{spelled, LinesAhead}
-pub use Rattle.sas_task_line.specs.TaskEvents.{after}
-pub use Rattle.sas_task_line.specs.declared.so_far.SoFar.{SoFar}
-pub use Rattle.sas_task_format.specs.declared.places.Event.{Event}
-pub use Rattle.sas_task_line.specs.declared.task_events.LineValues.{LineValues}
+pub use Rattle.sas_task_file.proofs.DueBehind.{HasFacts, end_mark, ranges_behind, is_due, speaks_behind_variables}
+pub use Rattle.sas_task_file.proofs.FirstWrongWords.{first_back, range_is, ranges_many}
+pub use Rattle.sas_task_file.proofs.MarkLaws.{same_items}
+pub use Rattle.sas_task_file.proofs.SomeWrongWord.{shape_of_value}
+pub use Rattle.sas_task_file.proofs.TaskGrammar.{task_grammar}
+pub use Rattle.sas_task_file.proofs.TaskSections.{less, is_less}
+pub use Rattle.sas_task_file.proofs.Tracking.{IsBehindVariables}
+pub use Rattle.sas_task_file.proofs.WrongWords.{HasBounds, same_bounds}
+pub use Rattle.sas_task_file.specs.Ahead.{LineAhead}
+pub use Rattle.sas_task_file.specs.FirstWrong.{HasWrong, FirstWrong}
+pub use Rattle.sas_task_file.specs.Marks.{slot_of_due, IsDue}
+pub use Rattle.sas_task_file.specs.Process.{process_node, ◌>>=◌, ◌>>◌, repeat, each, done, read}
+pub use Rattle.sas_task_file.specs.Sections.{HasNames, OperatorInRanges, spelled, LinesAhead}
+pub use Rattle.sas_task_file.specs.TaskEvents.{after, nothing_yet}
+pub use Rattle.sas_task_file.specs.TaskFormat.{TaskLine, word, name, number, signed, fact, effect, head, task_slot, task_line_bytes, task_layout, task_format, TaskLineFits, HasShape, single_line, variable_lines, group_lines, operator_lines, rule_lines, number_slot, TaskSlot, word_slot, name_slot, signed_slot, fact_slot, effect_slot, head_slot, NumbersKind, no_shape, no_value, TaskKind, task_texts}
+pub use Rattle.sas_task_file.specs.TaskLine.{ParsesDue, test_of_due, line_of_due}
+pub use Rattle.sas_task_file.specs.TaskProcess.{TaskProcess, name_in, fact_in, effect_in, effect_may_stand, a_name, a_fact, an_effect, a_variable, a_group, an_operator, a_rule, a_word, a_number, number_in, is_from, any, positive, may_change, head_may_stand, head_in, a_signed, a_head, a_value}
+pub use Rattle.sas_task_file.specs.TaskRanges.{ranges_of, fact_in_ranges, effect_in_ranges, change_in_ranges, head_in_ranges, value_in}
+pub use Rattle.sas_task_file.specs.TaskReasons.{first_wrong, line_bounds, IsFirstWrong, IsTaskReason}
+pub use Rattle.sas_task_file.specs.Tracker.{IsRow, value_due, tracker_start, track, mark_in, row_at, row_in, after_move}
+pub use Rattle.sas_task_file.specs.declared.marks.Due.{Due}
+pub use Rattle.sas_task_file.specs.declared.marks.Mark.{Mark}
+pub use Rattle.sas_task_file.specs.declared.marks.WrongWord.{WrongWord}
+pub use Rattle.sas_task_file.specs.declared.places.Event.{Event}
+pub use Rattle.sas_task_file.specs.declared.places.Move.{Move}
+pub use Rattle.sas_task_file.specs.declared.places.Place.{Place}
+pub use Rattle.sas_task_file.specs.declared.places.Row.{Row}
+pub use Rattle.sas_task_file.specs.declared.so_far.SoFar.{SoFar}
+pub use Rattle.sas_task_file.specs.declared.task_events.LineValues.{LineValues}
+pub use Rattle.sas_task_file.specs.declared.tracker.Tracker.{Tracker}
+pub use Rattle.sas_task_reader.specs.Marks.{due_slot, mark_of, WrongWordIn}
+pub use Rattle.sas_task_reader.specs.Sections.{KeepsGroup, KeepsOperator, KeepsRule, behind_variable, behind_group, behind_operator, behind_rule, KeepsAhead}
+pub use Rattle.sas_task_reader.specs.TaskJudge.{state_of, row_of, HasEnded, SectionDue, past_section, past_variable, RejectsLine, JudgesLine, MovesAhead, HasRow}
+pub use Rattle.sas_task_reader.specs.TaskMachine.{LedBy, MachineStopped, LedTo, EndedAt, RejectsAt}
 pub use Rattle.sas_task_reader.specs.TaskOutline.{outline_in, kept_of}
 pub use Rattle.sas_task_reader.specs.TaskReader.{task_view}
 pub use Rattle.sas_task_reader.specs.TaskRefusal.{StandsRefused, fault_in, found_in, HasReason}
+pub use Rattle.sas_task_reader.specs.TaskStates.{TaskState, table_start, numbers_of, state_after, node_of_due, table_node}
 pub use Rattle.sas_task_reader.specs.contracts.flat_so_far.FlatSoFar.{the_view}
+pub use Rattle.sas_task_reader.specs.declared.task_judge.TaskJudge.{TaskJudge}
+pub use Rattle.sas_task_reader.specs.declared.task_machine.TaskMachine.{TaskMachine}
 pub use Rattle.sas_task_reader.specs.declared.task_outline.OutlineSoFar.{OutlineSoFar}

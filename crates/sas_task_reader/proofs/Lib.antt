@@ -1,3 +1,15 @@
+pub mod TaskPlaces
+pub mod TaskRanges
+pub mod VariablesBehind
+pub mod Following
+pub mod TaskEnds
+pub mod TableGrammar
+pub mod TaskMoves
+pub mod TaskSteps
+pub mod SectionLines
+pub mod SectionSteps
+pub mod Marking
+pub mod RefusedLines
 mod TaskStanding
 mod Outlines
 mod StoredParts

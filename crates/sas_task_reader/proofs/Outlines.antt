@@ -1,6 +1,6 @@
 -- What is stored for an outline, after a line and after a variable.
 use Rattle.sas_task_reader.proofs.Imports.{◌≡◌, ◌-◌, ◌^◌, ℕ, List, length, refl, ap, ◌∙◌, arith, min, IsNumber, WellRanged, outline_of, Variable, Event, LineValues, SoFar, after, behind_variable, OutlineSoFar, outline_in, kept_of}
-use Rattle.sas_task_format.specs.declared.places.Event.TheVariants as event
+use Rattle.sas_task_file.specs.declared.places.Event.TheVariants as event
 
 -- a line that is not of a group, an operator or a rule changes only the rest
 pub record IsOfRest (e : Event) : Type 0 where

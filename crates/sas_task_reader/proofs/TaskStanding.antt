@@ -1,5 +1,7 @@
 -- What a reader of tasks represents, in terms of the task format.
-use Rattle.sas_task_reader.proofs.Imports.{◌≡◌, ℕ, ◌≤◌, List, length, sym, subst, Ok, ∥∥₁_elim, props, checks_are_the_rules, WellRanged, SoFar, TaskMachine, Reads, ReadsAs, table_node, task_texts, task_format, TaskLineFits, state_of, HasEnded, RejectsLine, LedBy, table_start, LedTo, EndedAt, RejectsAt, Follows, reads_of_format, over_if_ended, ends_with, table_grammar}
+use Rattle.sas_task_reader.proofs.Imports.{◌≡◌, ℕ, ◌≤◌, List, length, sym, subst, Ok, ∥∥₁_elim, props, checks_are_the_rules, WellRanged, SoFar, TaskMachine, Reads, ReadsAs, table_node, task_texts, task_format, TaskLineFits, state_of, HasEnded, RejectsLine, LedBy, table_start, LedTo, EndedAt, RejectsAt, Follows, reads_of_format}
+use Rattle.sas_task_reader.proofs.TaskEnds.{over_if_ended, ends_with}
+use Rattle.sas_task_reader.proofs.TableGrammar.{table_grammar}
 use Rattle.sas_reader.specs.Reader as reading
 
 module _ {K : Type 0} (keeps : List (List ℕ) → SoFar → K → Type 0) where

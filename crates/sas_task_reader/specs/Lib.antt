@@ -1,3 +1,8 @@
+pub mod TaskStates
+pub mod TaskJudge
+pub mod TaskMachine
+pub mod Sections
+pub mod Marks
 pub mod Outline
 pub mod TaskOutline
 pub mod TaskReader

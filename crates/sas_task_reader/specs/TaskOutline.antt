@@ -3,7 +3,7 @@ use Rattle.std.specs.Prelude.{ℕ, ◌-◌, ◌^◌, min, List, [], length}
 use Rattle.sas_core.specs.declared.parts.Parts.{Parts}
 use Rattle.sas_flat.specs.declared.outline.Outline.{Outline}
 use Rattle.sas_flat.specs.Outlines.{outline_of}
-use Rattle.sas_task_line.specs.declared.so_far.SoFar.{SoFar}
+use Rattle.sas_task_file.specs.declared.so_far.SoFar.{SoFar}
 use Rattle.sas_task_reader.specs.declared.task_outline.OutlineSoFar.{OutlineSoFar}
 
 -- the number of items, up to the greatest 32-bit number; no task has more

@@ -2,9 +2,9 @@
 use Rattle.sas_core.specs.declared.parts.Parts.{Parts}
 use Rattle.sas_reader.specs.Reader as reading
 use Rattle.sas_reader.specs.Reading.{View}
-use Rattle.sas_task_format.specs.TaskFormat.{TaskLine, TaskSlot, task_format}
+use Rattle.sas_task_file.specs.TaskFormat.{TaskLine, TaskSlot, task_format}
 use Rattle.sas_task_reader.specs.declared.task_reader.TaskReader.{TaskReader}
-use Rattle.sas_task_judge.specs.TaskMachine.{LedTo, EndedAt, RejectsAt, MachineStopped}
+use Rattle.sas_task_reader.specs.TaskMachine.{LedTo, EndedAt, RejectsAt, MachineStopped}
 
 -- How contracts view a reader of tasks. Without a fault it represents the bytes that it has taken:
 -- it has accepted their complete lines, their rest is the pending line, and their length was

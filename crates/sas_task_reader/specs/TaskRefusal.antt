@@ -5,12 +5,12 @@ use Rattle.sas_reader.specs.declared.fault.Fault.{Fault}
 use Rattle.sas_reader.specs.declared.fault.Kind.{Kind}
 use Rattle.sas_reader.specs.declared.found.Excerpt.{Excerpt}
 use Rattle.sas_reader.specs.Refusals.{StandsBehind, ReadsOrExplains}
-use Rattle.sas_task_format.specs.TaskFormat.{task_format}
-use Rattle.sas_task_format.specs.TaskReasons.{IsTaskReason}
-use Rattle.sas_task_line.specs.declared.so_far.SoFar.{SoFar}
-use Rattle.sas_task_judge.specs.declared.task_machine.TaskMachine.{TaskMachine}
-use Rattle.sas_task_judge.specs.TaskJudge.{HasEnded, RejectsLine}
-use Rattle.sas_task_judge.specs.TaskMachine.{LedBy, MachineStopped}
+use Rattle.sas_task_file.specs.TaskFormat.{task_format}
+use Rattle.sas_task_file.specs.TaskReasons.{IsTaskReason}
+use Rattle.sas_task_file.specs.declared.so_far.SoFar.{SoFar}
+use Rattle.sas_task_reader.specs.declared.task_machine.TaskMachine.{TaskMachine}
+use Rattle.sas_task_reader.specs.TaskJudge.{HasEnded, RejectsLine}
+use Rattle.sas_task_reader.specs.TaskMachine.{LedBy, MachineStopped}
 use Rattle.sas_task_reader.specs.declared.task_refusal.TaskRefusal.{TaskRefusal}
 
 -- the fault, and the text found there

@@ -5,22 +5,22 @@ ghost use Rattle.sas_core.specs.declared.parts.Variable.{Variable};
 ghost use Rattle.sas_core.specs.declared.parts.Operator.{Operator};
 ghost use Rattle.sas_core.specs.declared.parts.Effect.{Effect};
 ghost use Rattle.sas_core.specs.WellRanged.{WellRanged};
-ghost use Rattle.sas_task_format.specs.declared.places.Event.TheVariants as event;
-ghost use Rattle.sas_task_line.specs.declared.task_events.LineValues.{LineValues};
-ghost use Rattle.sas_task_line.specs.Sections.{GroupAhead, OperatorAhead, RuleAhead};
-ghost use Rattle.sas_task_line.specs.TaskEvents.{nothing_yet, after};
-ghost use Rattle.sas_task_judge.specs.Sections.{VariableWithRange, behind_variable, behind_group, behind_operator, behind_rule};
+ghost use Rattle.sas_task_file.specs.declared.places.Event.TheVariants as event;
+ghost use Rattle.sas_task_file.specs.declared.task_events.LineValues.{LineValues};
+ghost use Rattle.sas_task_file.specs.Sections.{GroupAhead, OperatorAhead, RuleAhead};
+ghost use Rattle.sas_task_file.specs.TaskEvents.{nothing_yet, after};
+ghost use Rattle.sas_task_reader.specs.Sections.{VariableWithRange, behind_variable, behind_group, behind_operator, behind_rule};
 ghost use Rattle.sas_task_reader.specs.TaskOutline.{outline_with};
 
 use crate::fronts::NO_VARIABLE;
+use crate::{Keeper, KeptVariable};
 use sas_core::{Change, Fact, Items};
 use sas_flat::{
     Effects, FlatTask, ListColumns, Lists, OperatorColumns, Operators, Outline, TaskColumns,
     VariableColumns, Variables,
 };
 use sas_reader::{Front, Kind};
-use sas_task_judge::{Keeper, KeptVariable};
-use sas_task_line::{Event, LineValues, read_group, read_operator, read_rule, read_variable};
+use sas_task_file::{Event, LineValues, read_group, read_operator, read_rule, read_variable};
 use std::alloc::{AllocError, Global};
 use std::marker::Model;
 
@@ -60,7 +60,7 @@ impl Model for FlatSoFar {
     ghost use Rattle.sas_flat.specs.Operators.{operators_in, OperatorColumnsAlign};
     ghost use Rattle.sas_flat.specs.Effects.{effects_of};
     ghost use Rattle.sas_flat.specs.Variables.{variables_in, VariableColumnsAlign};
-    ghost use Rattle.sas_task_line.specs.declared.so_far.SoFar.{SoFar};
+    ghost use Rattle.sas_task_file.specs.declared.so_far.SoFar.{SoFar};
 
     ghost Value = { SoFar };
 

@@ -1,15 +1,15 @@
 // Reads task files into a few blocks of memory.
 ghost use Rattle.std.specs.Prelude.{◌≡◌, false};
 ghost use Rattle.sas_reader.specs.Devices.{ValueOf};
-ghost use Rattle.sas_task_format.specs.TaskFormat.{task_format};
+ghost use Rattle.sas_task_file.specs.TaskFormat.{task_format};
 ghost use Rattle.sas_task_reader.specs.TaskRefusal.{ReadsTask};
 
+use crate::TaskMachine;
 use crate::flat_so_far::FlatSoFar;
 use crate::task_refusal::TaskRefusal;
 use sas_flat::FlatTask;
 use sas_lines::Watched;
 use sas_reader::{LIMIT, read_all_large};
-use sas_task_judge::TaskMachine;
 use std::alloc::Global;
 use std::io::Read;
 

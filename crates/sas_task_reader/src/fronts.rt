@@ -4,14 +4,14 @@ ghost use Rattle.sas_core.specs.declared.parts.Fact.{Fact};
 ghost use Rattle.sas_core.specs.declared.parts.Variable.{Variable};
 ghost use Rattle.sas_core.specs.declared.parts.Operator.{Operator};
 ghost use Rattle.sas_core.specs.declared.parts.Effect.{Effect};
-ghost use Rattle.sas_task_judge.specs.Sections.{VariableWithRange};
-ghost use Rattle.sas_task_line.specs.Sections.{GroupAhead, OperatorAhead, RuleAhead};
+ghost use Rattle.sas_task_reader.specs.Sections.{VariableWithRange};
+ghost use Rattle.sas_task_file.specs.Sections.{GroupAhead, OperatorAhead, RuleAhead};
 
+use crate::KeptVariable;
 use sas_core::{Fact, Items};
 use sas_flat::{Effects, Lists};
 use sas_reader::{Front, Kind};
-use sas_task_judge::KeptVariable;
-use sas_task_line::{read_group, read_operator, read_rule, read_variable};
+use sas_task_file::{read_group, read_operator, read_rule, read_variable};
 use std::alloc::Global;
 
 /// The lists of the section that was read last. Their memory is reused for the next section.

@@ -3,12 +3,12 @@ ghost use Rattle.std.specs.Prelude.{◌≡◌, false};
 ghost use Rattle.sas_task_reader.specs.Outline.{OutlineOf};
 ghost use Rattle.sas_task_reader.specs.TaskRefusal.{ReadsTask};
 
+use crate::TaskMachine;
 use crate::task_outline::TaskOutline;
 use crate::task_refusal::TaskRefusal;
 use sas_flat::Outline;
 use sas_lines::Watched;
 use sas_reader::{LIMIT, read_all_large};
-use sas_task_judge::TaskMachine;
 use std::alloc::Global;
 use std::io::Read;
 

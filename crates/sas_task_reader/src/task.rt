@@ -1,16 +1,16 @@
 // Reads task files from a device.
 ghost use Rattle.std.specs.Prelude.{◌≡◌, false};
 ghost use Rattle.sas_reader.specs.Devices.{ReadsAll, ValueOf, TextOf};
-ghost use Rattle.sas_task_format.specs.TaskFormat.{task_format};
+ghost use Rattle.sas_task_file.specs.TaskFormat.{task_format};
 ghost use Rattle.sas_task_reader.specs.TaskRefusal.{ReadsTask};
 
+use crate::TaskMachine;
 use crate::task_refusal::TaskRefusal;
 use crate::task_text::TaskText;
 use sas_core::Task;
 use sas_lines::Watched;
 use sas_reader::{Fault, LIMIT, read_all, read_all_large};
-use sas_task_judge::TaskMachine;
-use sas_task_line::SoFar;
+use sas_task_file::SoFar;
 use std::alloc::Global;
 use std::io::Read;
 

@@ -3,18 +3,18 @@ ghost use Rattle.std.specs.Prelude.{◌≡◌, List};
 ghost use Rattle.sas_core.specs.declared.parts.Fact.{Fact};
 ghost use Rattle.sas_core.specs.declared.parts.Operator.{Operator};
 ghost use Rattle.sas_core.specs.declared.parts.Effect.{Effect};
-ghost use Rattle.sas_task_line.specs.declared.so_far.SoFar.{SoFar};
-ghost use Rattle.sas_task_line.specs.TaskEvents.{nothing_yet};
-ghost use Rattle.sas_task_judge.specs.Sections.{behind_group, behind_operator, behind_rule};
+ghost use Rattle.sas_task_file.specs.declared.so_far.SoFar.{SoFar};
+ghost use Rattle.sas_task_file.specs.TaskEvents.{nothing_yet};
+ghost use Rattle.sas_task_reader.specs.Sections.{behind_group, behind_operator, behind_rule};
 ghost use Rattle.sas_task_reader.specs.TaskOutline.{outline_in, kept_of};
 
 use crate::flat_so_far::FlatSoFar;
 use crate::fronts::{SectionLists, group_front, operator_front, rule_front};
+use crate::{Keeper, KeptVariable};
 use sas_core::Items;
 use sas_flat::Outline;
 use sas_reader::{Front, Kind};
-use sas_task_judge::{Keeper, KeptVariable};
-use sas_task_line::{Event, LineValues};
+use sas_task_file::{Event, LineValues};
 use std::alloc::Global;
 use std::marker::Model;
 

@@ -3,12 +3,12 @@ ghost use Rattle.std.specs.Prelude.{◌≤◌, ℕ, List};
 ghost use Rattle.sas_reader.specs.Limit.{most_bytes};
 ghost use Rattle.sas_reader.specs.Reader as reading;
 ghost use Rattle.sas_reader.specs.Reading.{Starts, Feeds, Finishes};
-ghost use Rattle.sas_task_judge.specs.TaskMachine.{LedTo, EndedAt, RejectsAt, MachineStopped};
+ghost use Rattle.sas_task_reader.specs.TaskMachine.{LedTo, EndedAt, RejectsAt, MachineStopped};
 
+use crate::TaskMachine;
 use sas_core::Task;
 use sas_reader::{Fault, LIMIT, Reader};
-use sas_task_judge::TaskMachine;
-use sas_task_line::SoFar;
+use sas_task_file::SoFar;
 use std::alloc::Global;
 
 /// Reads a task file in pieces, which may be cut anywhere.

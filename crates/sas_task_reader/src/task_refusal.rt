@@ -2,9 +2,9 @@
 ghost use Rattle.std.specs.Prelude.{◌≡◌, ◌≢◌, List, ℕ, None};
 ghost use Rattle.sas_task_reader.specs.TaskRefusal.{HasReason, StandsRefused};
 
+use crate::{Keeper, TaskMachine};
 use sas_reader::{Excerpt, Fault, Kind, Refusal};
-use sas_task_format::{Mark, WrongWord};
-use sas_task_judge::{Keeper, TaskMachine};
+use sas_task_file::{Mark, WrongWord};
 
 /// Why a task file is refused: its first fault, the location of the fault and what was expected there, the first wrong word of the line, if
 /// any, and the text that was found.

@@ -5,11 +5,11 @@ ghost use Rattle.sas_lines.specs.Lines.{without_returns};
 use crate::fronts::{
     NO_VARIABLE, SectionLists, group_front, operator_front, rule_front, variable_front,
 };
+use crate::{Keeper, KeptVariable};
 use sas_core::Items;
 use sas_lines::{push_line, push_without_returns};
 use sas_reader::{Front, Kind};
-use sas_task_judge::{Keeper, KeptVariable};
-use sas_task_line::{Event, LineValues};
+use sas_task_file::{Event, LineValues};
 use std::alloc::Global;
 use std::marker::Model;
 

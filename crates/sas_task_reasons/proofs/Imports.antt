@@ -57,14 +57,14 @@ pub use Rattle.sas_mutex.specs.ByNotes.{NotBothAt, IsOnVariableBefore, IsGoneAt,
 pub use Rattle.sas_mutex.specs.Effects.{IsKept, KeepsWithItself}
 pub use Rattle.sas_mutex.specs.Firing.{EffectPlace, operator_of}
 pub use Rattle.sas_mutex.specs.Marks.{IsClean}
-pub use Rattle.sas_output.proofs.Pushed.{pushes_then}
-pub use Rattle.sas_output.proofs.Sent.{ends_counting_as, writes_as}
+pub use Rattle.sas_answers.proofs.Pushed.{pushes_then}
+pub use Rattle.sas_answers.proofs.Sent.{ends_counting_as, writes_as}
 pub use Rattle.sas_lines.proofs.EndedLines.{text_of_both}
-pub use Rattle.sas_output.specs.Ending.{Output, output_of}
-pub use Rattle.sas_output.specs.Line.{reasons_text}
-pub use Rattle.sas_output.specs.Sink.{Pushes}
-pub use Rattle.sas_output.specs.declared.ending.Status.{Status}
-pub use Rattle.sas_output.specs.declared.line.Line.{Line}
+pub use Rattle.sas_answers.specs.Ending.{Output, output_of}
+pub use Rattle.sas_answers.specs.Line.{reasons_text}
+pub use Rattle.sas_answers.specs.Sink.{Pushes}
+pub use Rattle.sas_answers.specs.declared.ending.Status.{Status}
+pub use Rattle.sas_answers.specs.declared.line.Line.{Line}
 pub use Rattle.sas_task_reasons.specs.Failures.{IsFailure, IsEarlier, IsFirstFailure}
 pub use Rattle.sas_task_reasons.specs.GroupLaws.{NotKeptIfFails, FailsIfNotKept, SomeFirstFailure, OneFirstFailure, SomeReason, OneReason}
 pub use Rattle.sas_task_reasons.specs.GroupReasons.{verdict_of, IsReasonIfAny, reason_at, AreReasons, holds, TrueOfGroup, IsReason}

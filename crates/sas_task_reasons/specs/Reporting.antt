@@ -8,7 +8,7 @@ use Rattle.sas_groups.specs.Clashes.{sets}
 use Rattle.sas_groups.specs.Kept.{family_of}
 use Rattle.sas_mutex.specs.Effects.{KeepsWithItself}
 use Rattle.sas_groups.specs.Joint.{verdict_at}
-use Rattle.sas_output.specs.Ending.{Output}
+use Rattle.sas_answers.specs.Ending.{Output}
 use Rattle.sas_answers.specs.Answers.{GroupsAnswer}
 use Rattle.sas_task_reasons.specs.declared.reason.Reason.{Reason}
 use Rattle.sas_task_reasons.specs.GroupReasons.{IsReason, reason_at}

@@ -12,11 +12,11 @@ use Rattle.sas_task_reasons.specs.declared.reason.Failure.TheVariants.{SetsTwo, 
 use Rattle.sas_task_reasons.specs.declared.reason.Reason.{Reason}
 use Rattle.sas_task_reasons.specs.declared.reason.Reason.TheVariants.{OnDerived, HoldsTwo, Breaks}
 use Rattle.sas_task_reasons.specs.GroupReasons.{AreReasons, reason_at}
-use Rattle.sas_output.specs.Ending.{Output}
+use Rattle.sas_answers.specs.Ending.{Output}
 use Rattle.sas_answers.specs.GroupWords.{group_line, groups_status}
-use Rattle.sas_output.specs.declared.line.Line.{Line}
-use Rattle.sas_output.specs.declared.line.Line.TheVariants as line
-use Rattle.sas_output.specs.Line.{line_bytes}
+use Rattle.sas_answers.specs.declared.line.Line.{Line}
+use Rattle.sas_answers.specs.declared.line.Line.TheVariants as line
+use Rattle.sas_answers.specs.Line.{line_bytes}
 
 -- the fact at this place of a list; after the last one, that variable 0 has value 0
 abbrev pub fact_at : List Fact → ℕ → Fact

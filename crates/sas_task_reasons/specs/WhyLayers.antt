@@ -10,11 +10,11 @@ use Rattle.sas_meaning.specs.declared.layered.LayerFault.{LayerFault}
 use Rattle.sas_meaning.specs.declared.layered.LayerFault.TheVariants.{EffectOnDerived, RuleOnBasic, OldValue, TwoValues, LayerOrder, Memory}
 use Rattle.sas_meaning.specs.LayerChecks.{layer_checks}
 use Rattle.sas_meaning.specs.Layers.{default_of, can_fire}
-use Rattle.sas_output.specs.Ending.{Output}
+use Rattle.sas_answers.specs.Ending.{Output}
 use Rattle.sas_answers.specs.Answers.{layers_refusal, layers_verdict}
-use Rattle.sas_output.specs.declared.line.Line.{Line}
-use Rattle.sas_output.specs.declared.line.Line.TheVariants as line
-use Rattle.sas_output.specs.Line.{reasons_text}
+use Rattle.sas_answers.specs.declared.line.Line.{Line}
+use Rattle.sas_answers.specs.declared.line.Line.TheVariants as line
+use Rattle.sas_answers.specs.Line.{reasons_text}
 use Rattle.sas_task_reasons.specs.WhyGroups.{fact_at, WhyGroupsAnswer}
 
 -- ---- the lines

@@ -5,10 +5,10 @@ ghost use Rattle.sas_answers.specs.GroupWords as words;
 ghost use Rattle.sas_answers.specs.GroupWords.{group_line};
 ghost use Rattle.sas_groups.specs.Joint.{AreJointVerdicts};
 ghost use Rattle.sas_task_reasons.specs.GroupReasons.{AreReasons, reason_at};
-ghost use Rattle.sas_output.specs.Ending.{EndsCounting, Writes};
-ghost use Rattle.sas_output.specs.Sink.{Pushes};
-ghost use Rattle.sas_output.specs.Words.{line, word_bytes};
-ghost use Rattle.sas_output.specs.Line.{reasons_text};
+ghost use Rattle.sas_answers.specs.Ending.{EndsCounting, Writes};
+ghost use Rattle.sas_answers.specs.Sink.{Pushes};
+ghost use Rattle.sas_answers.specs.Words.{line, word_bytes};
+ghost use Rattle.sas_answers.specs.Line.{reasons_text};
 ghost use Rattle.sas_task_reasons.specs.WhyGroups as spec;
 ghost use Rattle.sas_task_reasons.specs.WhyGroups.{why_lines};
 ghost use Rattle.sas_task_reasons.specs.Reporting.{GroupsAnswerWith};
@@ -16,13 +16,13 @@ ghost use Rattle.sas_task_reasons.specs.Reporting.{GroupsAnswerWith};
 use crate::facts::member_of;
 use crate::reason::{Failure, Reason};
 use crate::reasons::group_reasons;
+use sas_answers::{
+    Indent, Line, NameSource, Pieces, Sink, Status, ToolFault, Word, Words, push_lines,
+};
 use sas_flat::FlatTask;
 use sas_lines::Watched;
 use sas_meaning::Layered;
 use sas_mutex::{Verdict, check_groups};
-use sas_output::{
-    Indent, Line, NameSource, Pieces, Sink, Status, ToolFault, Word, Words, push_lines,
-};
 use std::alloc::{AllocError, Global};
 use std::io::Write;
 

@@ -5,10 +5,10 @@ ghost use Rattle.sas_task_reasons.specs.WhyLayers as spec;
 
 use crate::facts::{change_by, condition_of, default_fact, layer_of};
 use crate::giver::other_giver;
+use sas_answers::{Line, set_by};
 use sas_core::{Fact, Items};
 use sas_flat::FlatTask;
 use sas_meaning::LayerFault;
-use sas_output::{Line, set_by};
 use std::alloc::{AllocError, Global};
 
 /// Returns the lines of why the task has this fault of its layers. For `Memory` there is none.

@@ -1,14 +1,13 @@
 // The refusal of a task that isn't layered, with the reasons, as it goes out.
 ghost use Rattle.std.specs.Prelude.{◌≡◌, false, Some, IsSomeAnd};
-ghost use Rattle.sas_output.specs.Ending.{EndsCounting, Writes};
+ghost use Rattle.sas_answers.specs.Ending.{EndsCounting, Writes};
 ghost use Rattle.sas_task_reasons.specs.WhyLayers.{why_refusal};
 
 use crate::layers::layer_reasons;
-use sas_answers::refuse_layers;
+use sas_answers::{NameSource, Status, ToolFault, refuse_layers, write_reasons};
 use sas_flat::FlatTask;
 use sas_lines::Watched;
 use sas_meaning::LayerFault;
-use sas_output::{NameSource, Status, ToolFault, write_reasons};
 use std::alloc::Global;
 use std::io::Write;
 

@@ -8,5 +8,5 @@ pub use Rattle.std.specs.Result.{OnOk}
 pub use Rattle.sas_core.specs.declared.parts.Effect.{Effect}
 pub use Rattle.sas_core.specs.declared.parts.Parts.{Parts}
 pub use Rattle.sas_lines.specs.Spelling.{signed_decimal, joined}
-pub use Rattle.sas_task_format.specs.TaskFormat.{TaskLine, word, effect, head, fact_words, task_line_bytes, single_line, between, fact, counted, name, number, task_layout, version_lines, metric_lines, variable_lines, group_lines, state_lines, goal_lines, operator_lines, rule_lines}
+pub use Rattle.sas_task_file.specs.TaskFormat.{TaskLine, word, effect, head, fact_words, task_line_bytes, single_line, between, fact, counted, name, number, task_layout, version_lines, metric_lines, variable_lines, group_lines, state_lines, goal_lines, operator_lines, rule_lines}
 pub use Rattle.sas_text.specs.TaskText.{text_of, spaced}

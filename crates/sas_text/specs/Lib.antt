@@ -12,10 +12,10 @@ pub use Rattle.sas_plan_file.specs.PlanFormat
 pub use Rattle.sas_plan_file.specs.PlanLaws
 pub use Rattle.sas_plan_file.specs.PlanReader
 pub use Rattle.sas_plan_file.specs.PlanRefusal
-pub use Rattle.sas_task_format.specs.TaskTexts
-pub use Rattle.sas_task_format.specs.TaskFormat
-pub use Rattle.sas_task_format.specs.TaskLaws
-pub use Rattle.sas_task_format.specs.TaskReasons
+pub use Rattle.sas_task_file.specs.TaskTexts
+pub use Rattle.sas_task_file.specs.TaskFormat
+pub use Rattle.sas_task_file.specs.TaskLaws
+pub use Rattle.sas_task_file.specs.TaskReasons
 pub use Rattle.sas_task_reader.specs.TaskReader
 pub use Rattle.sas_task_reader.specs.TaskRefusal
 pub use Rattle.sas_task_reader.specs.Outline

@@ -2,7 +2,7 @@
 use Rattle.std.specs.Prelude.{ℕ, List, [], ◌∷◌, ◌++◌, map}
 use Rattle.std.specs.List.{flat_map}
 use Rattle.sas_lines.specs.Lines.{text}
-use Rattle.sas_task_format.specs.TaskFormat.{TaskLine, task_line_bytes}
+use Rattle.sas_task_file.specs.TaskFormat.{TaskLine, task_line_bytes}
 
 -- the bytes of the lines, each ended by LF
 abbrev pub text_of : List TaskLine → List ℕ

@@ -1,17 +1,16 @@
 // Writes task files.
-#![tactic(auto, using(crate::proofs::TaskTexts::texts))]
-
 ghost use Rattle.std.specs.Prelude.{◌≡◌, List, [], ◌∷◌, ◌++◌, IfOk, OnOk};
 ghost use Rattle.std.specs.List.{flat_map};
 ghost use Rattle.sas_lines.specs.Lines.{text};
 ghost use Rattle.sas_lines.specs.Spelling.{signed_decimal, joined};
 ghost use Rattle.sas_reader.specs.Texts.{lines_of};
-ghost use Rattle.sas_task_format.specs.TaskFormat as format;
-ghost use Rattle.sas_task_format.specs.TaskFormat.{TaskLine, single_line, counted, version_lines, metric_lines};
-ghost use Rattle.sas_task_format.specs.TaskFormat.{variable_lines, group_lines, state_lines, goal_lines};
-ghost use Rattle.sas_task_format.specs.TaskFormat.{operator_lines, rule_lines, fact_words, task_texts};
+ghost use Rattle.sas_task_file.specs.TaskFormat as format;
+ghost use Rattle.sas_task_file.specs.TaskFormat.{TaskLine, single_line, counted, version_lines, metric_lines};
+ghost use Rattle.sas_task_file.specs.TaskFormat.{variable_lines, group_lines, state_lines, goal_lines};
+ghost use Rattle.sas_task_file.specs.TaskFormat.{operator_lines, rule_lines, fact_words, task_texts};
 ghost use Rattle.sas_text.specs.TaskText.{text_of, spaced};
 
+#![tactic(auto, using(crate::proofs::TaskTexts::texts))]
 use sas_core::{Effect, Fact, Items, Operator, Rule, Task, Variable};
 use sas_lines::{push_line, push_number};
 use std::alloc::{AllocError, Global};

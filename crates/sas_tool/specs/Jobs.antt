@@ -1,8 +1,8 @@
 -- What the arguments request.
 use Rattle.std.specs.Prelude.{◌≡◌, ◌≢◌, ◌⊎◌, ℕ, List, codes, ⊤, Option, Some, None}
 use Rattle.std.specs.String.{string_bytes}
-use Rattle.sas_outputs.specs.declared.Request.{Request}
-use Rattle.sas_outputs.specs.declared.Request.TheVariants as request
+use Rattle.sas_requests.specs.declared.Request.{Request}
+use Rattle.sas_requests.specs.declared.Request.TheVariants as request
 use Rattle.sas_requests.specs.declared.question.Question.{Question}
 use Rattle.sas_requests.specs.declared.question.Question.TheVariants.{Answer, Explanation, Trace}
 use Rattle.sas_tool.specs.declared.arguments.Job.{Job}

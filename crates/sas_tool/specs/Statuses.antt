@@ -1,9 +1,9 @@
 -- How the program ends.
 use Rattle.std.specs.Prelude.{ℕ, List, codes, Option, Some, None, Result, Ok, Err}
-use Rattle.sas_output.specs.declared.ending.Status.{Status}
-use Rattle.sas_output.specs.declared.ending.Status.TheVariants.{Yes, No}
-use Rattle.sas_output.specs.declared.ending.ToolFault.{ToolFault}
-use Rattle.sas_output.specs.declared.ending.ToolFault.TheVariants.{Memory, Read, TooLong, Write}
+use Rattle.sas_answers.specs.declared.ending.Status.{Status}
+use Rattle.sas_answers.specs.declared.ending.Status.TheVariants.{Yes, No}
+use Rattle.sas_answers.specs.declared.ending.ToolFault.{ToolFault}
+use Rattle.sas_answers.specs.declared.ending.ToolFault.TheVariants.{Memory, Read, TooLong, Write}
 
 -- the exit status
 abbrev pub exit_status : Result Status ToolFault → ℕ

@@ -13,8 +13,7 @@ pub use program::start;
 pub use arguments::{Job, Source, WordsFault, command};
 #[doc(hidden)]
 pub use program::ending;
-pub use sas_plans::{InputFault, JudgeFault, PlanInputs, judge, judge_laws};
 pub use sas_requests::{
-    Question, Request, Status, ToolFault, explain, explain_laws, run, run_laws, trace,
-    trace_output_laws,
+    InputFault, JudgeFault, PlanInputs, Question, Request, Status, ToolFault, explain,
+    explain_laws, judge, judge_laws, run, run_laws, trace, trace_output_laws,
 };

@@ -1,11 +1,11 @@
 // The plan files that the arguments name, opened one after another.
 ghost use Rattle.std.specs.Prelude.{◌↔◌, ◌≤◌, All, IsTrue};
-ghost use Rattle.sas_plans.specs.Inputs.{IsLabel};
+ghost use Rattle.sas_requests.specs.Inputs.{IsLabel};
 ghost use Rattle.sas_tool.specs.Labels.{times_named};
 ghost use Rattle.std.specs.String.{string_bytes};
 
 use sas_lines::OpenInput;
-use sas_plans::{PlanInputs, is_label};
+use sas_requests::{PlanInputs, is_label};
 use std::fs;
 use std::rt::Files;
 

@@ -2,7 +2,7 @@
 ghost use Rattle.std.specs.Prelude.{◌≡◌, false, All};
 ghost use Rattle.std.specs.Option.{option_copied};
 ghost use Rattle.std.specs.String.{string_bytes};
-ghost use Rattle.sas_plans.specs.Inputs.{IsLabel};
+ghost use Rattle.sas_requests.specs.Inputs.{IsLabel};
 ghost use Rattle.sas_tool.specs.Statuses.{error_line, exit_status};
 
 use crate::arguments::{Job, Source, WordsFault, command};
@@ -11,7 +11,7 @@ use crate::streams::replace_closed;
 use crate::until_end::UntilEnd;
 use crate::{Question, Status, ToolFault, explain, judge, run, trace};
 use sas_lines::{OpenInput, Watched};
-use sas_plans::{InputFault, JudgeFault};
+use sas_requests::{InputFault, JudgeFault};
 use std::io::{ErrorKind, Write};
 use std::os::fd::AsFd;
 use std::process::ExitCode;

@@ -1,8 +1,10 @@
 // Calls of `judge` of `sas_plans` over devices, and of `judge_slices` over bytes in memory.
+
 use crate::{LONGEST_READ, say_answer};
 use sas_lines::Watched;
-use sas_plans::{JudgeFault, PlanBytes, PlanInputs, are_labels, judge, judge_slices};
-use sas_requests::{Status, ToolFault};
+use sas_requests::{
+    JudgeFault, PlanBytes, PlanInputs, Status, ToolFault, are_labels, judge, judge_slices,
+};
 use std::alloc::Global;
 use test_words::{ScriptedReader, cut, narrow_of, say_number};
 
@@ -19,7 +21,7 @@ struct PlanList<'a> {
 
 impl<'a> PlanInputs for PlanList<'a> {
     ghost use Rattle.std.specs.Prelude.{◌≡◌, None};
-    ghost use Rattle.sas_plans.specs.Slices.{labels_of};
+    ghost use Rattle.sas_requests.specs.Slices.{labels_of};
 
     type Input = ScriptedReader<'a>;
 

@@ -1,4 +1,5 @@
 //! Test program for `run`, `explain`, `trace` and `judge` over devices, and for the words of the command line. Standard input requests calls, as `test_words` describes.
+
 #![tactic(auto)]
 
 mod judge_calls;
@@ -7,8 +8,7 @@ mod tool_calls;
 
 use judge_calls::{judge_in_memory, judge_listed};
 use run_calls::{answer_question, say_messages};
-use sas_plans::judge_laws;
-use sas_requests::{explain_laws, run_laws, trace_output_laws};
+use sas_requests::{explain_laws, judge_laws, run_laws, trace_output_laws};
 use std::fmt::Debug;
 use test_words::{TestCall, answer, say, say_debug, say_line};
 use tool_calls::{say_endings, say_job};

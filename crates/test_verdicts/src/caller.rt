@@ -6,7 +6,7 @@ ghost use Rattle.sas_meaning.specs.Layers.{IsLayered};
 ghost use Rattle.sas_plan_file.specs.PlanTexts.{plan_texts};
 ghost use Rattle.sas_reader.specs.Texts.{Reads};
 ghost use Rattle.sas_run.specs.Plans.{IsValid};
-ghost use Rattle.sas_task_format.specs.TaskTexts.{task_texts};
+ghost use Rattle.sas_task_file.specs.TaskTexts.{task_texts};
 
 use sas_axioms::{Layered, Rounds};
 use sas_lines::Watched;

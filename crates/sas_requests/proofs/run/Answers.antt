@@ -1,4 +1,6 @@
-use Rattle.sas_requests.proofs.Imports.{MutexAnswer, VerdictAnswer, Out, plain_refusal, reports_valid, headline_of, plain_refuses, Ends, EndsCounting, exact_ends}
+use Rattle.sas_requests.proofs.Imports.{MutexAnswer, VerdictAnswer, Out, plain_refusal, Ends, EndsCounting, exact_ends}
+use Rattle.sas_requests.proofs.Headlines.{reports_valid, headline_of}
+use Rattle.sas_requests.proofs.PlanOutputs.{plain_refuses}
 use Rattle.sas_requests.proofs.InvariantGroups.{plain_groups, invariants_of}
 use Rattle.sas_requests.proofs.RequestEnds.{ends_as, headline_reported, invariants_reported}
 use Rattle.sas_requests.proofs.ShortOutputs.{short_output}

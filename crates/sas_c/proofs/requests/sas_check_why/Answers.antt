@@ -1,4 +1,4 @@
-use Rattle.sas_outputs.specs.declared.Request.TheVariants.{Check}
+use Rattle.sas_requests.specs.declared.Request.TheVariants.{Check}
 use Rattle.sas_requests.specs.declared.question.Question.TheVariants.{Explanation}
 use Rattle.sas_c.proofs.Returned.{asked_reported}
 use Rattle.sas_c.proofs.requests.sas_check_why.Goals as goal

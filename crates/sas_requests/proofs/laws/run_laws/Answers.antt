@@ -1,4 +1,5 @@
-use Rattle.sas_requests.proofs.Imports.{CheckAnswer, MutexAnswer, VerdictAnswer, one_check_answer, some_check_answer, one_mutex_answer, some_mutex_answer, one_verdict_answer, some_verdict_answer, plain_refusal, plain_refuses, output_for}
+use Rattle.sas_requests.proofs.Imports.{CheckAnswer, MutexAnswer, VerdictAnswer, one_check_answer, some_check_answer, one_mutex_answer, some_mutex_answer, one_verdict_answer, some_verdict_answer, plain_refusal}
+use Rattle.sas_requests.proofs.PlanOutputs.{plain_refuses, output_for}
 use Rattle.sas_requests.proofs.ShortOutputs.{short_output}
 use Rattle.sas_requests.proofs.laws.run_laws.Goals as goal
 

@@ -1,4 +1,5 @@
-use Rattle.sas_requests.proofs.Imports.{plain_refusal, plain_refuses, judged_output, TraceVerdict, some_trace, one_trace}
+use Rattle.sas_requests.proofs.Imports.{plain_refusal, TraceVerdict, some_trace, one_trace}
+use Rattle.sas_requests.proofs.PlanOutputs.{plain_refuses, judged_output}
 use Rattle.sas_requests.proofs.TraceLaws.{ends_as_plan}
 use Rattle.sas_requests.proofs.laws.trace_output_laws.Goals as goal
 

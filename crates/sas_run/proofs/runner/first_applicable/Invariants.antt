@@ -1,5 +1,5 @@
 -- The state of the search.
-use Rattle.sas_run.proofs.Imports.{left}
+use Rattle.sas_run.proofs.Searching.{left}
 use Rattle.sas_run.proofs.NamedAlike.{SearchedTo}
 use Rattle.sas_run.proofs.runner.first_applicable.Given as goal
 

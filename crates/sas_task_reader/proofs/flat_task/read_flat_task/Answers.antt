@@ -1,4 +1,5 @@
-use Rattle.sas_task_reader.proofs.Imports.{sym, ap, subst, ◌∙◌, Parts, WellRanged, ValueOf, SoFar, LedTo, EndedAt, RejectsAt, MachineStopped, reads_explained, refuses_explained, table_node, task_format, TaskLineFits, table_start, table_grammar, fault_in, found_in, HasReason}
+use Rattle.sas_task_reader.proofs.Imports.{sym, ap, subst, ◌∙◌, Parts, WellRanged, ValueOf, SoFar, LedTo, EndedAt, RejectsAt, MachineStopped, reads_explained, refuses_explained, table_node, task_format, TaskLineFits, table_start, fault_in, found_in, HasReason}
+use Rattle.sas_task_reader.proofs.TableGrammar.{table_grammar}
 use Rattle.sas_task_reader.proofs.TaskStanding.{reader_follows, read_task_parts, well_ranged}
 use Rattle.sas_task_reader.proofs.flat_task.read_flat_task.Goals as goal
 

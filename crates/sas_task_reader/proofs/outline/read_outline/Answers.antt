@@ -1,4 +1,5 @@
-use Rattle.sas_task_reader.proofs.Imports.{◌≡◌, List, ℕ, ap, ◌∙◌, Kind, SoFar, TaskMachine, HasEnded, RejectsLine, LedBy, MachineStopped, table_node, task_format, TaskLineFits, table_start, table_grammar, reads_explained, refuses_explained, OutlineSoFar, outline_in, kept_of, fault_in, found_in, HasReason}
+use Rattle.sas_task_reader.proofs.Imports.{◌≡◌, List, ℕ, ap, ◌∙◌, Kind, SoFar, TaskMachine, HasEnded, RejectsLine, LedBy, MachineStopped, table_node, task_format, TaskLineFits, table_start, reads_explained, refuses_explained, OutlineSoFar, outline_in, kept_of, fault_in, found_in, HasReason}
+use Rattle.sas_task_reader.proofs.TableGrammar.{table_grammar}
 use Rattle.sas_task_reader.proofs.Outlines.{outline_is}
 use Rattle.sas_task_reader.proofs.TaskStanding.{machine_follows, reads_so_far}
 use Rattle.sas_task_reader.proofs.outline.read_outline.Goals as goal

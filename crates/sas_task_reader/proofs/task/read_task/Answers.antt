@@ -1,4 +1,5 @@
-use Rattle.sas_task_reader.proofs.Imports.{sym, ap, subst, ◌∙◌, Err, Parts, WellRanged, ReadsAll, ValueOf, Fault, SoFar, LedTo, EndedAt, RejectsAt, MachineStopped, table_node, task_format, TaskLineFits, table_start, table_grammar, reads_all, refuses_all}
+use Rattle.sas_task_reader.proofs.Imports.{sym, ap, subst, ◌∙◌, Err, Parts, WellRanged, ReadsAll, ValueOf, Fault, SoFar, LedTo, EndedAt, RejectsAt, MachineStopped, table_node, task_format, TaskLineFits, table_start, reads_all, refuses_all}
+use Rattle.sas_task_reader.proofs.TableGrammar.{table_grammar}
 use Rattle.sas_task_reader.proofs.TaskStanding.{reader_follows, read_task_parts, well_ranged}
 use Rattle.sas_task_reader.proofs.task.read_task.Goals as goal
 

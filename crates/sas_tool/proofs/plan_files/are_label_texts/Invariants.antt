@@ -1,7 +1,7 @@
 -- The labels so far have no line end.
 use Rattle.std.proofs.Common.{ℕ, ◌<◌, get_or, String, Global}
 use Rattle.std.specs.String.{string_bytes}
-use Rattle.sas_plans.specs.Inputs.{IsLabel}
+use Rattle.sas_requests.specs.Inputs.{IsLabel}
 use Rattle.sas_tool.proofs.plan_files.are_label_texts.Given as goal
 
 abbrev pub invariant-loop-label : goal.invariant-loop-label

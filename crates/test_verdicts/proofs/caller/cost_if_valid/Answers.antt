@@ -12,7 +12,7 @@ use Rattle.sas_reader.specs.Format.{Format}
 use Rattle.sas_reader.specs.Texts.{Reads}
 use Rattle.sas_run.specs.Plans.{IsValid}
 use Rattle.sas_run.specs.Running.{IsSolution}
-use Rattle.sas_task_format.specs.TaskFormat.{task_format}
+use Rattle.sas_task_file.specs.TaskFormat.{task_format}
 use Rattle.test_verdicts.proofs.caller.cost_if_valid.Goals as goal
 
 -- what holds of each value of a result holds of its value

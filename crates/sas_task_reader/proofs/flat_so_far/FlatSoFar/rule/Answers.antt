@@ -1,7 +1,7 @@
 use Rattle.sas_task_reader.proofs.Imports.{[], ◌∷◌, ◌++◌, ap, ◌∙◌, the_view, effect_with, rules_more}
-use Rattle.sas_task_line.specs.TaskEvents.{after}
-use Rattle.sas_task_line.specs.declared.so_far.SoFar.{SoFar}
-use Rattle.sas_task_format.specs.declared.places.Event.TheVariants as event
+use Rattle.sas_task_file.specs.TaskEvents.{after}
+use Rattle.sas_task_file.specs.declared.so_far.SoFar.{SoFar}
+use Rattle.sas_task_file.specs.declared.places.Event.TheVariants as event
 use Rattle.sas_task_reader.proofs.StoredParts.{another_rule}
 use Rattle.sas_task_reader.proofs.flat_so_far.FlatSoFar.rule.Goals as goal
 

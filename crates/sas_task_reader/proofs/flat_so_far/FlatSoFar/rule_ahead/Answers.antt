@@ -1,6 +1,6 @@
 use Rattle.sas_task_reader.proofs.Imports.{[], ◌∷◌, ◌++◌, length, sym, ap, ◌∙◌, the_view, lists_in, effect_with, effects_of, lists_opened, one_list_more, rules_more, pairs_more}
-use Rattle.sas_task_judge.specs.Sections.{behind_rule}
-use Rattle.sas_task_line.specs.declared.so_far.SoFar.{SoFar}
+use Rattle.sas_task_reader.specs.Sections.{behind_rule}
+use Rattle.sas_task_file.specs.declared.so_far.SoFar.{SoFar}
 use Rattle.sas_task_reader.proofs.StoredParts.{with_rules, another_rule}
 use Rattle.sas_task_reader.proofs.flat_so_far.FlatSoFar.rule_ahead.Goals as goal
 

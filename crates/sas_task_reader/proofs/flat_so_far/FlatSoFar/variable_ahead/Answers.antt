@@ -1,6 +1,6 @@
 use Rattle.sas_task_reader.proofs.Imports.{refl, sym, ap, ◌∙◌, the_view, variable, variables_opened, variables_more}
-use Rattle.sas_task_judge.specs.Sections.{behind_variable}
-use Rattle.sas_task_line.specs.declared.so_far.SoFar.{SoFar}
+use Rattle.sas_task_reader.specs.Sections.{behind_variable}
+use Rattle.sas_task_file.specs.declared.so_far.SoFar.{SoFar}
 use Rattle.sas_task_reader.proofs.StoredParts.{with_variables, one_variable_more}
 use Rattle.sas_task_reader.proofs.flat_so_far.FlatSoFar.variable_ahead.Goals as goal
 

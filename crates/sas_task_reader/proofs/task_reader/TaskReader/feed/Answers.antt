@@ -1,4 +1,5 @@
-use Rattle.sas_task_reader.proofs.Imports.{∥∥₁_map, ◌++◌, table_node, task_format, TaskLineFits, table_start, table_grammar, LedTo, EndedAt, RejectsAt, MachineStopped, feeds}
+use Rattle.sas_task_reader.proofs.Imports.{∥∥₁_map, ◌++◌, table_node, task_format, TaskLineFits, table_start, LedTo, EndedAt, RejectsAt, MachineStopped, feeds}
+use Rattle.sas_task_reader.proofs.TableGrammar.{table_grammar}
 use Rattle.sas_task_reader.proofs.TaskStanding.{reader_follows}
 use Rattle.sas_task_reader.proofs.task_reader.TaskReader.feed.Goals as goal
 

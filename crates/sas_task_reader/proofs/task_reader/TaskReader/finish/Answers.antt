@@ -1,4 +1,5 @@
-use Rattle.sas_task_reader.proofs.Imports.{sym, ap, subst, ◌∙◌, Ok, Err, ∥∥₁_map, Parts, WellRanged, Fault, ReadsAs, table_node, task_format, TaskLineFits, table_start, table_grammar, SoFar, LedTo, EndedAt, RejectsAt, MachineStopped, Finishes, end_fault, task_view}
+use Rattle.sas_task_reader.proofs.Imports.{sym, ap, subst, ◌∙◌, Ok, Err, ∥∥₁_map, Parts, WellRanged, Fault, ReadsAs, table_node, task_format, TaskLineFits, table_start, SoFar, LedTo, EndedAt, RejectsAt, MachineStopped, Finishes, end_fault, task_view}
+use Rattle.sas_task_reader.proofs.TableGrammar.{table_grammar}
 use Rattle.sas_task_reader.proofs.TaskStanding.{reader_follows, read_task_parts, ranged}
 use Rattle.sas_task_reader.proofs.task_reader.TaskReader.finish.Goals as goal
 

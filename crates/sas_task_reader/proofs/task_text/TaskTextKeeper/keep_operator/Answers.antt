@@ -1,7 +1,7 @@
 use Rattle.sas_reader.specs.declared.reader.Front.{Front}
-use Rattle.sas_task_judge.specs.Sections.{behind_operator}
-use Rattle.sas_task_line.specs.Sections.{OperatorAhead}
-use Rattle.sas_task_format.specs.TaskFormat.{operator_lines}
+use Rattle.sas_task_reader.specs.Sections.{behind_operator}
+use Rattle.sas_task_file.specs.Sections.{OperatorAhead}
+use Rattle.sas_task_file.specs.TaskFormat.{operator_lines}
 use Rattle.sas_task_reader.proofs.Imports.{ℕ, List, ◌++◌, take, ap, ◌∙◌, without_returns}
 use Rattle.sas_task_reader.proofs.StoredText.{keeps_text}
 use Rattle.sas_task_reader.proofs.task_text.TaskTextKeeper.keep_operator.Goals as goal

@@ -1,6 +1,6 @@
-use Rattle.sas_task_judge.specs.declared.keeper.KeptVariable.{KeptVariable}
-use Rattle.sas_task_judge.specs.Sections.{behind_variable, VariableWithRange}
-use Rattle.sas_task_format.specs.TaskFormat.{variable_lines}
+use Rattle.sas_task_reader.specs.declared.keeper.KeptVariable.{KeptVariable}
+use Rattle.sas_task_reader.specs.Sections.{behind_variable, VariableWithRange}
+use Rattle.sas_task_file.specs.TaskFormat.{variable_lines}
 use Rattle.sas_task_reader.proofs.Imports.{ℕ, List, ◌++◌, take, ap, ◌∙◌, without_returns}
 use Rattle.sas_task_reader.proofs.StoredText.{keeps_text}
 use Rattle.sas_task_reader.proofs.task_text.TaskTextKeeper.keep_variable.Goals as goal

@@ -1,0 +1,62 @@
+-- Lines of reasons in their parts.
+use Rattle.std.specs.Prelude.{ℕ, ◌-◌, if◌then◌else◌, List, [], ◌∷◌, codes, decimal, slice_index_or, Option, Some, None}
+use Rattle.std.specs.Borrow.{Bor}
+use Rattle.sas_core.specs.declared.parts.Fact.{Fact}
+use Rattle.sas_core.specs.declared.parts.Parts.{Parts}
+use Rattle.sas_core.specs.PlanParts.{PlanParts}
+use Rattle.sas_core.specs.Changes.{change_of, fact_of}
+use Rattle.sas_core.specs.Grounded.{operator_at, effect_at, rule_at}
+use Rattle.sas_answers.specs.declared.words.Indent.{Indent}
+use Rattle.sas_answers.specs.Words.{line, spaces_of}
+use Rattle.sas_answers.specs.declared.wording.LineStart.{LineStart}
+use Rattle.sas_answers.specs.declared.wording.Part.{Part}
+use Rattle.sas_answers.specs.declared.wording.Part.TheVariants as part
+use Rattle.sas_answers.specs.declared.wording.LineRest.{LineRest}
+use Rattle.sas_answers.specs.declared.wording.LineRest.TheVariants as rest
+use Rattle.sas_answers.specs.Line.{words_of}
+
+-- the names of the plan's steps, if there is a plan
+abbrev pub steps_of : Option (Bor PlanParts) → List (List ℕ)
+steps_of None = []
+steps_of (Some plan) = plan.now.steps
+
+-- a number, a verb and a fact
+abbrev pub verb_words : Parts → ℕ → List ℕ → Fact → List (List ℕ)
+verb_words p number verb fact = decimal number ∷ verb ∷ words_of p fact
+
+-- what a part of the task does with a fact
+abbrev pub part_words : Parts → Part → List (List ℕ)
+part_words p (part.Derives rule) =
+    verb_words p rule (codes "derives") (fact_of (change_of (rule_at p rule)))
+part_words p (part.Sets operator effect) = verb_words p effect (codes "sets")
+    (fact_of (change_of (effect_at (operator_at p operator) effect)))
+part_words p (part.Requires number fact) = verb_words p number (codes "requires") fact
+
+-- a step, and an operator that it could also be
+abbrev pub could_be_words : ℕ → ℕ → List (List ℕ)
+could_be_words step operator =
+    decimal step ∷ codes "could also be operator" ∷ decimal operator ∷ []
+
+-- a number, and a name
+abbrev pub named_words : ℕ → List ℕ → List (List ℕ)
+named_words number name = decimal number ∷ name ∷ []
+
+-- the words that follow the first ones
+abbrev pub rest_words : Parts → List (List ℕ) → LineRest → List (List ℕ)
+rest_words p steps rest.Nothing = []
+rest_words p steps (rest.Number number) = decimal number ∷ []
+rest_words p steps (rest.Sum sum) = decimal sum ∷ []
+rest_words p steps rest.Metric = decimal (if p.metric then 1 else 0) ∷ []
+rest_words p steps (rest.Step step) = named_words step (slice_index_or steps (step - 1) [])
+rest_words p steps (rest.Operator operator) = named_words operator (operator_at p operator).name
+rest_words p steps (rest.CouldBe step operator) = could_be_words step operator
+rest_words p steps (rest.OfFact fact) = words_of p fact
+rest_words p steps (rest.OfPart its) = part_words p its
+
+-- the line that begins so, and continues with these words
+abbrev pub line_with : LineStart → List (List ℕ) → List ℕ
+line_with start words = line (spaces_of start.indent) (start.words.now ∷ words)
+
+-- the line with these first words and this rest
+abbrev pub worded : Parts → List (List ℕ) → Indent → Bor (List ℕ) → LineRest → List ℕ
+worded p steps indent first its = line (spaces_of indent) (first.now ∷ rest_words p steps its)

@@ -1,0 +1,243 @@
+// Writes a line of words into a piece, if there is room for it. Most lines go this fast way: nothing is written to a device in between,
+// so only a lack of room can end it early. It is compiled into its callers, which know the first word and how many words there are.
+ghost use Rattle.std.specs.Prelude.{◌≡◌, ◌<◌, ◌≤◌, ◌+◌, ◌/◌, ◌%◌, [], ◌∷◌, ◌++◌, decimal, flat_map, length, replicate};
+ghost use Rattle.sas_answers.specs.Placing.{PlacesOrLeaves};
+ghost use Rattle.sas_answers.specs.Words.{behind_space, numbered_line, spaces_of, words_line};
+
+use crate::words::{Indent, NumberedLine, Word, Words};
+use itoa::Buffer;
+
+/// Writes the bytes at `at` of the piece. Returns their end, or `None` if there is no room.
+#[inline(always)]
+pub(crate) fn place(piece: &mut [u8], at: usize, bytes: &[u8]) -> Option<usize>
+    requires { at ≤ length piece.old }
+    ensures length { length piece.new ≡ length piece.old }
+    ensures places { PlacesOrLeaves piece.old piece.new at bytes.now result }
+{
+    if bytes.len() > piece.len() - at {
+        return None;
+    }
+    let end = at + bytes.len();
+    piece[at..end].copy_from_slice(bytes);
+    Some(end)
+}
+
+/// Writes a byte at `at`. Returns its end, or `None` if there is no room.
+#[inline(always)]
+fn place_byte(piece: &mut [u8], at: usize, byte: u8) -> Option<usize>
+    requires { at ≤ length piece.old }
+    ensures length { length piece.new ≡ length piece.old }
+    ensures places { PlacesOrLeaves piece.old piece.new at (byte ∷ []) result }
+{
+    if at == piece.len() {
+        return None;
+    }
+    piece[at] = byte;
+    Some(at + 1)
+}
+
+/// Writes a space and the bytes at `at`. Returns their end, or `None` if there is no room.
+#[inline(always)]
+fn place_behind_space(piece: &mut [u8], at: usize, bytes: &[u8]) -> Option<usize>
+    requires { at ≤ length piece.old }
+    ensures length { length piece.new ≡ length piece.old }
+    ensures places { PlacesOrLeaves piece.old piece.new at (32 ∷ bytes.now) result }
+{
+    let Some(behind_space) = place_byte(piece, at, b' ') else {
+        return None;
+    };
+    place(piece, behind_space, bytes)
+}
+
+/// Writes a space and a number below 100 at `at`. Returns its end, or `None` if there is no room.
+#[inline(always)]
+fn place_short(piece: &mut [u8], at: usize, number: u64) -> Option<usize>
+    requires at { at ≤ length piece.old }
+    requires short { number < 100 }
+    ensures length { length piece.new ≡ length piece.old }
+    ensures places { PlacesOrLeaves piece.old piece.new at (32 ∷ decimal number) result }
+{
+    if piece.len() - at < 3 {
+        return None;
+    }
+    piece[at] = b' ';
+    if number < 10 {
+        piece[at + 1] = b'0' + number as u8;
+        return Some(at + 2);
+    }
+    piece[at + 1] = b'0' + (number / 10) as u8;
+    piece[at + 2] = b'0' + (number % 10) as u8;
+    Some(at + 3)
+}
+
+/// Writes the two digits of a number below 100 at `at`. Returns their end, or `None` if there is no room.
+#[tactic(auto, using(crate::proofs::Placed::two_placed))]
+#[inline(always)]
+fn place_pair(piece: &mut [u8], at: usize, number: u64) -> Option<usize>
+    requires at { at ≤ length piece.old }
+    requires short { number < 100 }
+    ensures length { length piece.new ≡ length piece.old }
+    ensures places { PlacesOrLeaves piece.old piece.new at
+        ((48 + number / 10) ∷ (48 + number % 10) ∷ []) result }
+{
+    if piece.len() - at < 2 {
+        return None;
+    }
+    piece[at] = b'0' + (number / 10) as u8;
+    piece[at + 1] = b'0' + (number % 10) as u8;
+    Some(at + 2)
+}
+
+/// Writes a space and a number of any size at `at`. Returns its end, or `None` if there is no room.
+fn place_long(piece: &mut [u8], at: usize, number: u64) -> Option<usize>
+    requires { at ≤ length piece.old }
+    ensures length { length piece.new ≡ length piece.old }
+    ensures places { PlacesOrLeaves piece.old piece.new at (32 ∷ decimal number) result }
+{
+    let mut buffer = Buffer::new();
+    let digits = buffer.format(number).as_bytes();
+    place_behind_space(piece, at, digits)
+}
+
+/// Writes a space and a number below 10,000 at `at`. Returns its end, or `None` if there is no room.
+#[inline(always)]
+fn place_small(piece: &mut [u8], at: usize, number: u64) -> Option<usize>
+    requires at { at ≤ length piece.old }
+    requires small { number < 10000 }
+    ensures length { length piece.new ≡ length piece.old }
+    ensures places { PlacesOrLeaves piece.old piece.new at (32 ∷ decimal number) result }
+{
+    if number < 100 {
+        return place_short(piece, at, number);
+    }
+    let Some(behind_hundreds) = place_short(piece, at, number / 100) else {
+        return None;
+    };
+    place_pair(piece, behind_hundreds, number % 100)
+}
+
+/// Writes a space and a number of five to eight digits at `at`. Returns its end, or `None` if there is no room.
+fn place_middle(piece: &mut [u8], at: usize, number: u64) -> Option<usize>
+    requires at { at ≤ length piece.old }
+    requires large { 10000 ≤ number }
+    requires small { number < 100000000 }
+    ensures length { length piece.new ≡ length piece.old }
+    ensures places { PlacesOrLeaves piece.old piece.new at (32 ∷ decimal number) result }
+{
+    let hundreds = number / 100;
+    let Some(behind_ten_thousands) = place_small(piece, at, hundreds / 100) else {
+        return None;
+    };
+    let Some(behind_hundreds) = place_pair(piece, behind_ten_thousands, hundreds % 100) else {
+        return None;
+    };
+    place_pair(piece, behind_hundreds, number % 100)
+}
+
+/// Writes a space and a number at `at`. Most numbers are below 10,000, and these are written at once. Returns its end, or `None` if there
+/// is no room.
+#[inline(always)]
+fn place_number(piece: &mut [u8], at: usize, number: u64) -> Option<usize>
+    requires { at ≤ length piece.old }
+    ensures length { length piece.new ≡ length piece.old }
+    ensures places { PlacesOrLeaves piece.old piece.new at (32 ∷ decimal number) result }
+{
+    if number < 10_000 {
+        return place_small(piece, at, number);
+    }
+    if number < 100_000_000 {
+        return place_middle(piece, at, number);
+    }
+    place_long(piece, at, number)
+}
+
+/// Writes a space and a word at `at`. Returns its end, or `None` if there is no room.
+#[inline(always)]
+fn place_word(piece: &mut [u8], at: usize, word: Word<'_>) -> Option<usize>
+    requires { at ≤ length piece.old }
+    ensures length { length piece.new ≡ length piece.old }
+    ensures places { PlacesOrLeaves piece.old piece.new at (behind_space word.entry) result }
+{
+    match word {
+        Word::Text(bytes) => place_behind_space(piece, at, bytes),
+        Word::Number(number) => place_number(piece, at, number),
+    }
+}
+
+/// Writes the words at `at`, each after a space. Returns their end, or `None` if there is no room.
+#[inline(always)]
+fn place_rest(piece: &mut [u8], at: usize, words: &[Word<'_>]) -> Option<usize>
+    requires { at ≤ length piece.old }
+    ensures length { length piece.new ≡ length piece.old }
+    ensures places { PlacesOrLeaves piece.old piece.new at
+        (flat_map behind_space words.now) result }
+{
+    let mut end = at;
+    for word in words {
+        let Some(next) = place_word(piece, end, *word) else {
+            return None;
+        };
+        end = next;
+    }
+    Some(end)
+}
+
+/// Places the leading spaces of a line in the same way.
+#[inline(always)]
+fn place_spaces(piece: &mut [u8], at: usize, indent: Indent) -> Option<usize>
+    requires { at ≤ length piece.old }
+    ensures length { length piece.new ≡ length piece.old }
+    ensures places { PlacesOrLeaves piece.old piece.new at
+        (replicate (spaces_of indent) 32) result }
+{
+    match indent {
+        Indent::None => Some(at),
+        _ => place(piece, at, indent.spaces()),
+    }
+}
+
+/// Places the line and its end, LF, in the same way.
+#[inline(always)]
+pub(crate) fn place_line(piece: &mut [u8], at: usize, line: Words<'_>) -> Option<usize>
+    requires { at ≤ length piece.old }
+    ensures length { length piece.new ≡ length piece.old }
+    ensures places { PlacesOrLeaves piece.old piece.new at
+        (words_line line.entry ++ 10 ∷ []) result }
+{
+    let Some(behind_spaces) = place_spaces(piece, at, line.indent) else {
+        return None;
+    };
+    let Some(behind_first) = place(piece, behind_spaces, line.first) else {
+        return None;
+    };
+    let Some(behind_rest) = place_rest(piece, behind_first, line.rest) else {
+        return None;
+    };
+    place_byte(piece, behind_rest, b'\n')
+}
+
+/// Places a line of a word, three numbers and a name in the same way.
+#[inline(always)]
+pub(crate) fn place_numbered(piece: &mut [u8], at: usize, line: NumberedLine<'_>) -> Option<usize>
+    requires { at ≤ length piece.old }
+    ensures length { length piece.new ≡ length piece.old }
+    ensures places { PlacesOrLeaves piece.old piece.new at
+        (numbered_line line.entry ++ 10 ∷ []) result }
+{
+    let Some(behind_word) = place(piece, at, line.word) else {
+        return None;
+    };
+    let Some(behind_first) = place_number(piece, behind_word, line.first) else {
+        return None;
+    };
+    let Some(behind_second) = place_number(piece, behind_first, line.second) else {
+        return None;
+    };
+    let Some(behind_third) = place_number(piece, behind_second, line.third) else {
+        return None;
+    };
+    let Some(behind_name) = place_behind_space(piece, behind_third, line.name) else {
+        return None;
+    };
+    place_byte(piece, behind_name, b'\n')
+}

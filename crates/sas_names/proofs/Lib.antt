@@ -1,9 +1,0 @@
-mod TablePuts
-mod NamesFrom
-pub mod Searching
-mod NameShapes
-mod StepNumbers
-mod ChainsFrom
-mod FoundSteps
-mod LikelyOperators
-mod Imports

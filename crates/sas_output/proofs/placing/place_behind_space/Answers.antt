@@ -1,5 +1,0 @@
-use Rattle.sas_output.proofs.Placed.{places_then_either}
-use Rattle.sas_output.proofs.placing.place_behind_space.Goals as goal
-
-pub returns-clause-places : goal.returns-clause-places
-returns-clause-places c = places_then_either _ _ _ _ _ _ _ _ c.requires c.in-Some.ensures.places c.place.ensures.places

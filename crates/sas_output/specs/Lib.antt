@@ -1,9 +1,0 @@
-pub mod Ending
-pub mod Pieces
-pub mod Placing
-pub mod Sink
-pub mod Words
-pub mod Facts
-pub mod Laws
-pub mod Line
-pub mod Wording

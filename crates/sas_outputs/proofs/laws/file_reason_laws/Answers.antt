@@ -1,5 +1,0 @@
-use Rattle.sas_outputs.proofs.ReasonLines.{file_lines_are_reasons}
-use Rattle.sas_outputs.proofs.laws.file_reason_laws.Goals as goal
-
-pub returns : goal.returns
-returns c = file_lines_are_reasons

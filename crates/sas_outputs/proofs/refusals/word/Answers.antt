@@ -1,8 +1,0 @@
-use Rattle.sas_outputs.proofs.Imports.{rules}
-use Rattle.sas_outputs.proofs.refusals.word.Goals as goal
-
-pub returns-in-TooLong-clause-memory : goal.returns-in-TooLong-clause-memory
-returns-in-TooLong-clause-memory c = search rules
-
-pub returns-in-TooLong-clause-long : goal.returns-in-TooLong-clause-long
-returns-in-TooLong-clause-long c = search rules

@@ -1,0 +1,70 @@
+-- What is known of a run that was retraced up to a fault.
+use Rattle.sas_plan_reasons.proofs.Imports.{◌≡◌, ℕ, ◌-◌, List, [], ◌∷◌, ◌++◌, length, take, Option, None, Some, refl, sym, ◌∙◌, ap, subst, inl, inr, arith, append-nil, take-append_seam, Parts, PlanParts, operator_at, IsState, IsLayered, IsSettled, Agree, Conflict, LeadsTo, ComesTo, IsFaultOf, leads_one_way, Line, Run, last_state, StepsSucceed, leads_to_last, OtherOperator, PlanHistory, IsOtherIfAny, Retraces, IsBehind, ReportsOnce, last_rests, AreCouldBeLines, AreFaultLines, IsWhy}
+use Rattle.sas_answers.specs.declared.line.Line.TheVariants as line
+
+module _ (p : Parts) (plan : PlanParts) (noted : PlanHistory) (run : Run) (r : Retraces p plan noted run) where
+  pub behind : IsBehind p noted run
+  behind =
+      let rests = last_rests p run r.through in
+      record {
+        through = r.through;
+        last = r.last;
+        state = subst (IsState p.variables) (sym r.last) rests.0;
+        settled = subst (IsSettled p) (sym r.last) rests.1;
+        since = r.since;
+      }
+
+  pub last_is : noted.last ≡ last_state run
+  last_is = r.last
+
+  pub operators_are : noted.operators.items ≡ run.operators
+  operators_are = r.operators
+
+  pub operators_as_many : length run.operators ≡ length run.steps
+  operators_as_many = let through = r.through in through.operators
+
+  -- ---- why
+
+  pub is_why : (lines : List Line) → ReportsOnce lines (AreFaultLines p plan run noted.fault) → (new : List Line)
+      → ((other : OtherOperator) → noted.other ≡ Some other → new ≡ lines ++ line.CouldBe other.step other.operator ∷ [])
+      → (noted.other ≡ None → new ≡ lines)
+      → IsWhy p plan noted.fault new
+  is_why lines reported new some none = at noted.other refl
+    where
+      why : (others : List Line) → AreCouldBeLines p run others → new ≡ lines ++ others → IsWhy p plan noted.fault new
+      why others may is = record {
+        run = run;
+        went = r.ends.1;
+        through = r.through;
+        reasons = reported.0;
+        are = reported.1;
+        others = others;
+        may = may;
+        whole = is ∙ ap (λ (l : List Line). l ++ others) reported.2;
+      }
+
+      at : (other : Option OtherOperator) → noted.other ≡ other → IsWhy p plan noted.fault new
+      at None e = why [] (inr (subst (IsOtherIfAny p run) e r.other, refl)) (none e ∙ sym (append-nil lines))
+      at (Some other) e = why (line.CouldBe other.step other.operator ∷ [])
+          (inl (other.step, other.operator, subst (IsOtherIfAny p run) e r.other, refl)) (some other e)
+
+-- ---- the state before a step
+
+-- the steps before the one to which the plan comes lead to the last state of the run
+pub comes_to_last : (p : Parts) (plan : PlanParts) (run : Run) (step : ℕ) (s name : List ℕ) → IsLayered p → StepsSucceed p run
+    → run.steps ≡ take (step - 1) plan.steps → ComesTo p plan.steps step s name → s ≡ last_state run
+comes_to_last p plan run step s name layered through is comes =
+    (leads_one_way p layered comes.before comes.operators run.operators s (last_state run) comes.leads
+    (subst (λ names. LeadsTo p names run.operators (last_state run)) same (leads_to_last p run through))).1
+  where
+    same : run.steps ≡ comes.before
+    same = is ∙ (ap (λ n. take n plan.steps) (let place = comes.place in let e : step - 1 ≡ length comes.before = omega arith in e)
+        ∙ (ap (λ (steps : List (List ℕ)). take (length comes.before) steps) comes.whole ∙ take-append_seam comes.before (name ∷ comes.behind)))
+
+pub conflict_clashes : (p : Parts) (plan : PlanParts) (run : Run) (step operator : ℕ) → IsLayered p → StepsSucceed p run
+    → run.steps ≡ take (step - 1) plan.steps → IsFaultOf p plan (Conflict step operator) → Agree (last_state run) (operator_at p operator).effects → ⊥
+conflict_clashes p plan run step operator layered through is f agree =
+    f.4 (subst (λ s. Agree s (operator_at p operator).effects) (sym (comes_to_last p plan run step f.0 f.1 layered through is f.2)) agree)
+
+pub some_not_none : (a : OtherOperator) → Some a ≡ None → ⊥
+some_not_none a e = cc

@@ -1,0 +1,152 @@
+-- The changes that were printed so far, in the order of the variables.
+use Rattle.sas_plan_reasons.proofs.Imports.{◌≡◌, ℕ, ◌+◌, ◌-◌, ◌<◌, ◌≤◌, Bool, true, false, not, ◌==◌, List, [], ◌∷◌, ◌++◌, length, map, filter, flat_map, get_or, codes, decimal, refl, sym, ◌∙◌, ap, subst, inl, inr, arith, if◌then◌else◌, slice_index, slice_set, cond, Contains, IsNonDecreasing, unwrap_or, cases_eq, cases_lt, cases_Bool, eq-eqb, variables_of, is_changed, change_line, change_lines, change_text, ListCoversChanges, eqb-true, same_number_lists, Parts, value_name, get_or_default, text, line}
+use Rattle.std.proofs.Common.{append-nil, get_or-set_other, get_or-set_same, length-set}
+use Rattle.sas_plan_reasons.proofs.Numbers.{said, said_more, said_quiet}
+
+-- ---- the same value, or another one
+pub is_same : (x y : ℕ) → x ≡ y → not (x == y) ≡ false
+is_same x y e = ap not (eq-eqb x y e)
+
+pub is_other : (x y : ℕ) → (x ≡ y → ⊥) → not (x == y) ≡ true
+is_other x y ne = elim (cases_Bool (x == y)) [
+  | inl t ↦ absurd (ne (eqb-true x y t))
+  | inr f ↦ ap not f
+]
+
+-- the number at the place where the list contains it
+place_of : (listed : List ℕ) (j : ℕ) (there : Contains listed j) → get_or listed there.0 0 ≡ j
+place_of listed j there = get_or_default listed there.0 0 j there.1 ∙ there.2
+
+module _ (p : Parts) (s s' : List ℕ) where
+  -- ---- the text of all changes
+
+  -- what a variable says, in the order of the variables
+  abbrev pub says : ℕ → List ℕ
+  says = change_text p s s'
+
+  one_text : (b : Bool) (var : ℕ) (vars : List ℕ) → text (map (change_line p s s') (cond b (var ∷ vars) vars))
+      ≡ (if b then change_line p s s' var ++ 10 ∷ [] else []) ++ text (map (change_line p s s') vars)
+  one_text true var vars = refl
+  one_text false var vars = refl
+
+  texts : (vars : List ℕ) → text (map (change_line p s s') (filter (is_changed s s') vars)) ≡ flat_map says vars
+  texts [] = refl
+  texts (var ∷ vars) = one_text (is_changed s s' var) var (filter (is_changed s s') vars) ∙ ap (λ (l : List ℕ). says var ++ l) (texts vars)
+
+  all_texts : text (change_lines p s s') ≡ said says (length p.variables)
+  all_texts = texts (variables_of p)
+
+  -- ---- the text of one
+
+  -- where the value that was printed is that of s
+  same_text : (printed : List ℕ) (var : ℕ) → get_or printed var 0 ≡ get_or s var 0 → change_text p printed s' var ≡ says var
+  same_text printed var e = ap (λ (x : ℕ). if not (x == slice_index s' var)
+      then line 0 (codes "change" ∷ decimal var ∷ decimal x ∷ decimal (slice_index s' var)
+      ∷ unwrap_or (value_name p.variables var (slice_index s' var)) [] ∷ []) ++ 10 ∷ []
+      else []) e
+
+  -- where it is that of s'
+  no_text : (printed : List ℕ) (var : ℕ) → get_or printed var 0 ≡ get_or s' var 0 → change_text p printed s' var ≡ []
+  no_text printed var e = ap (λ (b : Bool). if b then change_line p printed s' var ++ 10 ∷ [] else []) (is_same (get_or printed var 0) (get_or s' var 0) e)
+
+  -- ---- up to a variable
+
+  -- of the variables below b the values in s' were printed, of the others those in s
+  pub record PrintedUpTo (printed : List ℕ) (b : ℕ) : Type 0 where
+    pub fits : length printed ≡ length s'
+    pub below : (var : ℕ) → var < b → get_or printed var 0 ≡ get_or s' var 0
+    pub above : (var : ℕ) → b ≤ var → get_or printed var 0 ≡ get_or s var 0
+
+  -- this one is next, or the last one once more: those between have the same value in both
+  pub record IsNext (b var : ℕ) : Type 0 where
+    pub near : b ≤ var + 1
+    pub exists : var < length s'
+    pub still : (j : ℕ) → b ≤ j → j < var → get_or s' j 0 ≡ get_or s j 0
+
+  pub next_itself : (var : ℕ) → var < length s' → IsNext var var
+  next_itself var lt = record { near = omega arith; exists = lt; still = λ j le late. absurd (omega arith) }
+
+  module _ (printed : List ℕ) (b : ℕ) (up : PrintedUpTo printed b) where
+    module _ (var : ℕ) (next : IsNext b var) where
+      pub printed_next : PrintedUpTo (slice_set printed var (get_or s' var 0)) (var + 1)
+      printed_next = record {
+        fits = length-set printed var (get_or s' var 0) ∙ up.fits;
+        below = λ j lt. elim (cases_eq j var) [
+          | inl e ↦ subst (λ i. get_or (slice_set printed var (get_or s' var 0)) i 0 ≡ get_or s' i 0) (sym e)
+              (get_or-set_same printed var (get_or s' var 0) 0 (omega (arith, up.fits, next.exists)))
+          | inr ne ↦ get_or-set_other printed var j (get_or s' var 0) 0 ne ∙ before j ne lt
+        ];
+        above = λ j le.
+            let ne : j ≡ var → ⊥ = λ e. absurd (omega arith) in
+            get_or-set_other printed var j (get_or s' var 0) 0 ne ∙ up.above j (let n = next.near in omega arith);
+      }
+        where
+          before : (j : ℕ) → (j ≡ var → ⊥) → j < var + 1 → get_or printed j 0 ≡ get_or s' j 0
+          before j ne lt = elim (cases_lt j b) [
+            | inl early ↦ up.below j early
+            | inr late ↦ up.above j late ∙ sym (next.still j late (omega arith))
+          ]
+
+      pub text_next : said says b ++ change_text p printed s' var ≡ said says (var + 1)
+      text_next = elim (cases_lt var b) [
+        | inl again ↦
+            let e : b ≡ var + 1 = (let n = next.near in omega arith) in
+            ap (λ (l : List ℕ). said says b ++ l) (no_text printed var (up.below var again)) ∙ append-nil (said says b) ∙ ap (said says) e
+        | inr new ↦
+            let e : var ≡ b + (var - b) = omega arith in
+            let quiet : said says var ≡ said says b = ap (said says) e ∙ said_quiet says b (var - b) (λ j le lt. no_text s j (sym (next.still j le (omega arith)))) in
+            ap (λ (l : List ℕ). said says b ++ l) (same_text printed var (up.above var new))
+            ∙ ap (λ (l : List ℕ). l ++ says var) (sym quiet) ∙ said_more says var
+      ]
+
+    -- ---- in the end
+
+    module _ (fits : length s' ≡ length p.variables) (within : b ≤ length p.variables)
+        (still : (j : ℕ) → b ≤ j → j < length p.variables → get_or s' j 0 ≡ get_or s j 0) where
+      pub printed_all : printed ≡ s'
+      printed_all = same_number_lists printed s' up.fits (λ j lt. elim (cases_lt j b) [
+        | inl early ↦ up.below j early
+        | inr late ↦ up.above j late ∙ sym (still j late (omega (arith, up.fits, fits)))
+      ])
+
+      pub text_all : said says b ≡ text (change_lines p s s')
+      text_all =
+          let n = length p.variables in
+          let e : b + (n - b) ≡ n = omega arith in
+          sym (said_quiet says b (n - b) (λ j le lt. no_text s j (sym (still j le (omega arith))))) ∙ (ap (said says) e ∙ sym all_texts)
+
+  -- ---- up to a place of a list
+
+  -- the variables up to this place of the list are below b, the others aren't, but for the last one
+  pub record ListedUpTo (listed : List ℕ) (i b : ℕ) : Type 0 where
+    pub within : b ≤ length s'
+    pub before : (j : ℕ) → j < i → get_or listed j 0 < b
+    pub behind : (j : ℕ) → i ≤ j → j < length listed → b ≤ get_or listed j 0 + 1
+
+  module _ (listed : List ℕ) (up : IsNonDecreasing listed) (cover : ListCoversChanges s s' listed) (fits : length s ≡ length s') (i b : ℕ) (at : ListedUpTo listed i b) where
+    module _ (lt : i < length listed) where
+      pub listed_next : IsNext b (get_or listed i 0)
+      listed_next = record {
+        near = at.behind i (omega arith) lt;
+        exists = omega (arith, cover.exist i 0 lt, fits);
+        still = λ j le early. elim (cover.each j) [
+          | inl same ↦ same
+          | inr there ↦ let is = place_of listed j there in absurd (elim (cases_lt there.0 i) [
+            | inl front ↦ (let low = at.before there.0 front in omega arith)
+            | inr rest ↦ (let high = up i there.0 0 rest there.1 in omega arith)
+          ])
+        ];
+      }
+
+      pub listed_more : ListedUpTo listed (i + 1) (get_or listed i 0 + 1)
+      listed_more = record {
+        within = (let n = cover.exist i 0 lt in omega (arith, fits));
+        before = λ j early. (let high = up j i 0 (omega arith) lt in omega arith);
+        behind = λ j le late. (let high = up i j 0 (omega arith) late in omega arith);
+      }
+
+    pub listed_all : length listed ≤ i → (j : ℕ) → b ≤ j → j < length p.variables → get_or s' j 0 ≡ get_or s j 0
+    listed_all all j le lt = elim (cover.each j) [
+      | inl same ↦ same
+      | inr there ↦ absurd (let low = at.before there.0 (let w = there.1 in omega arith) in let is = place_of listed j there in omega arith)
+    ]

@@ -1,0 +1,125 @@
+-- What is noted of a run, step by step.
+use Rattle.std.proofs.lemmas.Grind.{common_steps}
+use Rattle.sas_plan_reasons.proofs.Imports.{◌≡◌, ℕ, ◌+◌, ◌<◌, List, length, get_or, Option, Some, None, sym, ◌∙◌, ap, subst, inl, inr, arith, cases_eq, same_lists, get_or_default, Parts, operator_at, PlanParts, Executed, next_name, next_operator, Executes, IsLaterIfAny, Run, state_at, last_state, StepsSucceed, RunEndsWith, as_many, executed_fits, name_is, IsSince, MayMean, Changes, OtherOperator, PlanHistory, RunNotes, HavePlaces, AreFirstChanges, NotesChanges, AddsOther, NotesStep, IsOtherIfAny, HaveSince, Retraces, first_steps, AreNotes}
+use Rattle.sas_plan_reasons.proofs.LongerRuns.{first_many, first_goes, first_last, first_more, first_all, none_since, one_more, since_changed, since_unchanged, may_mean_longer, still_none, may_mean_now}
+
+-- before the first step
+pub notes_start : (run : Run) (e : Executed) (changes : Changes) → Executes run e → e.made ≡ 0 → AreFirstChanges e.state changes
+    → AreNotes run e (record { changes = changes; other = None })
+notes_start run e changes executes made first = grind (arith, common_steps, executed_fits, none_since, first_goes, first_many)
+
+-- there is a place for each variable
+pub places : (run : Run) (e : Executed) (notes : RunNotes) → AreNotes run e notes → HavePlaces (length e.task.variables) notes.changes
+places run e notes are = grind (arith, common_steps, executed_fits)
+
+-- ---- one step more
+
+-- the values of the variables are those of the state
+values_are : (step : ℕ) (s : List ℕ) (old new : Changes) → NotesChanges step s old new → new.values.items ≡ s
+values_are step s old new notes = same_lists new.values.items s notes.places.values (λ k d lt.
+    get_or_default new.values.items k d 0 lt
+    ∙ ((notes.each k (omega (arith, notes.places.values))).value
+    ∙ get_or_default s k 0 d (omega (arith, notes.places.values))))
+
+module _ (p : Parts) (run : Run) (through : StepsSucceed p run) (name : List ℕ) (operator : ℕ) (next : List ℕ) where
+  -- since when each variable has its value there
+  since_longer : (old new : Changes) → old.values.items ≡ last_state run → length next ≡ length p.variables
+      → NotesChanges (length run.steps + 1) next old new → HaveSince p run old.since.items → HaveSince p (one_more run name operator next) new.since.items
+  since_longer old new before fits notes have = record {
+    one_each = notes.places.since ∙ fits;
+    each = λ var lt. elim (cases_eq (get_or (last_state run) var 0) (get_or next var 0)) [
+      | inl same ↦
+          let noted = notes.each var (omega (arith, fits)) in
+          subst (IsSince (one_more run name operator next) var)
+          (sym (noted.unchanged (ap (λ (vs : List ℕ). get_or vs var 0) before ∙ same)))
+          (since_unchanged p run through name operator next var (get_or old.since.items var 0) (have.each var lt) same)
+      | inr other ↦
+          let noted = notes.each var (omega (arith, fits)) in
+          subst (IsSince (one_more run name operator next) var)
+          (sym (noted.changed (λ same. other (sym (ap (λ (vs : List ℕ). get_or vs var 0) before) ∙ same))))
+          (since_changed p run through name operator next var other)
+    ];
+  }
+
+-- which other operator the steps may mean with the next one
+module _ (e : Executed) (run : Run) (through : StepsSucceed e.task run) (next : List ℕ) (named : (operator_at e.task (next_operator e)).name ≡ next_name e)
+    (state : e.state ≡ last_state run) (made : e.made ≡ length run.steps) where
+  abbrev longer : Run
+  longer = one_more run (next_name e) (next_operator e) next
+
+  other_longer : (noted noted' : Option OtherOperator) → IsOtherIfAny e.task run noted → AddsOther e noted noted' → IsOtherIfAny e.task longer noted'
+  other_longer (Some other) noted' may adds =
+      subst (IsOtherIfAny e.task longer) (sym adds) (may_mean_longer e.task run through (next_name e) (next_operator e) next other.step other.operator may)
+  other_longer None None none adds =
+      still_none e.task run through (next_name e) (next_operator e) next named none (subst (λ s. IsLaterIfAny e.task s (next_operator e) None) state adds)
+  other_longer None (Some other) none adds =
+      let later : IsLaterIfAny e.task (last_state run) (next_operator e) (Some other.operator) =
+      subst (λ s. IsLaterIfAny e.task s (next_operator e) (Some other.operator)) state adds.1 in
+      subst (λ k. MayMean e.task longer k other.operator) (sym (adds.0 ∙ ap (λ k. k + 1) made))
+      (may_mean_now e.task run through (next_name e) (next_operator e) next named none other.operator later.0 later.1)
+
+module _ (run : Run) (e : Executed) (notes : RunNotes) (are : AreNotes run e notes) (left : e.made < length e.operators)
+    (e' : Executed) (notes' : RunNotes) (step : NotesStep e notes e' notes') (along : Executes run e') where
+  through : StepsSucceed e.task run
+  through = are.executes.of_plan.through
+
+  within : e.made < length run.steps
+  within = omega (arith, as_many run e are.executes)
+
+  abbrev sofar : Run
+  sofar = first_steps run e.made
+
+  many : e.made ≡ length sofar.steps
+  many = sym (first_many e.task run through e.made (omega (arith, within)))
+
+  goes : StepsSucceed e.task sofar
+  goes = first_goes e.task run through e.made (omega (arith, within))
+
+  last : e.state ≡ last_state sofar
+  last = are.executes.state ∙ sym (first_last e.task run through e.made (omega (arith, within)))
+
+  named : (operator_at e.task (next_operator e)).name ≡ next_name e
+  named = ap (λ o. (operator_at e.task o).name) (sym step.advances.by) ∙ step.advances.chosen.of_name.named
+
+  -- these are the first steps then
+  longer_is : first_steps run e'.made ≡ one_more sofar (next_name e) (next_operator e) e'.state
+  longer_is = grind (arith, common_steps, first_more, through, within, one_more, name_is)
+
+  pub notes_longer : AreNotes run e' notes'
+  notes_longer = record {
+    executes = along;
+    values = values_are (e.made + 1) e'.state notes.changes notes'.changes step.changes;
+    since = subst (λ p. HaveSince p (first_steps run e'.made) notes'.changes.since.items) (sym step.advances.task)
+        (subst (λ r. HaveSince e.task r notes'.changes.since.items) (sym longer_is)
+        (since_longer e.task sofar goes (next_name e) (next_operator e) e'.state notes.changes notes'.changes (are.values ∙ last) step.advances.step.state.one_each
+        (subst (λ k. NotesChanges (k + 1) e'.state notes.changes notes'.changes) many step.changes) are.since));
+    other = subst (λ p. IsOtherIfAny p (first_steps run e'.made) notes'.other) (sym step.advances.task)
+        (subst (λ r. IsOtherIfAny e.task r notes'.other) (sym longer_is)
+        (other_longer e sofar goes e'.state named last many notes.other notes'.other are.other step.other));
+  }
+
+-- ---- in the end
+
+-- what was noted of all steps, up to the fault
+pub retraced : (p : Parts) (plan : PlanParts) (run : Run) (e : Executed) (notes : RunNotes) (noted : PlanHistory) → e.task ≡ p → e.made ≡ length e.operators → AreNotes run e notes
+    → RunEndsWith p plan run (Some noted.fault) → noted.operators.items ≡ e.operators → noted.last ≡ e.state → noted.since.items ≡ notes.changes.since.items → noted.other ≡ notes.other
+    → Retraces p plan noted run
+retraced p plan run e notes noted task all are ends operators last since other = record {
+  through = through';
+  ends = ends;
+  operators = operators ∙ sym are.executes.operators;
+  last = last ∙ (are.executes.state ∙ ap (state_at run) made);
+  since = subst (HaveSince p run) (sym since) (subst (λ q. HaveSince q run notes.changes.since.items) task
+      (subst (λ r. HaveSince e.task r notes.changes.since.items) whole are.since));
+  other = subst (IsOtherIfAny p run) (sym other) (subst (λ q. IsOtherIfAny q run notes.other) task
+      (subst (λ r. IsOtherIfAny e.task r notes.other) whole are.other));
+}
+  where
+    through' : StepsSucceed p run
+    through' = subst (λ q. StepsSucceed q run) task are.executes.of_plan.through
+
+    made : e.made ≡ length run.steps
+    made = all ∙ as_many run e are.executes
+
+    whole : first_steps run e.made ≡ run
+    whole = ap (first_steps run) made ∙ first_all p run through'

@@ -1,0 +1,38 @@
+-- No rule derives the value, or all of the variable's rules were reported before, or they are reported now.
+use Rattle.sas_plan_reasons.proofs.Imports.{◌≡◌, ◌<◌, ℕ, Bool, List, ◌++◌, length, get_or, false, sym, ◌∙◌, ap, subst, flat_map, All, on_ok_weaker, Contains-get_or, of_variable, places, can_give, failing_lines, keeping_lines, last_state, AddsLines}
+use Rattle.sas_plan_reasons.proofs.Composing.{no_rule, reported_before, reported_now}
+use Rattle.sas_plan_reasons.proofs.causes.report_keepers.Goals as goal
+
+pub returns-then-not-give_value : goal.returns-then-not-give_value
+returns-then-not-give_value g c = on_ok_weaker c.push.result
+    (no_rule c.args.task.now c.args.noted.now c.args.report.now c.push.new.self c.args.fact (sym c.give_value.ensures ∙ c.if-not-give_value.true))
+    c.push.ensures.ok
+
+pub returns-then-as_slice-var : goal.returns-then-as_slice-var
+returns-then-as_slice-var g c = reported_before c.args.task.now c.args.noted.now c.args.report.now c.args.fact
+    (sym c.give_value.ensures ∙ c.if-not-give_value.false)
+    (ap (λ (l : List Bool). get_or l c.args.fact.var false) (sym c.as_slice.ensures) ∙ c.if-as_slice-var.true)
+
+pub push_keepers-requires-clause-rules : goal.push_keepers-requires-clause-rules
+push_keepers-requires-clause-rules g c =
+    let p = c.args.task.now in
+    let are : c.get-rules.result.now ≡ places (can_give p c.args.fact.var) p.rules =
+    c.get-rules.ensures ∙ c.requires.report.2.rules.each c.args.fact.var c.requires.fact in
+    subst (All (λ (rule : ℕ). rule < length p.rules)) (sym are)
+    (λ k d lt. (of_variable p c.args.fact.var (get_or (places (can_give p c.args.fact.var) p.rules) k d) (Contains-get_or (places (can_give p c.args.fact.var) p.rules) k d lt)).0)
+
+pub returns : goal.returns
+returns g c =
+    let p = c.args.task.now in
+    let report = c.args.report.now in
+    let are : c.get-rules.result.now ≡ places (can_give p c.args.fact.var) p.rules =
+    c.get-rules.ensures ∙ c.requires.report.2.rules.each c.args.fact.var c.requires.fact in
+    on_ok_weaker c.push_keepers.result
+    (λ add. subst (λ (kept : List Bool). AddsLines p c.args.noted.now report
+    (record { lines = c.push_keepers.new.lines; origins = report.origins; rules = report.rules; kept = kept; next = report.next })
+    (λ run lines. lines ≡ keeping_lines p (last_state run) c.args.fact)) (sym c.set.ensures)
+    (reported_now p c.args.noted.now report c.push_keepers.new.lines c.args.fact c.requires.fact
+    (sym c.give_value.ensures ∙ c.if-not-give_value.false)
+    (ap (λ (l : List Bool). get_or l c.args.fact.var false) (sym c.as_slice.ensures) ∙ c.if-as_slice-var.false)
+    (subst (λ (rules : List ℕ). c.push_keepers.new.lines ≡ report.lines ++ flat_map (failing_lines p c.args.noted.now.last) rules) are add)))
+    c.push_keepers.ensures

@@ -1,0 +1,13 @@
+-- Each law is proved as a lemma.
+use Rattle.sas_plan_reasons.proofs.FoldedNames.{space_folds, folds_once, lowest_like}
+use Rattle.sas_plan_reasons.proofs.MayMean.{some_may_mean, one_may_mean}
+use Rattle.sas_plan_reasons.proofs.laws.name_laws.Goals as goal
+
+pub returns : goal.returns
+returns c = record {
+  space = space_folds;
+  once = folds_once;
+  lowest_like = lowest_like;
+  some_other = some_may_mean;
+  one_other = one_may_mean;
+}

@@ -1,0 +1,27 @@
+-- What the step may have changed is looked at, and noted.
+use Rattle.sas_plan_reasons.proofs.Imports.{◌∙◌, length, sym, ap, subst, Parts, IsState, HavePlaces}
+use Rattle.sas_plan_reasons.proofs.Looking.{covers}
+use Rattle.sas_plan_reasons.proofs.second_pass.note_step.Goals as goal
+
+pub note-requires-clause-places : goal.note-requires-clause-places
+note-requires-clause-places g c =
+    let advances = c.advance.ensures.advances in
+    let fits = c.state.ensures.fits in
+    let many = ap length c.state.ensures.now ∙ fits.one_each ∙ ap (λ (p : Parts). length p.variables) advances.task in
+    subst (λ n. HavePlaces n c.args.notes.now.changes) (sym many) c.requires.places
+
+pub note-requires-clause-cover : goal.note-requires-clause-cover
+note-requires-clause-cover g c =
+    let new = c.advance.new.self in
+    let advances = c.advance.ensures.advances in
+    let state = subst (λ (p : Parts). IsState p.variables new.state) advances.task c.state.ensures.fits in
+    rw (c.requires.values, c.state.ensures.now, c.deleted.ensures, c.touched_among-touched.ensures, c.touched.ensures)
+    (covers _ _ _ _ _ _ state advances.changes c.requires.derived)
+
+pub returns-clause-notes : goal.returns-clause-notes
+returns-clause-notes g c = record {
+  operator = c.advance.result;
+  advances = c.advance.ensures.advances;
+  other = c.other_with-notes.ensures;
+  changes = rw (c.requires.step, c.state.ensures.now) at c.note.ensures;
+}

@@ -1,0 +1,13 @@
+-- The variables that were listed, in order.
+use Rattle.sas_plan_reasons.proofs.Imports.{ℕ, List, refl, subst, IsNonDecreasingBy-from_sort, ListCoversChanges}
+use Rattle.sas_plan_reasons.proofs.ChangedLists.{covers_permuted}
+use Rattle.sas_plan_reasons.proofs.tracing.Tracer.push_changes.Goals as goal
+
+pub push_listed-requires-clause-cover : goal.push_listed-requires-clause-cover
+push_listed-requires-clause-cover g c =
+    let listed = c.list_changes.new.listed.items in
+    let covers = subst (λ (s : List ℕ). ListCoversChanges s c.args.execution.now.state listed) c.as_slice.ensures.value (c.if-list_changes.ensures refl) in
+    rw c.state.ensures.now (covers_permuted c.args.self.now.printed.items c.args.execution.now.state listed c.sort_unstable.new.self.items c.sort_unstable.ensures.permutation covers)
+
+pub push_listed-requires-clause-ascending : goal.push_listed-requires-clause-ascending
+push_listed-requires-clause-ascending g c = IsNonDecreasingBy-from_sort (λ (var : ℕ). var) c.sort_unstable.new.self.items c.sort_unstable.ensures.sorted

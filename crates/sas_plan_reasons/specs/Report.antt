@@ -1,0 +1,64 @@
+-- The lines of reasons that are reported of a run.
+use Rattle.std.specs.Prelude.{◌≡◌, ℕ, ◌↔◌, Bool, true, false, IsTrue, List, [], flat_map, length, Contains, slice_index_or}
+use Rattle.sas_core.specs.declared.parts.Fact.{Fact}
+use Rattle.sas_core.specs.declared.parts.Parts.{Parts}
+use Rattle.sas_core.specs.Grounded.{rule_at}
+use Rattle.sas_core.specs.Variables.{IsState}
+use Rattle.sas_meaning.specs.Settled.{IsSettled}
+use Rattle.sas_meaning.specs.Places.{places, can_give}
+use Rattle.sas_answers.specs.declared.line.Line.{Line}
+use Rattle.sas_answers.specs.declared.line.Line.TheVariants.{RuleDerives, RuleRequires}
+use Rattle.sas_axioms.specs.LayerRules.{AreRulesOf}
+use Rattle.sas_plan_reasons.specs.Lines.{with_lines}
+use Rattle.sas_run.specs.Runs.{Run, last_state, StepsSucceed}
+use Rattle.sas_plan_reasons.specs.Cause.{failing_lines}
+use Rattle.sas_plan_reasons.specs.declared.plan_history.PlanHistory.{PlanHistory}
+use Rattle.sas_plan_reasons.specs.declared.report.Report.{Report}
+use Rattle.sas_plan_reasons.specs.Origins.{is_reported, AreOrigins}
+use Rattle.sas_plan_reasons.specs.Retracing.{HaveSince}
+
+-- the run's last state is noted, and since when its values hold
+pub record IsBehind (p : Parts) (noted : PlanHistory) (run : Run) : Type 0 where
+  pub through : StepsSucceed p run
+  pub last : noted.last ≡ last_state run
+  pub state : IsState p.variables noted.last
+  pub settled : IsSettled p noted.last
+  pub since : HaveSince p run noted.since.items
+
+-- a line for each rule of the variable that can fire, with its first condition that fails
+abbrev pub lines_of_keepers : Parts → List ℕ → ℕ → List Line
+lines_of_keepers p s var = flat_map (failing_lines p s) (places (can_give p var) p.rules)
+
+-- whether these lines are noted as reported
+abbrev pub is_kept : Report → ℕ → Bool
+is_kept report var = slice_index_or report.kept var false
+
+-- a report of this state, which notes the lines of rules that it has
+pub record IsReport (p : Parts) (s : List ℕ) (report : Report) : Type 0 where
+  pub origins : AreOrigins p s report.origins
+  -- the rules that are noted so have a line
+  pub derived : (rule : ℕ)
+      → IsTrue (is_reported report.origins rule) ↔ Contains report.lines (RuleDerives rule)
+  pub rules : AreRulesOf p report.rules
+  pub one_each : length report.kept ≡ length p.variables
+  -- a variable that is noted has all its lines, another one has none
+  pub kept : (var : ℕ) → is_kept report var ≡ true → (line : Line)
+      → Contains (lines_of_keepers p s var) line → Contains report.lines line
+  pub not_kept : (rule : ℕ) (condition : Fact) → is_kept report (rule_at p rule).var ≡ false
+      → Contains report.lines (RuleRequires rule condition) → ⊥
+
+-- it is a report of the last state of a run
+abbrev pub IsReportOf : Parts → PlanHistory → Report → Type 0
+IsReportOf p noted report = (run : Run) × IsBehind p noted run × IsReport p noted.last report
+
+-- such lines of a run are added, each line of a rule once
+abbrev pub AddsLines : Parts → PlanHistory → Report → Report → (Run → List Line → Type 0) → Type 0
+AddsLines p noted old new Are = (run : Run) → IsBehind p noted run → IsReport p noted.last old
+    → (more : List Line)
+    × Are run more
+    × (new.lines ≡ with_lines old.lines more)
+    × IsReport p noted.last new
+
+-- such lines, each line of a rule once
+abbrev pub ReportsOnce : List Line → (List Line → Type 0) → Type 0
+ReportsOnce lines Are = (reasons : List Line) × Are reasons × (lines ≡ with_lines [] reasons)

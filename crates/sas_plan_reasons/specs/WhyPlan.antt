@@ -1,0 +1,122 @@
+-- Why a plan isn't valid: the lines of reasons after its verdict.
+use Rattle.std.specs.Prelude.{◌≡◌, ◌≢◌, ◌⊎◌, ℕ, ◌-◌, ◌<◌, List, [], ◌∷◌, ◌++◌, length, filter, sum_by, slice_index_or, bytes_eq}
+use Rattle.std.specs.Option.{option_map_or}
+use Rattle.sas_core.specs.declared.parts.Fact.{Fact}
+use Rattle.sas_core.specs.declared.parts.Operator.{Operator}
+use Rattle.sas_core.specs.declared.parts.Parts.{Parts}
+use Rattle.sas_core.specs.PlanParts.{PlanParts}
+use Rattle.sas_core.specs.Stepwise.{step_at}
+use Rattle.sas_core.specs.Grounded.{operator_at, effect_at}
+use Rattle.sas_meaning.specs.Steps.{preconditions, Fires}
+use Rattle.sas_meaning.specs.Places.{places}
+use Rattle.sas_run.specs.declared.plan_check.PlanFault.{PlanFault}
+use Rattle.sas_run.specs.declared.plan_check.PlanFault.TheVariants.{Memory, NoOperator, NotApplicable, Conflict, GoalMissed, CostDiffers}
+use Rattle.sas_answers.specs.declared.line.Line.{Line}
+use Rattle.sas_answers.specs.declared.line.Line.TheVariants as line
+use Rattle.sas_plan_reasons.specs.Lines.{with_lines, LineThen, LinesOfEach}
+use Rattle.sas_run.specs.Runs.{Run, last_state, StepsSucceed, steps_before}
+use Rattle.sas_plan_reasons.specs.Lowest.{AreLowest}
+use Rattle.sas_plan_reasons.specs.MayMean.{similar_operator, IsOther, MayMean}
+use Rattle.sas_plan_reasons.specs.Cause.{fails, IsCause}
+
+-- ---- no operator of that name
+
+-- a line for the lowest operator with a similar name, if any
+abbrev pub similar_name_lines : Parts → List ℕ → List Line
+similar_name_lines p name =
+    option_map_or (λ operator. line.SimilarOperator operator ∷ []) (similar_operator p name) []
+
+-- ---- not applicable
+
+-- the lines of an operator that isn't applicable: it, and the cause of each failing precondition
+abbrev pub AreFailedPreconditionLines : Parts → Run → ℕ → List Line → Type 0
+AreFailedPreconditionLines p run operator lines = LineThen (line.Operator operator)
+    (LinesOfEach (IsCause p run) (filter (fails (last_state run))
+    (preconditions (operator_at p operator)))) lines
+
+-- these lines for each operator of the name, ascending
+abbrev pub AreOperatorLines : Parts → Run → List ℕ → List Line → Type 0
+AreOperatorLines p run name lines = LinesOfEach (AreFailedPreconditionLines p run)
+    (places (λ (o : Operator). bytes_eq o.name name) p.operators) lines
+
+-- ---- conflicting effects
+
+-- an effect and an earlier one fire in the state and set one variable to different values
+pub record ConflictsWith (s : List ℕ) (o : Operator) (effect earlier : ℕ) : Type 0 where
+  pub before : earlier < effect
+  pub exists : effect < length o.effects
+  pub fires : Fires s (effect_at o earlier)
+  pub fires' : Fires s (effect_at o effect)
+  pub var : (effect_at o earlier).var ≡ (effect_at o effect).var
+  pub other : (effect_at o earlier).new ≢ (effect_at o effect).new
+
+-- the operator, the first effect that conflicts with an earlier one, and the lowest such one
+abbrev pub AreConflictLines : Parts → List ℕ → ℕ → List Line → Type 0
+AreConflictLines p s operator lines = (effect earlier : ℕ)
+    × AreLowest (ConflictsWith s (operator_at p operator)) effect earlier
+    × (lines ≡ line.Operator operator
+    ∷ line.ConflictingEffect operator earlier
+    ∷ line.ConflictingEffect operator effect
+    ∷ [])
+
+-- ---- goal fact not reached
+
+-- the goal fact with this index; if the index is out of range, variable 0 with value 0
+abbrev pub goal_fact_at : Parts → ℕ → Fact
+goal_fact_at p index = slice_index_or p.goal index (record { var = 0; value = 0 })
+
+-- the goal fact with this index, and its cause
+abbrev pub AreGoalFactLines : Parts → Run → ℕ → List Line → Type 0
+AreGoalFactLines p run index lines =
+    LineThen (line.GoalFact index) (IsCause p run (goal_fact_at p index)) lines
+
+-- these lines for each goal fact that doesn't hold
+abbrev pub AreGoalLines : Parts → Run → List Line → Type 0
+AreGoalLines p run lines =
+    LinesOfEach (AreGoalFactLines p run) (places (fails (last_state run)) p.goal) lines
+
+-- ---- cost differs
+
+-- the sum of the operators' cost lines, whatever the metric
+abbrev pub cost_lines_sum : Parts → List ℕ → ℕ
+cost_lines_sum p operators = sum_by (λ operator. (operator_at p operator).cost) operators
+
+-- the task's metric, the number of steps, and this sum
+abbrev pub cost_lines : Parts → Run → List Line
+cost_lines p run =
+    line.Metric ∷ line.Steps (length run.steps)
+    ∷ line.CostLines (cost_lines_sum p run.operators) ∷ []
+
+-- ---- after each of these
+
+-- a line for the first step that could also mean another operator, if any
+abbrev pub AreCouldBeLines : Parts → Run → List Line → Type 0
+AreCouldBeLines p run lines =
+    ((step operator : ℕ) × MayMean p run step operator × (lines ≡ line.CouldBe step operator ∷ []))
+    ⊎ (((k operator : ℕ) → IsOther p run k operator → ⊥) × (lines ≡ []))
+
+-- ---- why
+
+-- the lines for this fault, after a run of the steps before it (`Memory` is no fault of a plan)
+abbrev pub AreFaultLines : Parts → PlanParts → Run → PlanFault → List Line → Type 0
+AreFaultLines p plan run (NoOperator step) lines =
+    lines ≡ line.Step step ∷ similar_name_lines p (step_at plan (step - 1))
+AreFaultLines p plan run (NotApplicable step) lines =
+    LineThen (line.Step step) (AreOperatorLines p run (step_at plan (step - 1))) lines
+AreFaultLines p plan run (Conflict step operator) lines =
+    LineThen (line.Step step) (AreConflictLines p (last_state run) operator) lines
+AreFaultLines p plan run (GoalMissed index) lines = AreGoalLines p run lines
+AreFaultLines p plan run (CostDiffers sum) lines = lines ≡ cost_lines p run
+AreFaultLines p plan run Memory lines = ⊥
+
+-- the lines of reasons after the verdict on a plan with this fault
+pub record IsWhy (p : Parts) (plan : PlanParts) (fault : PlanFault) (lines : List Line)
+    : Type 0 where
+  pub run : Run
+  pub went : run.steps ≡ steps_before plan fault
+  pub through : StepsSucceed p run
+  pub reasons : List Line
+  pub are : AreFaultLines p plan run fault reasons
+  pub others : List Line
+  pub may : AreCouldBeLines p run others
+  pub whole : lines ≡ with_lines [] reasons ++ others

@@ -1,0 +1,173 @@
+// The causes of facts that fail.
+ghost use Rattle.std.specs.Prelude.{◌≡◌, ◌<◌, ℕ, [], ◌∷◌, ◌++◌, length, map, flat_map, find, OnOk, All, slice_index};
+ghost use Rattle.sas_core.specs.declared.parts.Fact.{Fact};
+ghost use Rattle.sas_core.specs.Variables.{IsState};
+ghost use Rattle.sas_meaning.specs.Places.{places, can_give};
+ghost use Rattle.sas_run.specs.Runs.{last_state};
+ghost use Rattle.sas_plan_reasons.specs.Cause.{fails, is_given, since_line, failing_lines};
+ghost use Rattle.sas_plan_reasons.specs.Cause.{AreDerivationLines, can_be_given, keeping_lines, IsCause};
+ghost use Rattle.sas_plan_reasons.specs.Report.{IsReportOf, AddsLines};
+
+use crate::origins::requires_rules;
+use crate::plan_history::PlanHistory;
+use crate::report::Report;
+use sas_answers::Line;
+use sas_core::{Fact, Grounded, Items};
+use sas_meaning::{Layered, State};
+use std::alloc::AllocError;
+
+/// Reports the cause of a fact that fails in the last state.
+pub fn report_cause<T: Grounded>(
+    task: &Layered<T>,
+    noted: &PlanHistory,
+    fact: Fact,
+    report: &mut Report,
+) -> Result<(), AllocError>
+    requires fact { fact.var < length task.now.variables }
+    requires report { IsReportOf task.now noted.now report.old }
+    ensures { OnOk result (AddsLines task.now noted.now report.old report.new
+        (λ run. IsCause task.now run fact)) }
+{
+    report_values(noted, fact, &mut report.lines)?;
+    report_givers(task, noted, fact.var, report)?;
+    if requires_rules(task, fact) {
+        report_keepers(task, noted, fact, report)
+    } else {
+        Ok(())
+    }
+}
+
+/// Reports the required fact, the actual one, and since when it holds.
+fn report_values(noted: &PlanHistory, fact: Fact, lines: &mut Items<Line>) -> Result<(), AllocError>
+    requires state { fact.var < length noted.now.last }
+    requires since { fact.var < length noted.now.since.items }
+    ensures { OnOk result (lines.new ≡ lines.old
+        ++ (Line.Requires fact
+        ∷ Line.Actual (record { var = fact.var; value = slice_index noted.now.last fact.var })
+        ∷ since_line (slice_index noted.now.since.items fact.var) ∷ [])) }
+{
+    let var = fact.var;
+    let value = noted.last.value(var);
+    let step = noted.since[var as usize];
+    let since = if step == 0 {
+        Line::SinceInitialState
+    } else {
+        Line::SinceStep { step }
+    };
+    lines.extend_from_slice(&[
+        Line::Requires { fact },
+        Line::Actual {
+            fact: Fact { var, value },
+        },
+        since,
+    ])
+}
+
+/// Reports which rules derive a variable's value, if it isn't its default.
+fn report_givers<T: Grounded>(
+    task: &Layered<T>,
+    noted: &PlanHistory,
+    var: u32,
+    report: &mut Report,
+) -> Result<(), AllocError>
+    requires var { var < length task.now.variables }
+    requires report { IsReportOf task.now noted.now report.old }
+    ensures { OnOk result (AddsLines task.now noted.now report.old report.new
+        (λ run. AreDerivationLines
+        (is_given task.now (last_state run) var) task.now (last_state run) var)) }
+{
+    // By its contract the task is well ranged and layered.
+    let _ = task.task();
+    let value = noted.last.value(var);
+    if !requires_rules(task, Fact { var, value }) {
+        return Ok(());
+    }
+    report.next.clear();
+    report
+        .origins
+        .report_derivation(task, var, &mut report.next)?;
+    push_givers(report.next.as_slice(), &mut report.lines)
+}
+
+/// Adds a line for each of the rules.
+#[tactic(auto, using(crate::proofs::Composing::map_more))]
+fn push_givers(rules: &[u32], lines: &mut Items<Line>) -> Result<(), AllocError>
+    ensures { OnOk result (lines.new ≡ lines.old ++ map Line.RuleDerives rules.now) }
+{
+    for rule in rules {
+        lines.push(Line::RuleDerives { rule: *rule })?;
+    }
+    Ok(())
+}
+
+/// Reports what the rules of the fact's variable require that fails, or that none of them derives the fact's value.
+fn report_keepers<T: Grounded>(
+    task: &Layered<T>,
+    noted: &PlanHistory,
+    fact: Fact,
+    report: &mut Report,
+) -> Result<(), AllocError>
+    requires fact { fact.var < length task.now.variables }
+    requires report { IsReportOf task.now noted.now report.old }
+    ensures { OnOk result (AddsLines task.now noted.now report.old report.new
+        (λ run lines. lines ≡ keeping_lines task.now (last_state run) fact)) }
+{
+    // By its contract the task is well ranged and layered.
+    let _ = task.task();
+    let var = fact.var as usize;
+    let rules = report.rules.get(var);
+    if !give_value(task, rules, fact) {
+        return report.lines.push(Line::NoRuleDerives);
+    }
+    if report.kept.as_slice()[var] {
+        return Ok(());
+    }
+    report.kept.set(var, true);
+    push_keepers(task, &noted.last, rules, &mut report.lines)
+}
+
+/// Returns whether the rules of the fact's variable that can fire derive the fact's value. All of them derive the same.
+fn give_value<T: Grounded>(task: &Layered<T>, rules: &[u32], fact: Fact) -> bool
+    requires { rules.now ≡ places (can_give task.now fact.var) task.now.rules }
+    ensures { result ≡ can_be_given task.now fact }
+{
+    // By its contract the task is well ranged and layered.
+    let _ = task.task();
+    match rules.first() {
+        Some(rule) => task.rule_change(*rule).new == fact.value,
+        None => false,
+    }
+}
+
+/// Adds, for each of the rules, a line for its first condition that fails.
+fn push_keepers<T: Grounded>(
+    task: &Layered<T>,
+    state: &State,
+    rules: &[u32],
+    lines: &mut Items<Line>,
+) -> Result<(), AllocError>
+    requires state { IsState task.now.variables state.now }
+    requires rules { All (λ (rule : ℕ). rule < length task.now.rules) rules.now }
+    ensures { OnOk result (lines.new
+        ≡ lines.old ++ flat_map (failing_lines task.now state.now) rules.now) }
+{
+    // By its contract the task is well ranged and layered.
+    let _ = task.task();
+    for rule in rules {
+        if let Some(fact) = first_failing(state, task.rule_conditions(*rule)) {
+            lines.push(Line::RuleRequires { rule: *rule, fact })?;
+        }
+    }
+    Ok(())
+}
+
+/// Returns the first of the facts that fails, if one does.
+fn first_failing(state: &State, facts: &[Fact]) -> Option<Fact>
+    requires { All (λ (f : Fact). f.var < length state.now) facts.now }
+    ensures { result ≡ find (fails state.now) facts.now }
+{
+    facts
+        .iter()
+        .copied()
+        .find(|fact| state.value(fact.var) != fact.value)
+}

@@ -1,0 +1,109 @@
+-- Outputs about one file.
+use Rattle.std.proofs.lemmas.Grind.{common_steps}
+use Rattle.sas_requests.proofs.Imports.{◌≡◌, ◌≢◌, ℕ, ◌+◌, ◌<◌, List, ◌∷◌, codes, length, length-append, arith, refl, sym, ap, subst, ◌∙◌, Option, Some, None, Result, Ok, Err, option_map, none-some, Parts, PlanParts, Fault, Kind, TooLong, Read, Memory, most_bytes, Format, FaultOf, KindAt, ReadsAs, Laws, plan_format, PlanKind, word_of, refusal, IsAnswerOrRefusal, FileOut, TaskOut, HasOneOutput, task_format, TaskSlot, word_slot, name_slot, number_slot, signed_slot, fact_slot, effect_slot, head_slot, NumbersKind, no_shape, no_value, plan_laws_hold, task_laws_hold, Refuses, Status, Output, OneAnswer, SomeAnswer}
+
+-- outputs are equal if their texts and statuses are
+pub same_output : (o q : Output) → o.text ≡ q.text → o.status ≡ q.status → o ≡ q
+same_output o q text status =
+    let one : o ≡ record { text = q.text; status = o.status } = ap (λ (x : List ℕ). let y : Output = record { text = x; status = o.status } in y) text in
+    one ∙ ap (λ (x : Status). let y : Output = record { text = q.text; status = x } in y) status
+
+-- no word, no refusal
+no_word : (word : Option (List ℕ)) (said : List ℕ → Output) → None ≡ option_map said word → word ≡ None
+no_word None said e = refl
+no_word (Some word) said e = absurd (none-some (said word) e)
+
+-- a kind that is refused has a word
+pub refused_kind : (k : Kind) (other : Kind) (said : List ℕ → Output) (o : Output) → word_of other ≡ None → option_map said (word_of k) ≡ Some o → k ≢ other
+refused_kind k other said o none e same =
+    none-some o (subst (λ (word : Option (List ℕ)). option_map said word ≡ Some o) (ap word_of same ∙ none) e)
+
+pub too_long_else : (k : Kind) (other : Kind) → k ≡ TooLong → (TooLong ≡ other → ⊥) → k ≢ other
+too_long_else k other e apart same = apart (sym e ∙ same)
+
+-- the fault of bytes that were read from a device
+pub reading_of_refusal : {V I S : Type 0} (F : Format V I S) (bytes : List ℕ) (At_end : Type 0) (f : Fault) → Refuses F bytes At_end f → f.kind ≢ Read → ReadsAs F most_bytes bytes (Err f)
+reading_of_refusal F bytes At_end f why other = grind (arith, common_steps)
+
+-- the fault is that of the input, unless memory ran out or a read failed
+abbrev pub IsFaultOf : {V I S : Type 0} → Format V I S → List ℕ → Fault → Type 0
+IsFaultOf F input f = f.kind ≢ Memory → f.kind ≢ Read → ReadsAs F most_bytes input (Err f)
+
+-- every kind of a wrong line has a word
+abbrev pub Worded : {V I S : Type 0} → Format V I S → Type 0
+Worded F = (s : _) (line : List ℕ) (k : Kind) → F.KindOf s line k → word_of k ≡ None → ⊥
+
+plan_kind_worded : (line : List ℕ) (k : Kind) → PlanKind line k → word_of k ≡ None → ⊥
+plan_kind_worded line k why none = grind (arith, common_steps, none-some)
+
+pub plan_worded : Worded plan_format
+plan_worded s line k = plan_kind_worded line k
+
+numbers_worded : (s : TaskSlot) (line : List ℕ) (k : Kind) → NumbersKind s line k → word_of k ≡ None → ⊥
+numbers_worded s line k (no_shape other) none = none-some _ (sym none)
+numbers_worded s line k (no_value shape) none = none-some _ (sym none)
+
+pub task_worded : Worded task_format
+task_worded (word_slot w) line k e none = none-some _ (sym none ∙ ap word_of e)
+task_worded name_slot line k e none = none-some _ (sym none ∙ ap word_of e)
+task_worded number_slot line k why none = numbers_worded number_slot line k why none
+task_worded signed_slot line k why none = numbers_worded signed_slot line k why none
+task_worded fact_slot line k why none = numbers_worded fact_slot line k why none
+task_worded effect_slot line k why none = numbers_worded effect_slot line k why none
+task_worded head_slot line k why none = numbers_worded head_slot line k why none
+
+module _ {V I S : Type 0} (F : Format V I S) (name : List ℕ) (IsAnswer : V → Output → Type 0) (bytes : List ℕ) where
+  pub file_refused : (f : Fault) (o : Output) → refusal name f ≡ Some o → IsFaultOf F bytes f → FileOut F name IsAnswer bytes (Some o)
+  file_refused f o e fault = (Err f, fault (refused_kind f.kind Memory _ o refl e) (refused_kind f.kind Read _ o refl e), sym e)
+
+  pub file_too_long : (f : Fault) → f.kind ≡ TooLong → IsFaultOf F bytes f → FileOut F name IsAnswer bytes None
+  file_too_long f e fault = (Err f, fault (too_long_else f.kind Memory e (λ h. absurd cc)) (too_long_else f.kind Read e (λ h. absurd cc)), rw e refl)
+
+  one_reading : OneAnswer IsAnswer → (r : Result V Fault) (o p : Option Output) → IsAnswerOrRefusal name IsAnswer r o → IsAnswerOrRefusal name IsAnswer r p → o ≡ p
+  one_reading one (Ok value) o p a b = a.2 ∙ ap Some (one value a.0 b.0 a.1 b.1) ∙ sym b.2
+  one_reading one (Err fault) o p a b = a ∙ sym b
+
+  pub one_file : Laws F → OneAnswer IsAnswer → (o p : Option Output) → FileOut F name IsAnswer bytes o → FileOut F name IsAnswer bytes p → o ≡ p
+  one_file laws one o p a b =
+      let same = laws.one_reading most_bytes bytes b.0 a.0 b.1 a.1 in
+      one_reading one a.0 o p a.2 (subst (λ (r : Result V Fault). IsAnswerOrRefusal name IsAnswer r p) same b.2)
+
+  some_reading : SomeAnswer IsAnswer → (r : Result V Fault) → ((o : Option Output) → IsAnswerOrRefusal name IsAnswer r o → ⊥) → ⊥
+  some_reading some (Ok value) none = some value (λ answer is. none (Some answer) (answer, is, refl))
+  some_reading some (Err fault) none = none (refusal name fault) refl
+
+  too_long_at : Worded F → (before : List ℕ) (byte : ℕ) (k : Kind) → KindAt F most_bytes before byte k → word_of k ≡ None → most_bytes < length before + 1
+  too_long_at worded before byte k at none = grind (arith, common_steps, none-some, worded)
+
+  too_long_fault : Worded F → (f : Fault) → FaultOf F most_bytes bytes f → word_of f.kind ≡ None → most_bytes < length bytes
+  too_long_fault worded f fault none =
+      let long = too_long_at worded fault.before fault.byte f.kind fault.kind none in
+      rw fault.whole (omega (arith, length-append fault.before (fault.byte ∷ fault.after)))
+
+  long_reading : Worded F → (r : Result V Fault) → ReadsAs F most_bytes bytes r → IsAnswerOrRefusal name IsAnswer r None → most_bytes < length bytes
+  long_reading worded r reads e = grind (arith, common_steps, none-some, too_long_fault, worded, no_word)
+
+  pub long_file : Worded F → FileOut F name IsAnswer bytes None → most_bytes < length bytes
+  long_file worded out = long_reading worded out.0 out.1 out.2
+
+  -- the bytes of a file have one output if each value has one answer
+  pub file_output : Laws F → Worded F → OneAnswer IsAnswer → SomeAnswer IsAnswer → HasOneOutput (FileOut F name IsAnswer bytes) (most_bytes < length bytes)
+  file_output laws worded one some = record {
+    one = one_file laws one;
+    some = λ none. laws.some_reading most_bytes bytes (λ r reads. some_reading some r (λ o is. none o (r, reads, is)));
+    long = long_file worded;
+  }
+
+-- an answer that is made of the value
+pub one_made : {V : Type 0} (answer : V → Output) → OneAnswer (λ v o. o ≡ answer v)
+one_made answer v o p a b = a ∙ sym b
+
+pub some_made : {V : Type 0} (answer : V → Output) → SomeAnswer (λ v o. o ≡ answer v)
+some_made answer v none = none (answer v) refl
+
+module _ (b : List ℕ) where
+  pub task_output : (IsAnswer : Parts → Output → Type 0) → OneAnswer IsAnswer → SomeAnswer IsAnswer → HasOneOutput (TaskOut IsAnswer b) (most_bytes < length b)
+  task_output IsAnswer = file_output task_format (codes "task") IsAnswer b task_laws_hold task_worded
+
+  pub plan_output : (IsAnswer : PlanParts → Output → Type 0) → OneAnswer IsAnswer → SomeAnswer IsAnswer → HasOneOutput (FileOut plan_format (codes "plan") IsAnswer b) (most_bytes < length b)
+  plan_output IsAnswer = file_output plan_format (codes "plan") IsAnswer b plan_laws_hold plan_worded

@@ -1,0 +1,130 @@
+-- What is printed of many plans says which of them solve the task.
+use Rattle.sas_requests.proofs.Imports.{◌≡◌, ℕ, zero, suc, ◌<◌, Bool, true, false, List, [], ◌∷◌, ◌++◌, length, get_or, codes, decimal, append_assoc, refl, sym, ap, subst, ◌∙◌, arith, inl, inr, Option, Some, Result, Ok, Err, IfOk, ◌↔◌, All, zip, is_some, if◌then◌else◌, list_all, Appends, append_cancel_left, append_cancel_right, All-get_or, All-from_get_or, AllPass-from_list_all, list_all-from_AllPass, Parts, IsLayered, IsLabel, HaveBytes, JudgeFault, tool_result, Judged, HasCost, IsJudged, PlansAnswer, JudgeOut, is_valid, labelled, unjudged, PlansHeadline, line_of, labelled_valid, lines, lines-one, ReadsAs, most_bytes, plain, task_format, Status, Yes, No, Ends, Output, VerdictAnswer, valid_line, Solves, Headline, IsLayeredText, plain_refusal}
+use Rattle.sas_requests.proofs.Headlines.{reports_valid, headline_of, sent_same}
+use Rattle.sas_requests.proofs.PlanOutputs.{plain_refuses, not_refused}
+use Rattle.sas_requests.proofs.SideBySide.{zip_long, zip_at}
+use Rattle.sas_requests.proofs.JudgeLaws.{refuses_as_plan}
+use Rattle.sas_requests.proofs.LastBytes.{last, IsDigit, digit_behind}
+use Rattle.sas_requests.proofs.PlanLines.{IsLine, IsRefusal, verdict_line, labelled_line, line_at, task_refused}
+
+-- what is said of one plan, and what that shows
+record PlanReported (b c label : List ℕ) (j : Judged) : Type 0 where
+  output : Output
+  headline : Headline b c (Appends (Some []) (Some output.text)) output.status
+  line : labelled j ≡ label ++ codes ": " ++ output.text
+  valid : (output.status ≡ Yes) ↔ (is_valid j ≡ true)
+  is_line : IsLine (labelled j)
+
+status_valid : (c : List ℕ) (s : Status) (cost : Option ℕ) → HasCost c s cost → (s ≡ Yes) ↔ (is_some cost ≡ true)
+status_valid c Yes cost (plan, reads, is) = (λ e. rw is refl, λ e. refl)
+status_valid c No cost is = (λ e. absurd cc, λ e. (let other : false ≡ true = rw is at e in absurd cc))
+
+-- ---- of a layered task
+
+module _ (p : Parts) (layered : IsLayered p) (labels : List (List ℕ)) (b : List ℕ) (cs : List (List ℕ)) (reads : ReadsAs task_format most_bytes b (Ok p)) (many : length cs ≡ length labels) (are_labels : All IsLabel labels) where
+  plan_reported : (label c : List ℕ) (j : Judged) → IsLabel label → IsJudged p (label, c) j → PlanReported b c label j
+  plan_reported label c j is_label (o, out, same, line, cost) = record {
+    output = o;
+    headline = headline_of VerdictAnswer plain_refusal reports_valid plain_refuses b c o (inr (p, reads, layered, out)) (Some []) (Some o.text) [] o.status refl refl refl;
+    line = ap (λ (x : List ℕ). x ++ codes ": " ++ j.line) same ∙ ap (λ (x : List ℕ). label ++ codes ": " ++ x) line;
+    valid = status_valid c o.status j.cost cost;
+    is_line = labelled_line label j is_label same (subst IsLine (sym line) (verdict_line p c o out));
+  }
+
+  module _ (o : Output) (answer : PlansAnswer p (zip labels cs) o) where
+    all_long : length answer.all ≡ length labels
+    all_long = zip_long (IsJudged p) labels cs answer.all many answer.each
+
+    reported_at : (k : ℕ) → k < length labels → PlanReported b (get_or cs k []) (get_or labels k []) (get_or answer.all k unjudged)
+    reported_at k less =
+        plan_reported (get_or labels k []) (get_or cs k []) (get_or answer.all k unjudged) (All-get_or IsLabel labels k [] less are_labels) (zip_at (IsJudged p) unjudged labels cs answer.all k many answer.each less)
+
+    text_at : (k : ℕ) (less : k < length labels) → line_of o.text k ≡ get_or labels k [] ++ codes ": " ++ (reported_at k less).output.text
+    text_at k less =
+        ap (λ (x : List ℕ). line_of x k) answer.whole
+        ∙ line_at answer.all answer.summary k (λ i within. (reported_at i (omega (arith, all_long, within))).is_line) (omega (arith, all_long))
+        ∙ (reported_at k less).line
+
+    valid_at : (k steps cost : ℕ) → k < length labels → (line_of o.text k ≡ labelled_valid (get_or labels k []) steps cost) ↔ Solves b (get_or cs k []) (valid_line steps cost)
+    valid_at k steps cost less =
+        let reported = reported_at k less in
+        let both = reported.headline.line steps cost in (
+          λ e. both.0 (append_cancel_left (get_or labels k [] ++ codes ": ") reported.output.text (valid_line steps cost) (sym (text_at k less) ∙ e)),
+          λ solves. text_at k less ∙ ap (λ (x : List ℕ). get_or labels k [] ++ codes ": " ++ x) (both.1 solves),
+        )
+
+    all_solve : o.status ≡ Yes → (k : ℕ) → k < length labels → (steps cost : ℕ) × Solves b (get_or cs k []) (valid_line steps cost)
+    all_solve is_yes k less =
+        let reported = reported_at k less in
+        let pass = AllPass-from_list_all is_valid answer.all (all_pass (list_all is_valid answer.all) (sym answer.status ∙ is_yes)) in
+        reported.headline.yes.0 (reported.valid.1 (pass k unjudged (omega (arith, all_long))))
+      where
+        all_pass : (t : Bool) → (if t then Yes else No) ≡ Yes → t ≡ true
+        all_pass true e = refl
+        all_pass false e = absurd cc
+
+    status_yes : ((k : ℕ) → k < length labels → (steps cost : ℕ) × Solves b (get_or cs k []) (valid_line steps cost)) → o.status ≡ Yes
+    status_yes solve =
+        let pass = All-from_get_or (λ (j : Judged). is_valid j ≡ true) answer.all unjudged
+        (λ k less. let within : k < length labels = omega (arith, all_long, less) in let reported = reported_at k within in reported.valid.0 (reported.headline.yes.1 (solve k within))) in
+        answer.status ∙ ap (λ (t : Bool). if t then Yes else No) (list_all-from_AllPass is_valid answer.all pass)
+
+    headline_layered : (old new : Option (List ℕ)) (before : List ℕ) (status : Status) → old ≡ Some before → status ≡ o.status → Appends old new o.text → PlansHeadline labels b cs (Appends old new) status
+    headline_layered old new before status known is sent = record {
+      line = λ number steps cost out less sent_out.
+          subst (λ (x : List ℕ). (line_of x number ≡ labelled_valid (get_or labels number []) steps cost) ↔ Solves b (get_or cs number []) (valid_line steps cost)) (sent_same old new before o.text out known sent sent_out)
+          (valid_at number steps cost less);
+      yes = (λ e. ((p, reads, layered), all_solve (sym is ∙ e)), λ h. is ∙ status_yes h.1);
+    }
+
+-- ---- of a task that is refused
+
+not_valid : (line label : List ℕ) (steps cost : ℕ) → (IsDigit (last line) → ⊥) → line ++ 10 ∷ [] ≡ labelled_valid label steps cost → ⊥
+not_valid line label steps cost other e =
+    let front = label ++ codes ": " in
+    let words = codes "plan valid: " ++ decimal steps ++ codes " steps, cost " in
+    let regrouped : labelled_valid label steps cost ≡ (front ++ words ++ decimal cost) ++ 10 ∷ [] =
+    sym (append_assoc front (words ++ decimal cost) (10 ∷ [])) ∙ ap (λ (x : List ℕ). x ++ 10 ∷ []) (sym (append_assoc front words (decimal cost))) in
+    let same : line ≡ front ++ words ++ decimal cost = append_cancel_right line (front ++ words ++ decimal cost) (10 ∷ []) (e ∙ regrouped) in
+    other (subst (λ (x : List ℕ). IsDigit (last x)) (sym same) (digit_behind (front ++ words) cost))
+
+module _ (labels : List (List ℕ)) (b : List ℕ) (cs : List (List ℕ)) (o : Output) (out : JudgeOut labels b cs (Some o)) (refused : IsRefusal o) (unlayered : IsLayeredText b → ⊥) where
+  no_digit : (k : ℕ) → IsDigit (last (get_or (refused.line ∷ []) k [])) → ⊥
+  no_digit zero d = omega (arith, d.1, refused.letter)
+  no_digit (suc k) d = omega (arith, d.0)
+
+  no_line : (k steps cost : ℕ) (label : List ℕ) → line_of o.text k ≡ labelled_valid label steps cost → ⊥
+  no_line k steps cost label e =
+      let line = plain refused.line refused.plain in
+      let one : lines o.text ≡ refused.line ∷ [] = ap lines refused.is ∙ lines-one refused.line line.no_end ∙ ap (λ (x : List ℕ). x ∷ []) line.no_return in
+      not_valid (get_or (refused.line ∷ []) k []) label steps cost (no_digit k) (sym (ap (λ (x : List (List ℕ)). get_or x k [] ++ 10 ∷ []) one) ∙ e)
+
+  none_solves : (c : List ℕ) (steps cost : ℕ) → Solves b c (valid_line steps cost) → ⊥
+  none_solves c steps cost solves =
+      let h = headline_of VerdictAnswer plain_refusal reports_valid plain_refuses b c o (refuses_as_plan labels b cs o unlayered out c) (Some []) (Some o.text) [] o.status refl refl refl in
+      let apart : No ≡ Yes = sym refused.status ∙ h.yes.1 (steps, cost, solves) in
+      absurd cc
+
+  headline_refused : (old new : Option (List ℕ)) (before : List ℕ) (status : Status) → old ≡ Some before → status ≡ o.status → Appends old new o.text → PlansHeadline labels b cs (Appends old new) status
+  headline_refused old new before status known is sent = record {
+    line = λ number steps cost sent_out less sent_too. (
+      λ e. absurd (no_line number steps cost (get_or labels number []) (ap (λ (x : List ℕ). line_of x number) (sent_same old new before o.text sent_out known sent sent_too) ∙ e)),
+      λ solves. absurd (none_solves (get_or cs number []) steps cost solves),
+    );
+    yes = (λ e. (let apart : No ≡ Yes = sym refused.status ∙ sym is ∙ e in absurd cc), λ h. absurd (unlayered h.0));
+  }
+
+-- ---- both
+
+module _ (labels : List (List ℕ)) (are_labels : All IsLabel labels) (old new : Option (List ℕ)) (task : Option (List ℕ)) (known : ℕ → Option (List ℕ)) where
+  headline_of_output : (b : List ℕ) (cs : List (List ℕ)) (o : Output) (before : List ℕ) (status : Status) → length cs ≡ length labels → old ≡ Some before → status ≡ o.status → Appends old new o.text → JudgeOut labels b cs (Some o) → PlansHeadline labels b cs (Appends old new) status
+  headline_of_output b cs o before status many known_before is sent (inl refused) =
+      headline_refused labels b cs o (inl refused) (task_refused b o refused) (not_refused plain_refusal b (Some o) refused) old new before status known_before is sent
+  headline_of_output b cs o before status many known_before is sent (inr (p, reads, layered, answer)) = headline_layered p layered labels b cs reads many are_labels o answer old new before status known_before is sent
+
+  pub plans_headline : (r : Result Status JudgeFault) → ((b : List ℕ) (cs : List (List ℕ)) → task ≡ Some b → HaveBytes known (length labels) cs → Ends (JudgeOut labels b cs) (Appends old new) (tool_result r))
+      → IfOk r (λ status. (b before : List ℕ) (cs : List (List ℕ)) → task ≡ Some b → HaveBytes known (length labels) cs → old ≡ Some before → PlansHeadline labels b cs (Appends old new) status)
+  plans_headline (Ok status) ends = λ b before cs known_b have known_before.
+      let (o, out, is, sent) = ends b cs known_b have in
+      headline_of_output b cs o before status have.0 known_before is sent out
+  plans_headline (Err why) ends = tt

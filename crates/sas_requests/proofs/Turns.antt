@@ -1,0 +1,70 @@
+-- Which plans were opened, one after another, up to the end of a run.
+use Rattle.sas_requests.proofs.Imports.{◌≡◌, ◌≢◌, ℕ, suc, ◌+◌, ◌<◌, List, add-one, refl, sym, subst, arith, inl, inr, Option, Some, Result, Ok, Err, IfErr, IsErrOf, Status, ToolFault, IsWrite, EndsCounting, TaskOut, UnlayeredAnswer, plain_refusal, NotOpened, JudgeFault, Tool, tool_result, judge_result, IsRightlyLong, OpensFirst, OpensInTurn, OpensTo, EndsAt, IsOfPlan, IsOpened, OpensUntil}
+use Rattle.sas_requests.proofs.PlanOutputs.{not_refused}
+use Rattle.sas_requests.specs.declared.inputs.InputFault.TheVariants.{TooLong}
+use Rattle.sas_answers.specs.declared.ending.ToolFault.TheVariants as tool_fault
+use Rattle.sas_requests.specs.declared.inputs.InputFault.TheVariants.{Read}
+use Rattle.sas_requests.specs.declared.inputs.JudgeFault.TheVariants.{Plan}
+
+-- ---- the fault of one plan
+
+pub of_plan : {S I : Type 0} (gives : S → ℕ → Option I → S → Type 0) (number : ℕ) (old new : S) (why : JudgeFault) → EndsAt gives number old new why → IsOfPlan number why
+of_plan gives number old new (Plan other NotOpened) h = h.0
+of_plan gives number old new (Plan other Read) h = h.0
+of_plan gives number old new (Plan other TooLong) h = h.0
+of_plan gives number old new (Tool why) h = tt
+
+-- it isn't reported of the task
+pub not_of_task : {S I : Type 0} (gives : S → ℕ → Option I → S → Type 0) (number : ℕ) (old new : S) (why : JudgeFault) → EndsAt gives number old new why → why ≢ Tool tool_fault.Read
+not_of_task gives number old new (Plan other what) h e = absurd cc
+not_of_task gives number old new (Tool why) h e = (let same : why ≡ tool_fault.Read = cc in let memory : why ≡ tool_fault.Memory = h.0 in absurd cc)
+
+module _ {S I : Type 0} (gives : S → ℕ → Option I → S → Type 0) where
+  -- ---- one plan after another
+
+  pub opens_next : (count : ℕ) (old before new : S) → OpensFirst gives count old before → IsOpened gives count before new → OpensFirst gives (count + 1) old new
+  opens_next count old before new first opened = rw add-one (before, first, opened.0, opened.1)
+
+  pub opens_until : (count number : ℕ) (old before new : S) (why : JudgeFault) → number < count → OpensFirst gives number old before → EndsAt gives number before new why → OpensUntil gives count old new why
+  opens_until count number old before new (Plan other NotOpened) less first (is, gave) = subst (λ (m : ℕ). (m < count) × OpensTo gives m NotOpened old new) (sym is) (less, (before, first, gave))
+  opens_until count number old before new (Plan other Read) less first (is, opened) = subst (λ (m : ℕ). (m < count) × OpensTo gives m Read old new) (sym is) (less, (before, first, opened.0, opened.1))
+  opens_until count number old before new (Plan other TooLong) less first (is, opened) = subst (λ (m : ℕ). (m < count) × OpensTo gives m TooLong old new) (sym is) (less, (before, first, opened.0, opened.1))
+  opens_until count number old before new (Tool why) less first (is, opened) = (is, suc number, omega arith, (before, first, opened.0, opened.1))
+
+  -- ---- of the whole run
+
+  -- at a fault before anything is written
+  pub in_turn_fault : (task : Option (List ℕ)) (count : ℕ) (old new : S) (why : JudgeFault) → OpensUntil gives count old new why → OpensInTurn gives {A = Status} task count old new (Err why)
+  in_turn_fault task count old new (Plan number what) until = until
+  in_turn_fault task count old new (Tool why) (memory, number, within, first) = rw memory (number, within, first)
+
+  -- where the answer is written
+  pub in_turn_written : (task : Option (List ℕ)) (count : ℕ) (old new : S) (r : Result Status ToolFault) → IfErr r IsWrite → OpensFirst gives count old new → OpensInTurn gives task count old new (judge_result r)
+  in_turn_written task count old new (Ok status) write first = inl first
+  in_turn_written task count old new (Err (tool_fault.Write written)) write first = inl first
+  in_turn_written task count old new (Err tool_fault.Memory) write first = absurd write
+  in_turn_written task count old new (Err tool_fault.Read) write first = absurd write
+  in_turn_written task count old new (Err tool_fault.TooLong) write first = absurd write
+
+  -- where the task is refused, or wasn't read
+  pub in_turn_refused : (task : Option (List ℕ)) (count : ℕ) (plans : S) (Sent : List ℕ → Type 0) (r : Result Status ToolFault) → ((b : List ℕ) → task ≡ Some b → EndsCounting (TaskOut (UnlayeredAnswer plain_refusal) b) Sent r)
+      → OpensInTurn gives task count plans plans (judge_result r)
+  in_turn_refused task count plans Sent (Ok status) ends = inr (λ b known. let (o, out, same, sent) = ends b known in not_refused plain_refusal b (Some o) out, refl)
+  in_turn_refused task count plans Sent (Err (tool_fault.Write written)) ends = inr (λ b known. let (number, counts, (o, out, less, sent)) = ends b known in not_refused plain_refusal b (Some o) out, refl)
+  in_turn_refused task count plans Sent (Err tool_fault.Memory) ends = (0, omega arith, refl)
+  in_turn_refused task count plans Sent (Err tool_fault.Read) ends = refl
+  in_turn_refused task count plans Sent (Err tool_fault.TooLong) ends = refl
+
+-- ---- the end of a call, as one of a run over many plans
+
+pub tool_same : (r : Result Status ToolFault) → tool_result (judge_result r) ≡ r
+tool_same (Ok status) = refl
+tool_same (Err why) = refl
+
+pub tool_unread : (r : Result Status ToolFault) → IfErr r IsWrite → IsErrOf (judge_result r) (Tool tool_fault.Read) → ⊥
+tool_unread (Ok status) write e = absurd cc
+tool_unread (Err why) write e = let same : why ≡ tool_fault.Read = cc in subst IsWrite same write
+
+pub tool_long : (known : ℕ → Option (List ℕ)) (r : Result Status ToolFault) → IfErr (judge_result r) (IsRightlyLong known)
+tool_long known (Ok status) = tt
+tool_long known (Err why) = tt

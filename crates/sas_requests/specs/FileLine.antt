@@ -1,0 +1,117 @@
+-- Lines of the reasons why a file is refused.
+use Rattle.std.specs.Prelude.{ℕ, ◌+◌, ◌/◌, ◌%◌, ◌==◌, nat_lt, Bool, true, false, ◌&&◌, not, if◌then◌else◌}
+use Rattle.std.specs.Prelude.{List, [], ◌∷◌, ◌++◌, flat_map, codes, decimal}
+use Rattle.sas_reader.specs.declared.fault.Kind.{Kind}
+use Rattle.sas_reader.specs.declared.fault.Kind.TheVariants as kinds
+use Rattle.sas_answers.specs.Words.{line}
+use Rattle.sas_task_file.specs.Marks.{fixed_word_bytes}
+use Rattle.sas_task_file.specs.declared.marks.Due.{Due}
+use Rattle.sas_task_file.specs.declared.marks.Due.TheVariants as due
+use Rattle.sas_task_file.specs.declared.marks.Location.{Location}
+use Rattle.sas_task_file.specs.declared.marks.Location.TheVariants as at
+use Rattle.sas_task_file.specs.declared.marks.WrongWord.{WrongWord}
+
+-- a line as data
+pub data FileLine : Type 0 where
+  -- the location of the line in a task
+  At : Location → FileLine
+  -- what is expected there
+  Expected : Due → FileLine
+  -- what is expected in a plan at a fault of this kind
+  ExpectedInPlan : Kind → FileLine
+  -- the first wrong number, and which numbers are allowed
+  NumberMustBe : WrongWord → FileLine
+  -- the text at a fault of this kind: its first bytes, and whether more follow
+  Found : Kind → List ℕ → Bool → FileLine
+
+-- the words for a location in a task
+abbrev pub location_words : Location → List ℕ
+location_words at.Version = codes "version"
+location_words at.Metric = codes "metric"
+location_words at.Variables = codes "variables"
+location_words (at.Variable n) = codes "variable " ++ decimal n
+location_words at.Groups = codes "groups"
+location_words (at.Group n) = codes "group " ++ decimal n
+location_words at.State = codes "state"
+location_words at.Goal = codes "goal"
+location_words at.Operators = codes "operators"
+location_words (at.Operator n) = codes "operator " ++ decimal n
+location_words at.Rules = codes "rules"
+location_words (at.Rule n) = codes "rule " ++ decimal n
+location_words at.End = codes "the end"
+
+-- the words for what is expected in a task
+abbrev pub due_words : Due → List ℕ
+due_words (due.Word w) = fixed_word_bytes w
+due_words due.Name = codes "a name"
+due_words (due.Number least most) = codes "number " ++ decimal least ++ codes " to " ++ decimal most
+due_words due.Layer = codes "number -1 to 2147483647"
+due_words due.Fact = codes "fact: VAR VALUE"
+due_words due.Head = codes "head: VAR OLD NEW"
+due_words due.Effect = codes "effect: COUNT, COUNT times VAR VALUE, VAR OLD NEW"
+due_words due.Nothing = codes "end of file"
+
+-- the words for what is expected in a plan, by the kind of its fault
+abbrev pub plan_due_words : Kind → List ℕ
+plan_due_words kinds.Name = codes "(NAME)"
+plan_due_words kinds.Shape = codes "; cost = N (unit cost) or ; cost = N (general cost)"
+plan_due_words kinds.Trailing = codes "end of file"
+plan_due_words _ = codes "(NAME) or ; cost = N (unit cost) or ; cost = N (general cost)"
+
+-- the least number that is allowed in place of a wrong one
+abbrev pub least_words : Bool → List ℕ
+least_words true = codes "-1"
+least_words false = codes "0"
+
+-- whether a byte is shown as it is: from 32 to 126, but for the backslash
+abbrev pub is_shown : ℕ → Bool
+is_shown b = nat_lt 31 b && nat_lt b 127 && not (b == 92)
+
+-- the hexadecimal digit of a number below 16, in lower case
+abbrev pub hex_digit_of : ℕ → ℕ
+hex_digit_of n = if nat_lt n 10 then 48 + n else 87 + n
+
+-- a byte as `\x` and two hexadecimal digits
+abbrev pub in_digits : ℕ → List ℕ
+in_digits b = 92 ∷ 120 ∷ hex_digit_of (b / 16) ∷ hex_digit_of (b % 16) ∷ []
+
+-- a byte as it is shown
+abbrev pub shown_byte : ℕ → List ℕ
+shown_byte b = if is_shown b then b ∷ [] else in_digits b
+
+-- a whole text as it is shown: a space at its end as `\x20`
+abbrev pub shown_whole : List ℕ → List ℕ
+shown_whole [] = []
+shown_whole (b ∷ []) = if b == 32 then in_digits b else shown_byte b
+shown_whole (b ∷ next ∷ bytes) = shown_byte b ++ shown_whole (next ∷ bytes)
+
+-- the first bytes of a text as they are shown, and ` ..` if more follow
+abbrev pub shown : List ℕ → Bool → List ℕ
+shown bytes true = flat_map shown_byte bytes ++ codes " .."
+shown bytes false = shown_whole bytes
+
+-- the word before the text at a fault of this kind: `End` is that of an unfinished last line
+abbrev pub found_word : Kind → List ℕ
+found_word kinds.End = codes "unfinished"
+found_word _ = codes "found"
+
+-- the words in place of an empty text
+abbrev pub empty_words : Kind → List ℕ
+empty_words kinds.End = codes "end of file"
+empty_words _ = codes "empty line"
+
+-- the bytes of a line, without its end
+abbrev pub file_line_bytes : FileLine → List ℕ
+file_line_bytes (At at) = line 2 (codes "at" ∷ location_words at ∷ [])
+file_line_bytes (Expected d) = line 2 (codes "expected" ∷ due_words d ∷ [])
+file_line_bytes (ExpectedInPlan kind) = line 2 (codes "expected" ∷ plan_due_words kind ∷ [])
+file_line_bytes (NumberMustBe w) =
+    line 2 (codes "number" ∷ decimal w.word ∷ codes "must be" ∷ least_words w.may_be_none
+    ∷ codes "to" ∷ decimal w.most ∷ [])
+file_line_bytes (Found kind [] more) = line 2 (empty_words kind ∷ [])
+file_line_bytes (Found kind (b ∷ bytes) more) =
+    line 2 (found_word kind ∷ shown (b ∷ bytes) more ∷ [])
+
+-- the bytes of a line, with its end
+abbrev pub ended_line : FileLine → List ℕ
+ended_line l = file_line_bytes l ++ 10 ∷ []

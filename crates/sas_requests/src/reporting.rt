@@ -1,0 +1,159 @@
+// The reports on plans, one after another, and on all of them.
+ghost use Rattle.std.specs.Prelude.{◌≡◌, ◌↔◌, ◌⊎◌, ◌<◌, ◌++◌, ℕ, List, [], length, codes, decimal, false, Option, IfOk, IfErr, IsErrAnd, IsTrue, OnOk, slice_index_or};
+ghost use Rattle.std.specs.Io.KnownBytes.{Appends};
+ghost use Rattle.sas_answers.specs.Ending.{IsWrite};
+ghost use Rattle.sas_requests.specs.Inputs.{tool_fault};
+ghost use Rattle.sas_requests.specs.Judged.{Judged, labelled};
+ghost use Rattle.sas_requests.specs.InTurn.{OpensFirst, OpensInTurn};
+ghost use Rattle.sas_requests.specs.Judging.{AreReported, IsOneUnsaid, IsPlace, IsSaid, IsUnsaid, EndsAt, IsOpened, OpensUntil};
+ghost use Rattle.sas_requests.specs.Judging.{JudgesPlans, summary_of};
+
+use crate::inputs::{JudgeFault, PlanInputs, judge_ended};
+use crate::loaded::load;
+use crate::tally::Tally;
+use crate::verdicts::judge_plan;
+use sas_answers::{Answer, Status};
+use sas_axioms::Worklist;
+use sas_flat::FlatTask;
+use sas_lines::{Watched, push_number};
+use sas_meaning::Layered;
+use sas_run::LoadedTask;
+use std::alloc::{AllocError, Global};
+use std::io::Write;
+
+/// Judges the plans of a layered task. Then a line for each and the last line go out, with the status `Yes` if all plans are valid.
+pub fn report_plans<S: PlanInputs, W: Write>(
+    alloc: Global,
+    layered: Layered<FlatTask>,
+    plans: &mut S,
+    out: &mut Watched<W>,
+) -> Result<Status, JudgeFault>
+    requires { out.old.failed ≡ false }
+    ensures judges { JudgesPlans layered (S.bytes plans.old) (S.labels plans.old)
+        (Appends (W.contents out.old.device) (W.contents out.new.device)) result }
+    ensures nothing { IfErr result (λ e. IsWrite (tool_fault e) ⊎ (out.new ≡ out.old)) }
+    ensures opens { (task : Option (List ℕ)) → OpensInTurn S.open_gives task
+        (length (S.labels plans.old)) plans.old plans.new result }
+    ensures labels { S.labels plans.new ≡ S.labels plans.old }
+    ensures writes { IsErrAnd result (λ e. IsWrite (tool_fault e)) ↔ IsTrue out.new.failed }
+{
+    let mut loaded = load(alloc, layered)?;
+    let mut text = Vec::new(alloc);
+    let reported = report_each(alloc, &mut loaded, plans, &mut text);
+    drop(loaded);
+    let tally = match reported {
+        Ok(tally) => tally,
+        Err(fault) => return Err(fault),
+    };
+    push_summary(&mut text, tally, plans)?;
+    let status = if tally.valid == plans.count() {
+        Status::Yes
+    } else {
+        Status::No
+    };
+    judge_ended(Answer { text, status }.write(out))
+}
+
+/// Adds a line for each plan, and returns how many are valid, and the best of these.
+fn report_each<S: PlanInputs>(
+    alloc: Global,
+    loaded: &mut LoadedTask<Worklist, FlatTask>,
+    plans: &mut S,
+    text: &mut Vec<u8>,
+) -> Result<Tally, JudgeFault>
+    requires { text.old.items ≡ [] }
+    ensures ok { IfOk result (AreReported loaded.old (S.bytes plans.old) (S.labels plans.old)
+        (length (S.labels plans.old)) text.new.items) }
+    ensures err { IfErr result
+        (IsOneUnsaid loaded.old (S.bytes plans.old) (length (S.labels plans.old))) }
+    ensures opened { IfOk result
+        (λ _. OpensFirst S.open_gives (length (S.labels plans.old)) plans.old plans.new) }
+    ensures fault { IfErr result
+        (OpensUntil S.open_gives (length (S.labels plans.old)) plans.old plans.new) }
+    ensures labels { S.labels plans.new ≡ S.labels plans.old }
+{
+    let mut tally = Tally::new();
+    for number in 0..plans.count() {
+        match report_plan(alloc, loaded, plans, number, text) {
+            Ok(cost) => tally.add(number, cost),
+            Err(fault) => return Err(fault),
+        }
+    }
+    Ok(tally)
+}
+
+/// Adds the line of the plan with this number, and returns its cost if it is valid.
+fn report_plan<S: PlanInputs>(
+    alloc: Global,
+    loaded: &mut LoadedTask<Worklist, FlatTask>,
+    plans: &mut S,
+    number: usize,
+    text: &mut Vec<u8>,
+) -> Result<Option<u64>, JudgeFault>
+    requires { number < length (S.labels plans.old) }
+    ensures ok { IfOk result (λ cost. (judged : Judged)
+        × IsSaid loaded.old (S.bytes plans.old number)
+        (slice_index_or (S.labels plans.old) number []) judged
+        × (text.new.items ≡ text.old.items ++ labelled judged)
+        × (judged.cost ≡ cost)) }
+    ensures err { IfErr result (IsUnsaid loaded.old number (S.bytes plans.old number)) }
+    ensures opened { IfOk result (λ _. IsOpened S.open_gives number plans.old plans.new) }
+    ensures fault { IfErr result (EndsAt S.open_gives number plans.old plans.new) }
+    ensures same { loaded.new ≡ loaded.old }
+    ensures labels { S.labels plans.new ≡ S.labels plans.old }
+    ensures later { (k : ℕ) → number < k → S.bytes plans.new k ≡ S.bytes plans.old k }
+{
+    let verdict = match judge_plan(alloc, loaded, plans, number) {
+        Ok(verdict) => verdict,
+        Err(fault) => return Err(fault),
+    };
+    let cost = verdict.cost;
+    let pushed = push_labelled(text, plans.label(number), verdict.line.as_slice());
+    drop(verdict);
+    pushed?;
+    Ok(cost)
+}
+
+/// Adds the label, and then the line.
+fn push_labelled(text: &mut Vec<u8>, label: &[u8], line: &[u8]) -> Result<(), AllocError>
+    ensures { OnOk result (text.new.items
+        ≡ text.old.items ++ (label.now ++ codes ": " ++ line.now)) }
+{
+    text.extend_from_slice(label)?;
+    text.extend_from_slice(b": ")?;
+    text.extend_from_slice(line)?;
+    Ok(())
+}
+
+/// Adds the last line: how many plans there are, how many of them are valid, and the best of these.
+fn push_summary<S: PlanInputs>(
+    text: &mut Vec<u8>,
+    tally: Tally,
+    plans: &S,
+) -> Result<(), AllocError>
+    requires { IsPlace (S.labels plans.now) tally.best }
+    ensures { OnOk result (text.new.items
+        ≡ text.old.items ++ summary_of (S.labels plans.now) tally) }
+{
+    push_number(text, plans.count() as u128)?;
+    text.extend_from_slice(b" plans, ")?;
+    push_number(text, tally.valid as u128)?;
+    text.extend_from_slice(b" valid")?;
+    if let Some(best) = tally.best {
+        push_best(text, best.cost, plans.label(best.number))?;
+    }
+    text.push(b'\n')?;
+    Ok(())
+}
+
+/// Adds what a plan that costs least costs, and its label.
+fn push_best(text: &mut Vec<u8>, cost: u64, label: &[u8]) -> Result<(), AllocError>
+    ensures { OnOk result (text.new.items
+        ≡ text.old.items ++ (codes ", best cost " ++ decimal cost ++ codes ": " ++ label.now)) }
+{
+    text.extend_from_slice(b", best cost ")?;
+    push_number(text, u128::from(cost))?;
+    text.extend_from_slice(b": ")?;
+    text.extend_from_slice(label)?;
+    Ok(())
+}

@@ -1,0 +1,125 @@
+// The verdict on one of many plans.
+ghost use Rattle.std.specs.Prelude.{◌≡◌, ◌↔◌, ◌<◌, ℕ, length, false, IfOk, IfErr, IsErrOf, IsTrue};
+ghost use Rattle.sas_answers.specs.Ending.{IsWrite};
+ghost use Rattle.sas_requests.specs.Inputs.{tool_fault, tool_result};
+ghost use Rattle.sas_requests.specs.Judging.{EndsAt, IsBehindOpening, IsOpened, IsVerdictOnRefusal, Judges, IsVerdictOnPlan};
+
+use crate::inputs::{InputFault, JudgeFault, PlanInputs};
+use crate::refuse_file;
+use sas_answers::{Status, ToolFault, answer_by};
+use sas_axioms::Worklist;
+use sas_core::Stepwise;
+use sas_flat::{FlatPlan, FlatTask};
+use sas_lines::Watched;
+use sas_plan_file::read_flat_plan;
+use sas_reader::{Fault, Kind};
+use sas_run::LoadedTask;
+use std::alloc::{AllocError, Global};
+use std::io::Read;
+
+/// The report on a plan: the line that `plan` prints of it, with its end, and the plan's cost if it is valid.
+#[derive(Drop)]
+pub struct PlanReport {
+    pub line: Vec<u8>,
+    pub cost: Option<u64>,
+}
+
+/// Opens the plan with this number, reads it, and returns the verdict on it. The input is let go.
+pub fn judge_plan<S: PlanInputs>(
+    alloc: Global,
+    loaded: &mut LoadedTask<Worklist, FlatTask>,
+    plans: &mut S,
+    number: usize,
+) -> Result<PlanReport, JudgeFault>
+    requires { number < length (S.labels plans.old) }
+    ensures judges { Judges loaded.old (S.bytes plans.old number) (tool_result result) }
+    ensures opened { IfOk result (λ _. IsOpened S.open_gives number plans.old plans.new) }
+    ensures fault { IfErr result (EndsAt S.open_gives number plans.old plans.new) }
+    ensures same { loaded.new ≡ loaded.old }
+    ensures labels { S.labels plans.new ≡ S.labels plans.old }
+    ensures later { (k : ℕ) → number < k → S.bytes plans.new k ≡ S.bytes plans.old k }
+{
+    let Some(input) = plans.open(number) else {
+        return Err(JudgeFault::Plan {
+            number,
+            fault: InputFault::NotOpened,
+        });
+    };
+    let mut plan = Watched::new(input);
+    let judged = judge_input(alloc, loaded, &mut plan);
+    drop(plan);
+    match judged {
+        Ok(verdict) => Ok(verdict),
+        Err(fault) => Err(fault_of_plan(number, fault)),
+    }
+}
+
+/// Returns the fault of a run that ends at the plan with this number, which was opened.
+fn fault_of_plan(number: usize, fault: ToolFault) -> JudgeFault
+    ensures fault { tool_fault result ≡ fault }
+    ensures plan { IsBehindOpening number result }
+{
+    match fault {
+        ToolFault::Read => JudgeFault::Plan {
+            number,
+            fault: InputFault::Read,
+        },
+        ToolFault::TooLong => JudgeFault::Plan {
+            number,
+            fault: InputFault::TooLong,
+        },
+        ToolFault::Memory => JudgeFault::Tool(ToolFault::Memory),
+        ToolFault::Write { written } => JudgeFault::Tool(ToolFault::Write { written }),
+    }
+}
+
+/// Reads a plan, and returns the verdict on it. A plan file that is refused has a verdict, too.
+fn judge_input<P: Read>(
+    alloc: Global,
+    loaded: &mut LoadedTask<Worklist, FlatTask>,
+    plan: &mut Watched<P>,
+) -> Result<PlanReport, ToolFault>
+    requires { plan.old.failed ≡ false }
+    ensures judges { Judges loaded.old (P.remaining plan.old.device) result }
+    ensures reads { IsErrOf result ToolFault.Read ↔ IsTrue plan.new.failed }
+    ensures same { loaded.new ≡ loaded.old }
+{
+    match read_flat_plan(alloc, plan) {
+        Ok(read) => Ok(verdict_by(alloc, loaded, &read)?),
+        Err(refusal) => verdict_on_refusal(alloc, refusal.fault),
+    }
+}
+
+/// Returns the verdict that refuses a plan file for its fault, or why the run ends at it.
+fn verdict_on_refusal(alloc: Global, fault: Fault) -> Result<PlanReport, ToolFault>
+    ensures ok { IfOk result (IsVerdictOnRefusal fault) }
+    ensures long { IsErrOf result ToolFault.TooLong ↔ (fault.kind ≡ Kind.TooLong) }
+    ensures read { IsErrOf result ToolFault.Read ↔ (fault.kind ≡ Kind.Read) }
+    ensures writes { IfErr result (λ e. IsWrite e → ⊥) }
+{
+    let answer = refuse_file(alloc, "plan", fault)?;
+    Ok(PlanReport {
+        line: answer.text,
+        cost: None,
+    })
+}
+
+/// Returns the verdict on a plan that was read.
+fn verdict_by(
+    alloc: Global,
+    loaded: &mut LoadedTask<Worklist, FlatTask>,
+    plan: &FlatPlan,
+) -> Result<PlanReport, AllocError>
+    ensures verdict { IfOk result (λ v. IsVerdictOnPlan loaded.old plan.now v) }
+    ensures same { loaded.new ≡ loaded.old }
+{
+    let reported = answer_by(alloc, loaded, plan)?;
+    let cost = match reported.status {
+        Status::Yes => Some(plan.cost()),
+        Status::No => None,
+    };
+    Ok(PlanReport {
+        line: reported.text,
+        cost,
+    })
+}

@@ -1,0 +1,117 @@
+// The operators whose names occur in one plan.
+ghost use Rattle.std.specs.Prelude.{◌≡◌, IfOk};
+ghost use Rattle.sas_run.specs.Chains.{AreStepOperators};
+
+use crate::chains::Chains;
+use crate::looking_up::first_operators;
+use crate::names::{NamedTask, Names};
+use crate::step_names::StepNames;
+use sas_core::{Grounded, Stepwise};
+use std::alloc::{AllocError, Global};
+
+/// The operators whose names occur in one plan.
+pub struct StepOperators {
+    /// The lowest operator of each step's name, up to the first name that no operator has.
+    pub firsts: Vec<u32>,
+    /// The next operator of the same name, for each operator of one of these names.
+    pub next: Vec<Option<u32>>,
+}
+
+impl Drop for StepOperators {
+    fn drop(self) {
+        let StepOperators { firsts, next } = self;
+        drop(firsts);
+        drop(next);
+    }
+}
+
+/// The operators whose names occur in one plan, borrowed.
+#[derive(Clone, Copy)]
+pub struct PlanOperators<'f> {
+    /// The lowest operator of each step's name, up to the first name that no operator has.
+    pub firsts: &'f [u32],
+    /// The next operator of the same name, for each operator of one of these names.
+    pub nexts: &'f [Option<u32>],
+}
+
+impl StepOperators {
+    /// Finds the operators whose names occur in the plan. For a long plan (`is_long`), a table of all operators' names is faster than
+    /// one of the steps' names.
+    pub fn new<T: Grounded, P: Stepwise>(
+        alloc: Global,
+        task: &T,
+        plan: &P,
+    ) -> Result<StepOperators, AllocError>
+        ensures { IfOk result (λ o. AreStepOperators (T.says task.now) (P.says plan.now).steps
+            o.firsts.items o.next.items) }
+    {
+        if is_long(task, plan) {
+            StepOperators::by_operator_names(alloc, task, plan)
+        } else {
+            StepOperators::by_step_names(alloc, task, plan)
+        }
+    }
+
+    /// Looks up the names of the operators among those of the plan's steps.
+    fn by_step_names<T: Grounded, P: Stepwise>(
+        alloc: Global,
+        task: &T,
+        plan: &P,
+    ) -> Result<StepOperators, AllocError>
+        ensures { IfOk result (λ o. AreStepOperators (T.says task.now) (P.says plan.now).steps
+            o.firsts.items o.next.items) }
+    {
+        let names = StepNames::new(alloc, plan)?;
+        let chains = Chains::new(alloc, task, plan, &names)?;
+        let firsts = chains.firsts(alloc, names.of_steps())?;
+        Ok(StepOperators {
+            firsts,
+            next: chains.into_next(),
+        })
+    }
+
+    /// Looks up the names of the plan's steps among those of the operators.
+    fn by_operator_names<T: Grounded, P: Stepwise>(
+        alloc: Global,
+        task: &T,
+        plan: &P,
+    ) -> Result<StepOperators, AllocError>
+        ensures { IfOk result (λ o. AreStepOperators (T.says task.now) (P.says plan.now).steps
+            o.firsts.items o.next.items) }
+    {
+        let names = Names::new(alloc, task)?;
+        let named = NamedTask {
+            task,
+            names: &names,
+        };
+        let firsts = first_operators(alloc, &named, plan)?;
+        Ok(StepOperators {
+            firsts,
+            next: names.into_next(),
+        })
+    }
+
+    /// Returns both lists, borrowed.
+    pub fn found(&self) -> PlanOperators<'_>
+        ensures firsts { result.firsts.now ≡ self.now.firsts.items }
+        ensures nexts { result.nexts.now ≡ self.now.next.items }
+    {
+        PlanOperators {
+            firsts: self.firsts.as_slice(),
+            nexts: self.next.as_slice(),
+        }
+    }
+
+    /// Returns the next operator of the same name, for each operator of one of the steps' names.
+    pub fn nexts(&self) -> &[Option<u32>]
+        ensures { result.now ≡ self.now.next.items }
+    {
+        self.next.as_slice()
+    }
+}
+
+/// Returns whether the plan has at least half as many steps as the task has operators. Then building a table of all operators' names takes
+/// no longer than making the steps.
+fn is_long<T: Grounded, P: Stepwise>(task: &T, plan: &P) -> bool {
+    plan.steps() >= task.operators() as usize / 2
+}

@@ -1,0 +1,24 @@
+pub mod SectionReads
+pub mod TaskSections
+pub mod TaskLines
+pub mod TaskPlain
+pub mod TaskGrammar
+pub mod TaskFilling
+pub mod TaskLaws
+pub mod RowsOfPlaces
+pub mod Tracking
+pub mod TrackedSections
+pub mod TrackedTask
+pub mod DueBehind
+pub mod WrongWords
+pub mod MarkLaws
+pub mod SomeReason
+pub mod MayStand
+pub mod SomeWrongWord
+pub mod TaskReading
+pub mod TaskJudging
+mod Digits
+mod AheadReading
+mod LinesReading
+pub mod FirstWrongWords
+mod Imports

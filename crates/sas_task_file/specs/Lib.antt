@@ -1,0 +1,16 @@
+pub mod Process
+pub mod TaskTexts
+pub mod TaskFormat
+pub mod TaskProcess
+pub mod TaskLaws
+pub mod Marks
+pub mod Tracker
+pub mod TaskReasons
+pub mod TaskLine
+pub mod TaskWords
+pub mod TaskRanges
+pub mod Ahead
+pub mod Sections
+pub mod LinesBefore
+pub mod TaskEvents
+pub mod FirstWrong

@@ -1,0 +1,89 @@
+-- What each line of a task file adds to the content read so far.
+use Rattle.std.specs.Global.{Global}
+use Rattle.std.specs.Prelude.{ℕ, false, List, [], ◌∷◌, ◌++◌, ◌==◌, None}
+use Rattle.sas_core.specs.declared.parts.Fact.{Fact}
+use Rattle.sas_core.specs.declared.parts.Variable.{Variable}
+use Rattle.sas_core.specs.declared.parts.Operator.{Operator}
+use Rattle.sas_core.specs.declared.parts.Effect.{Effect}
+use Rattle.sas_core.specs.declared.parts.Parts.{Parts}
+use Rattle.sas_task_file.specs.declared.places.Event.{Event}
+use Rattle.sas_task_file.specs.declared.places.Event.TheVariants as event
+use Rattle.sas_task_file.specs.declared.task_events.LineValues.{LineValues}
+use Rattle.sas_task_file.specs.declared.so_far.SoFar.{SoFar}
+
+-- no parts were read yet
+abbrev pub no_parts : Parts
+no_parts = record {
+  metric = false;
+  variables = [];
+  groups = [];
+  init = [];
+  goal = [];
+  operators = [];
+  rules = [];
+}
+
+-- nothing was read yet
+abbrev pub nothing_yet : Global → SoFar
+nothing_yet alloc = record {
+  alloc = alloc;
+  parts = no_parts;
+  name = [];
+  layer = None;
+  values = [];
+  facts = [];
+  effects = [];
+}
+
+-- the variable, the operator or the rule that the current line completes
+abbrev pub finished_variable : SoFar → Variable
+finished_variable s = record { name = s.name; layer = s.layer; values = s.values }
+
+abbrev pub finished_operator : SoFar → LineValues → Operator
+finished_operator s said =
+    record { name = s.name; prevail = s.facts; effects = s.effects; cost = said.number }
+
+abbrev pub finished_rule : SoFar → LineValues → Effect
+finished_rule s said =
+    record { conditions = s.facts; var = said.head.var; old = said.head.old; new = said.head.new }
+
+-- parts with one more variable, group, operator or rule
+abbrev pub with_variable : Parts → Variable → Parts
+with_variable p v = record p { variables = p.variables ++ v ∷ [] }
+
+abbrev pub with_group : Parts → List Fact → Parts
+with_group p g = record p { groups = p.groups ++ g ∷ [] }
+
+abbrev pub with_operator : Parts → Operator → Parts
+with_operator p o = record p { operators = p.operators ++ o ∷ [] }
+
+abbrev pub with_rule : Parts → Effect → Parts
+with_rule p r = record p { rules = p.rules ++ r ∷ [] }
+
+-- the content after a line that adds this
+abbrev pub after : SoFar → Event → LineValues → List ℕ → SoFar
+after s event.Nothing said line = s
+after s event.Metric said line = record s { parts = record s.parts { metric = said.number == 1 } }
+after s event.Name said line = record s { name = line }
+after s event.Layer said line = record s { layer = said.layer }
+after s event.Values said line = record s { values = [] }
+after s event.Value said line = record s { values = s.values ++ line ∷ [] }
+after s event.Variable said line =
+    record s { parts = with_variable s.parts (finished_variable s); name = []; values = [] }
+after s event.Facts said line = record s { facts = [] }
+after s event.Fact said line = record s { facts = s.facts ++ said.fact ∷ [] }
+after s event.Group said line = record s { parts = with_group s.parts s.facts; facts = [] }
+after s event.State said line =
+    record s { parts = record s.parts { init = s.parts.init ++ said.number ∷ [] } }
+after s event.Goal said line =
+    record s { parts = record s.parts { goal = s.parts.goal ++ said.fact ∷ [] } }
+after s event.Effects said line = record s { effects = [] }
+after s event.Effect said line = record s { effects = s.effects ++ said.effect ∷ [] }
+after s event.Operator said line =
+    let o = finished_operator s said in
+    record s { parts = with_operator s.parts o; name = []; facts = []; effects = [] }
+after s event.Rule said line = record s {
+  parts = with_rule s.parts
+      (finished_rule s said);
+  facts = [];
+}

@@ -1,0 +1,258 @@
+// The table of places: for each place the location of the next line, what is expected there, what the line adds, and how it moves the
+// tracker.
+ghost use Rattle.std.specs.Prelude.{◌≡◌};
+ghost use Rattle.sas_task_file.specs.Tracker.{line_row, word_row, count_row, begin_row, list_row, item_row, next_number, this_number, most_value, value_due, IsRow};
+
+use crate::marks::{Due, FixedWord as Word, Location as At};
+use crate::places::{Event, Move, Place, Row};
+use crate::tracker::Tracker;
+
+/// The greatest number of a task file.
+const MOST: u32 = 2_147_483_647;
+
+/// Any number.
+const ANY_NUMBER: Due = Due::Number {
+    least: 0,
+    most: MOST,
+};
+
+/// Any number but 0.
+const POSITIVE_NUMBER: Due = Due::Number {
+    least: 1,
+    most: MOST,
+};
+
+/// The version.
+const VERSION: Due = Due::Number { least: 3, most: 3 };
+
+/// The metric.
+const METRIC: Due = Due::Number { least: 0, most: 1 };
+
+/// Returns the row of a line after which the place is `to`.
+fn line_row(at: At, due: Due, adds: Event, to: Place) -> Row
+    ensures { result ≡ line_row at due adds to }
+{
+    Row {
+        at,
+        due,
+        adds,
+        moves: Move::To(to),
+    }
+}
+
+/// Returns the row of a fixed word that adds nothing.
+fn word_row(at: At, word: Word, to: Place) -> Row
+    ensures { result ≡ word_row at word to }
+{
+    line_row(at, Due::Word(word), Event::Nothing, to)
+}
+
+/// Returns the row of a number of variables, groups, operators or rules.
+fn count_row(at: At, due: Due, to: Place) -> Row
+    ensures { result ≡ count_row at due to }
+{
+    Row {
+        at,
+        due,
+        adds: Event::Nothing,
+        moves: Move::Count(to),
+    }
+}
+
+/// Returns the row of the first line of one of these.
+fn begin_row(at: At, word: Word, to: Place) -> Row
+    ensures { result ≡ begin_row at word to }
+{
+    Row {
+        at,
+        due: Due::Word(word),
+        adds: Event::Nothing,
+        moves: Move::Begin(to),
+    }
+}
+
+/// Returns the row of a number of facts or effects.
+fn list_row(at: At, adds: Event, to: Place) -> Row
+    ensures { result ≡ list_row at adds to }
+{
+    Row {
+        at,
+        due: ANY_NUMBER,
+        adds,
+        moves: Move::List(to),
+    }
+}
+
+/// Returns the row of a value, a fact or an effect of a list.
+fn item_row(at: At, due: Due, adds: Event) -> Row
+    ensures { result ≡ item_row at due adds }
+{
+    Row {
+        at,
+        due,
+        adds,
+        moves: Move::Item,
+    }
+}
+
+impl Tracker {
+    /// Returns the number of the next variable, group, operator or rule.
+    fn next_number(&self) -> u32
+        ensures { result ≡ next_number self.now }
+    {
+        self.total.saturating_sub(self.left)
+    }
+
+    /// Returns the number of the current variable, group, operator or rule.
+    fn this_number(&self) -> u32
+        ensures { result ≡ this_number self.now }
+    {
+        self.next_number().saturating_sub(1)
+    }
+
+    /// Returns the greatest value of the next variable in the initial state.
+    pub fn most_value(&self) -> u32
+        ensures { result ≡ most_value self.now }
+    {
+        match self.ranges.get(self.ranges.len().saturating_sub(self.more)) {
+            Some(&range) => range.saturating_sub(1),
+            None => 0,
+        }
+    }
+
+    /// Returns what is expected as the value of the next variable in the initial state.
+    fn value_due(&self) -> Due
+        ensures { result ≡ value_due self.now }
+    {
+        Due::Number {
+            least: 0,
+            most: self.most_value(),
+        }
+    }
+
+    /// Returns the row of the next line in the table of places.
+    pub fn row(&self) -> Row
+        ensures { IsRow self.now result }
+    {
+        let next = self.next_number();
+        let this = self.this_number();
+        match self.place {
+            Place::VersionBegin => word_row(At::Version, Word::BeginVersion, Place::VersionNumber),
+            Place::VersionNumber => line_row(
+                At::Version,
+                VERSION,
+                Event::Nothing,
+                Place::VersionEnd,
+            ),
+            Place::VersionEnd => word_row(At::Version, Word::EndVersion, Place::MetricBegin),
+            Place::MetricBegin => word_row(At::Metric, Word::BeginMetric, Place::MetricNumber),
+            Place::MetricNumber => line_row(At::Metric, METRIC, Event::Metric, Place::MetricEnd),
+            Place::MetricEnd => word_row(At::Metric, Word::EndMetric, Place::VariableCount),
+            Place::VariableCount => count_row(At::Variables, POSITIVE_NUMBER, Place::Variables),
+            Place::Variables if self.left == 0 => count_row(At::Groups, ANY_NUMBER, Place::Groups),
+            Place::Variables => begin_row(
+                At::Variable(next),
+                Word::BeginVariable,
+                Place::VariableName,
+            ),
+            Place::VariableName => line_row(
+                At::Variable(this),
+                Due::Name,
+                Event::Name,
+                Place::VariableLayer,
+            ),
+            Place::VariableLayer => line_row(
+                At::Variable(this),
+                Due::Layer,
+                Event::Layer,
+                Place::VariableRange,
+            ),
+            Place::VariableRange => Row {
+                at: At::Variable(this),
+                due: POSITIVE_NUMBER,
+                adds: Event::Values,
+                moves: Move::Range(Place::VariableValues),
+            },
+            Place::VariableValues if self.more == 0 => line_row(
+                At::Variable(this),
+                Due::Word(Word::EndVariable),
+                Event::Variable,
+                Place::Variables,
+            ),
+            Place::VariableValues => item_row(At::Variable(this), Due::Name, Event::Value),
+            Place::Groups if self.left == 0 => Row {
+                at: At::State,
+                due: Due::Word(Word::BeginState),
+                adds: Event::Nothing,
+                moves: Move::State(Place::StateValues),
+            },
+            Place::Groups => begin_row(At::Group(next), Word::BeginMutexGroup, Place::GroupSize),
+            Place::GroupSize => list_row(At::Group(this), Event::Facts, Place::GroupFacts),
+            Place::GroupFacts if self.more == 0 => line_row(
+                At::Group(this),
+                Due::Word(Word::EndMutexGroup),
+                Event::Group,
+                Place::Groups,
+            ),
+            Place::GroupFacts => item_row(At::Group(this), Due::Fact, Event::Fact),
+            Place::StateValues if self.more == 0 => word_row(
+                At::State,
+                Word::EndState,
+                Place::GoalBegin,
+            ),
+            Place::StateValues => item_row(At::State, self.value_due(), Event::State),
+            Place::GoalBegin => word_row(At::Goal, Word::BeginGoal, Place::GoalSize),
+            Place::GoalSize => list_row(At::Goal, Event::Nothing, Place::GoalFacts),
+            Place::GoalFacts if self.more == 0 => word_row(
+                At::Goal,
+                Word::EndGoal,
+                Place::OperatorCount,
+            ),
+            Place::GoalFacts => item_row(At::Goal, Due::Fact, Event::Goal),
+            Place::OperatorCount => count_row(At::Operators, ANY_NUMBER, Place::Operators),
+            Place::Operators if self.left == 0 => count_row(At::Rules, ANY_NUMBER, Place::Rules),
+            Place::Operators => begin_row(
+                At::Operator(next),
+                Word::BeginOperator,
+                Place::OperatorName,
+            ),
+            Place::OperatorName => line_row(
+                At::Operator(this),
+                Due::Name,
+                Event::Name,
+                Place::PrevailCount,
+            ),
+            Place::PrevailCount => list_row(At::Operator(this), Event::Facts, Place::Prevail),
+            Place::Prevail if self.more == 0 => list_row(
+                At::Operator(this),
+                Event::Effects,
+                Place::Effects,
+            ),
+            Place::Prevail => item_row(At::Operator(this), Due::Fact, Event::Fact),
+            Place::Effects if self.more == 0 => line_row(
+                At::Operator(this),
+                ANY_NUMBER,
+                Event::Operator,
+                Place::OperatorEnd,
+            ),
+            Place::Effects => item_row(At::Operator(this), Due::Effect, Event::Effect),
+            Place::OperatorEnd => word_row(At::Operator(this), Word::EndOperator, Place::Operators),
+            Place::Rules if self.left == 0 => line_row(
+                At::End,
+                Due::Nothing,
+                Event::Nothing,
+                Place::Rules,
+            ),
+            Place::Rules => begin_row(At::Rule(next), Word::BeginRule, Place::RuleSize),
+            Place::RuleSize => list_row(At::Rule(this), Event::Facts, Place::RuleConditions),
+            Place::RuleConditions if self.more == 0 => line_row(
+                At::Rule(this),
+                Due::Head,
+                Event::Rule,
+                Place::RuleEnd,
+            ),
+            Place::RuleConditions => item_row(At::Rule(this), Due::Fact, Event::Fact),
+            Place::RuleEnd => word_row(At::Rule(this), Word::EndRule, Place::Rules),
+        }
+    }
+}

@@ -1,5 +1,0 @@
-use Rattle.sas_task_line.proofs.Imports.{arith, common_steps}
-use Rattle.sas_task_line.proofs.ahead.change_in_line.Goals as goal
-
-pub returns : goal.returns
-returns c = grind (arith, common_steps)

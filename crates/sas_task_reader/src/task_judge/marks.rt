@@ -1,0 +1,37 @@
+// The location of the next line, and what is expected there. It is needed only if a line is refused.
+ghost use Rattle.std.specs.Prelude.{◌≡◌, IfOk};
+ghost use Rattle.sas_task_file.specs.FirstWrong.{FirstWrong};
+ghost use Rattle.sas_task_reader.specs.TaskJudge.{StandsAsBefore};
+ghost use Rattle.sas_task_reader.specs.Marks.{mark_of, due_slot};
+
+use super::TaskJudge;
+use sas_task_file::{Due, Mark, WrongWord, wrong_in_effect, wrong_in_fact, wrong_in_head};
+use std::alloc::AllocError;
+
+impl TaskJudge {
+    /// Returns the location of the next line, and what is expected there.
+    #[cold]
+    pub fn mark(&self) -> Mark
+        ensures { result ≡ mark_of self.now }
+    {
+        let row = self.tracker.row();
+        Mark {
+            at: row.at,
+            due: row.due,
+        }
+    }
+
+    /// Parses a line again that was refused for a number. Returns its first wrong word, or `Err` if out of memory. Overwrites the effect in
+    /// `said`.
+    pub fn wrong_word(&mut self, line: &[u8]) -> Result<Option<WrongWord>, AllocError>
+        ensures word { IfOk result (FirstWrong self.old.tracker.ranges (due_slot self.old) line.now) }
+        ensures stands { StandsAsBefore self.old self.new }
+    {
+        match self.tracker.row().due {
+            Due::Fact => Ok(wrong_in_fact(&self.tracker.ranges, line)),
+            Due::Head => Ok(wrong_in_head(&self.tracker.ranges, line)),
+            Due::Effect => wrong_in_effect(&mut self.said.effect, &self.tracker.ranges, line),
+            _ => Ok(None),
+        }
+    }
+}

@@ -1,0 +1,146 @@
+// Accepts the lines of a task file: judges each line, and passes its content to a keeper.
+ghost use Rattle.std.specs.Prelude.{◌≡◌, ◌≢◌};
+
+use crate::keeper::Keeper;
+use crate::task_judge::{Section, TaskJudge};
+use sas_lines::without_return;
+use sas_reader::{Front, Kind, Machine};
+use sas_task_file::WrongWord;
+use std::alloc::Global;
+
+/// The judge of the lines, and the keeper of their content.
+#[derive(Drop)]
+pub struct TaskMachine<K> {
+    pub judge: TaskJudge,
+    pub kept: K,
+    /// The wrong word of the refused line, if it was refused for a number.
+    pub wrong: Option<WrongWord>,
+}
+
+impl<K: Keeper> TaskMachine<K> {
+    ghost use Rattle.std.specs.Prelude.{[]};
+    ghost use Rattle.sas_reader.specs.Machine.{AcceptsAhead};
+    ghost use Rattle.sas_task_reader.specs.TaskJudge.{SectionDue};
+    ghost use Rattle.sas_task_reader.specs.TaskMachine.{LedBy, IsFresh, MachineStopped};
+
+    /// Returns a machine that has accepted no line, with this keeper.
+    pub fn new(alloc: Global, kept: K) -> Self
+        requires { IsFresh K.keeps kept }
+        ensures led { LedBy K.keeps [] result }
+    {
+        TaskMachine {
+            judge: TaskJudge::new(alloc),
+            kept,
+            wrong: None,
+        }
+    }
+
+    /// Returns the keeper.
+    pub fn into_kept(self) -> K
+        ensures { result ≡ self.kept }
+    {
+        let TaskMachine { kept, .. } = self;
+        kept
+    }
+
+    /// Stores the wrong word of a line that was refused, if any. Returns the kind of its fault, or `Memory` if out of memory.
+    #[cold]
+    fn refuse(&mut self, line: &[u8], kind: Kind) -> Kind
+        ensures kind { result ≢ Kind.Memory → result ≡ kind }
+        ensures stopped { result ≢ Kind.Memory → MachineStopped self.old line.now kind self.new }
+        ensures some { kind ≡ Kind.Memory → result ≡ Kind.Memory }
+    {
+        self.wrong = None;
+        if kind == Kind::Value {
+            match self.judge.wrong_word(line) {
+                Ok(word) => self.wrong = word,
+                Err(_) => return Kind::Memory,
+            }
+        }
+        kind
+    }
+
+    /// If a whole variable starts here, stores it and moves past it.
+    fn variable_ahead(&mut self, bytes: &[u8]) -> Result<Front, Kind>
+        requires { SectionDue self.old.judge Section.Variable }
+        ensures { AcceptsAhead (LedBy K.keeps) self.old bytes.now self.new result }
+    {
+        let kept = self.kept.keep_variable(bytes)?;
+        if kept.front.bytes == 0 {
+            return Ok(kept.front);
+        }
+        self.judge.pass_variable(kept.range)?;
+        Ok(kept.front)
+    }
+
+    /// If a whole section starts here and the keeper stores it at once, moves past it. Otherwise returns `Front::EMPTY`.
+    fn section_ahead(&mut self, bytes: &[u8]) -> Result<Front, Kind>
+        ensures { AcceptsAhead (LedBy K.keeps) self.old bytes.now self.new result }
+    {
+        let Some(section) = self.judge.section_due() else {
+            return Ok(Front::EMPTY);
+        };
+        let ranges = self.judge.ranges();
+        let front = match section {
+            Section::Variable => return self.variable_ahead(bytes),
+            Section::Group => self.kept.keep_group(ranges, bytes)?,
+            Section::Operator => self.kept.keep_operator(ranges, bytes)?,
+            Section::Rule => self.kept.keep_rule(ranges, bytes)?,
+        };
+        if front.bytes > 0 {
+            self.judge.pass_section();
+        }
+        Ok(front)
+    }
+
+    /// Accepts the first lines of the bytes that the judge accepts ahead, one after another.
+    fn lines_ahead(&mut self, bytes: &[u8]) -> Result<Front, Kind>
+        ensures { AcceptsAhead (LedBy K.keeps) self.old bytes.now self.new result }
+    {
+        let mut lines = 0;
+        let mut rest = bytes;
+        while let Some((event, behind)) = self.judge.take_ahead(rest) {
+            let line = without_return(&rest[..rest.len() - behind.len() - 1]);
+            self.kept.keep(line, event, &mut self.judge.said)?;
+            lines += 1;
+            rest = behind;
+        }
+        Ok(Front {
+            lines,
+            bytes: bytes.len() - rest.len(),
+        })
+    }
+}
+
+impl<K: Keeper> Machine for TaskMachine<K> {
+    ghost use Rattle.sas_task_reader.specs.TaskJudge.{HasEnded, RejectsLine};
+    ghost use Rattle.sas_task_reader.specs.TaskMachine.{LedBy, MachineStopped};
+
+    ghost led_by = { LedBy K.keeps };
+
+    ghost ended = { λ m. HasEnded m.judge };
+
+    ghost rejects = { λ m line k. RejectsLine m.judge line k };
+
+    ghost stopped = { MachineStopped };
+
+    fn has_ended(&self) -> bool {
+        self.judge.has_ended()
+    }
+
+    fn accept(&mut self, line: &[u8]) -> Result<(), Kind> {
+        match self.judge.take(line) {
+            Ok(event) => self.kept.keep(line, event, &mut self.judge.said),
+            Err(kind) => Err(self.refuse(line, kind)),
+        }
+    }
+
+    #[inline(always)]
+    fn accept_ahead(&mut self, bytes: &[u8]) -> Result<Front, Kind> {
+        let section = self.section_ahead(bytes)?;
+        if section.bytes > 0 {
+            return Ok(section);
+        }
+        self.lines_ahead(bytes)
+    }
+}

@@ -1,5 +1,0 @@
-pub mod Trace
-pub mod Traced
-pub mod Laws
-pub mod Tracing
-pub mod Changes

@@ -1,7 +1,0 @@
--- The step is noted for the variables so far.
-use Rattle.sas_why.proofs.Imports.{ℕ}
-use Rattle.sas_why.proofs.Looking.{NotedUpTo}
-use Rattle.sas_why.proofs.changes.Changes.note_touched.Given as goal
-
-abbrev pub invariant-loop-var : goal.invariant-loop-var
-invariant-loop-var l = NotedUpTo (λ (v : ℕ). v) l.step l.state l.initial.self l.self l.touched l.var-index

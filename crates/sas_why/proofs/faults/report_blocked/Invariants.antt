@@ -1,7 +1,0 @@
--- Why the operators so far aren't applicable is reported.
-use Rattle.sas_why.proofs.Imports.{bytes_eq, Operator, places_to, LinesOfEach, AreFailedPreconditionLines, AddsLines}
-use Rattle.sas_why.proofs.faults.report_blocked.Given as goal
-
-abbrev pub invariant-loop-operator : goal.invariant-loop-operator
-invariant-loop-operator g l = AddsLines l.task l.noted l.initial.report l.report
-    (λ run. LinesOfEach (AreFailedPreconditionLines l.task run) (places_to (λ (o : Operator). bytes_eq o.name l.name) l.operator l.task.operators))
