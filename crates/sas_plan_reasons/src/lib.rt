@@ -1,4 +1,5 @@
-//! Why a plan isn't valid, and what its steps do: the lines that `--why` prints after the verdict, and the trace of a plan. No file is read.
+//! Why a plan isn't valid, and what its steps do: the lines that `--why` prints after the verdict, and the trace of a plan. No file is
+//! read.
 #![tactic(auto)]
 
 mod causes;

@@ -28,8 +28,8 @@ pub enum ReadTask {
     Refused(Status),
 }
 
-/// Reads a layered task. Where the file is no task, or the task isn't layered, writes the refusal instead. At `Write` the first bytes of the refusal were written; at any other fault nothing
-/// was. Not to be called with a device that has failed.
+/// Reads a layered task. Where the file is no task, or the task isn't layered, writes the refusal instead. At `Write` the first bytes of
+/// the refusal were written; at any other fault nothing was. Not to be called with a device that has failed.
 pub fn read_layered<R: Read, W: Write>(
     alloc: Global,
     detail: Detail,

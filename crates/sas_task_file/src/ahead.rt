@@ -181,8 +181,8 @@ fn are_equal<const N: usize>(a: &[u8; N], b: &[u8; N]) -> bool
     first_eight(a) == first_eight(b) && last_eight(a) == last_eight(b)
 }
 
-/// If the bytes begin with the fixed word and a line end, returns the bytes after them. The word is an array, since a word of constant length is
-/// compared without a call.
+/// If the bytes begin with the fixed word and a line end, returns the bytes after them. The word is an array, since a word of constant
+/// length is compared without a call.
 #[inline(always)]
 pub(crate) fn read_word<'a, const N: usize>(bytes: &'a [u8], word: &[u8; N]) -> Option<&'a [u8]>
     requires { IsName word.now }
@@ -195,8 +195,8 @@ pub(crate) fn read_word<'a, const N: usize>(bytes: &'a [u8], word: &[u8; N]) -> 
     behind_end(bytes, N, b'\n')
 }
 
-/// Returns the name before the line end, and the bytes after it. A name may have a byte up to CR, such as a tab; then its section is read line by
-/// line.
+/// Returns the name before the line end, and the bytes after it. A name may have a byte up to CR, such as a tab; then its section is read
+/// line by line.
 #[inline(always)]
 pub fn read_name(bytes: &[u8]) -> Option<(&[u8], &[u8])>
     ensures { IfSome result (λ found.

@@ -85,7 +85,8 @@ impl SoFar {
     }
 
     fn group(&mut self) -> Result<(), AllocError>
-        ensures { (said : LineValues) → OnOk result (self.new ≡ after self.old event.Group said []) }
+        ensures { (said : LineValues)
+            → OnOk result (self.new ≡ after self.old event.Group said []) }
     {
         let facts = mem::replace(&mut self.facts, Items::new(self.alloc));
         self.parts.groups.push(facts)

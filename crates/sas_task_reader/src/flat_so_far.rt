@@ -184,14 +184,16 @@ impl FlatSoFar {
     }
 
     fn name(&mut self, line: &[u8]) -> Result<(), AllocError>
-        ensures { (said : LineValues) → OnOk result (self.new ≡ after self.old event.Name said line.now) }
+        ensures { (said : LineValues)
+            → OnOk result (self.new ≡ after self.old event.Name said line.now) }
     {
         self.begun.name.clear();
         self.begun.name.extend_from_slice(line)
     }
 
     fn variable(&mut self) -> Result<(), AllocError>
-        ensures { (said : LineValues) → OnOk result (self.new ≡ after self.old event.Variable said []) }
+        ensures { (said : LineValues)
+            → OnOk result (self.new ≡ after self.old event.Variable said []) }
     {
         let added = self.variables.append(
             self.begun.name.as_slice(),
@@ -208,7 +210,8 @@ impl FlatSoFar {
     }
 
     fn group(&mut self) -> Result<(), AllocError>
-        ensures { (said : LineValues) → OnOk result (self.new ≡ after self.old event.Group said []) }
+        ensures { (said : LineValues)
+            → OnOk result (self.new ≡ after self.old event.Group said []) }
     {
         self.groups.append(self.begun.facts.as_slice())?;
         self.begun.facts.clear();

@@ -219,7 +219,8 @@ fn push_each_rule(out: &mut Vec<u8>, rules: &Items<Rule>) -> Result<(), AllocErr
 
 /// Appends the line with the number of rules, and the section of each rule.
 fn encode_rules(out: &mut Vec<u8>, rules: &Items<Rule>) -> Result<(), AllocError>
-    ensures { OnOk result (out.new.items ≡ out.old.items ++ text_of (counted rule_lines rules.now)) }
+    ensures { OnOk result
+        (out.new.items ≡ out.old.items ++ text_of (counted rule_lines rules.now)) }
 {
     encode_number(out, rules.len() as u128)?;
     push_each_rule(out, rules)

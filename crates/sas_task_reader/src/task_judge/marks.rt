@@ -24,7 +24,8 @@ impl TaskJudge {
     /// Parses a line again that was refused for a number. Returns its first wrong word, or `Err` if out of memory. Overwrites the effect in
     /// `said`.
     pub fn wrong_word(&mut self, line: &[u8]) -> Result<Option<WrongWord>, AllocError>
-        ensures word { IfOk result (FirstWrong self.old.tracker.ranges (due_slot self.old) line.now) }
+        ensures word { IfOk result
+            (FirstWrong self.old.tracker.ranges (due_slot self.old) line.now) }
         ensures stands { StandsAsBefore self.old self.new }
     {
         match self.tracker.row().due {
