@@ -95,8 +95,8 @@ pub record CountedSoFar (p : Parts) (s0 m : List ℕ) (w : Work) : Type 0 where
   pub held : (layer : ℕ) → SourcesHold p layer w.sources m s0
   pub empty : w.agenda.ready.items ≡ []
 
--- The task is layered. Layers below `layer` are settled in s. On the others, s has the derived values of the settled
--- state s0, and the rules that hold in exactly one of s0 and s are noted.
+-- The task is layered. Layers below `layer` are settled in s. On the others, s has the derived
+-- values of the settled state s0, and the rules that hold in exactly one of s0 and s are noted.
 pub record IsBetween (p : Parts) (s0 : List ℕ) (layer : ℕ) (s : List ℕ) (w : Work) : Type 0 where
   pub layered : IsLayered p
   pub track : IsOnTrack p layer s w

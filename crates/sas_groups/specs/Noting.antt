@@ -119,7 +119,8 @@ pub record IsSetApart (apart : Option Fact) (before after : Notes) : Type 0 wher
   pub same_groups : after.groups ≡ before.groups
 
 -- the record of the group with this index, including the fact set apart
-pub record IsCompleted (index : Index) (notes : Notes) (place : ℕ) (noted : GroupNote) : Type 0 where
+pub record IsCompleted (index : Index) (notes : Notes) (place : ℕ) (noted : GroupNote)
+    : Type 0 where
   pub with_apart : (fact : Fact) → HasApart index place notes.apart fact
       → IsNotedToo (group_note notes.groups place) fact noted
   pub without : ((fact : Fact) → HasApart index place notes.apart fact → ⊥)
@@ -146,7 +147,8 @@ pub record IsForgotten (p : Parts) (notes : Notes) (fact : Fact) : Type 0 where
       → (notes.apart ≡ Some fact) ⊎ (group_note notes.groups place ≡ Nothing)
 
 -- a fact is recorded for one of these groups that is in the family
-pub record HasNotedGroup (groups : List ℕ) (kept : List Bool) (noted : List GroupNote) : Type 0 where
+pub record HasNotedGroup (groups : List ℕ) (kept : List Bool) (noted : List GroupNote)
+    : Type 0 where
   pub place : ℕ
   pub among : Contains groups place
   pub kept_there : IsTrue (family_of kept place)

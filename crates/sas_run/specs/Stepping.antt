@@ -40,8 +40,8 @@ HasFactOn facts var = (fact : Fact) × Contains facts fact × (fact.var ≡ var)
 -- What is listed after a step from s to s'. The deleted facts held in s, and are on different basic
 -- variables. The variables in `touched` are derived. Each variable whose value differs has a
 -- deleted fact, or is derived and may have changed.
-pub record ListsChanges (p : Parts) (s s' : List ℕ) (deleted : List Fact) (touched : ChangedVariables)
-    : Type 0 where
+pub record ListsChanges (p : Parts) (s s' : List ℕ) (deleted : List Fact)
+    (touched : ChangedVariables) : Type 0 where
   pub basic : All (λ (f : Fact). IsBasic p f.var) deleted
   pub exist : All (λ (f : Fact). f.var < length p.variables) deleted
   pub held : AllHold (slice_index s) deleted

@@ -43,7 +43,8 @@ HasLabels words (Plans task labels) = bytes_of_labels labels.items ≡ words
 abbrev pub IsSource : Option (List ℕ) → Option Source → Type 0
 IsSource word None = word ≡ None
 IsSource word (Some Input) = word ≡ Some (codes "-")
-IsSource word (Some (File name)) = (word ≡ Some (string_bytes name)) × (string_bytes name ≢ codes "-")
+IsSource word (Some (File name)) =
+    (word ≡ Some (string_bytes name)) × (string_bytes name ≢ codes "-")
 
 -- a task and a plan aren't both standard input
 abbrev pub NamesInputOnce : Job → Type 0
