@@ -74,7 +74,7 @@ static const struct request {
 } requests[] = {
     {"sas_plan", NULL, NULL, sas_plan},
     {"sas_plan_why", NULL, NULL, sas_plan_why},
-    {"sas_plan_reasons", NULL, NULL, sas_plan_reasons},
+    {"sas_trace", NULL, NULL, sas_trace},
     {"sas_check", sas_check, NULL, NULL},
     {"sas_check_why", sas_check_why, NULL, NULL},
     {"sas_mutex", sas_mutex, NULL, NULL},

@@ -27,7 +27,7 @@ static enum sas_number number(size_t *size) {
 
 OVER_TWO(sas_plan)
 OVER_TWO(sas_plan_why)
-OVER_TWO(sas_plan_reasons)
+OVER_TWO(sas_trace)
 OVER_ONE(sas_check)
 OVER_ONE(sas_check_why)
 OVER_ONE(sas_mutex)

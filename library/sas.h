@@ -72,7 +72,7 @@ enum sas_number sas_check_why(const uint8_t *task, size_t task_length, uint8_t *
 enum sas_number sas_mutex_why(const uint8_t *task, size_t task_length, uint8_t *room, size_t room_length, size_t *size);
 
 /* What each step of a plan does, and whether the plan solves the task: `sas trace TASK PLAN`. */
-enum sas_number sas_plan_reasons(const uint8_t *task, size_t task_length, const uint8_t *plan, size_t plan_length,
+enum sas_number sas_trace(const uint8_t *task, size_t task_length, const uint8_t *plan, size_t plan_length,
                           uint8_t *room, size_t room_length, size_t *size);
 
 /* A task that is read once, for many plans. It holds a task exactly if `is_there` isn't 0. */
@@ -98,7 +98,7 @@ enum sas_number sas_task_plan(sas_task *task, const uint8_t *plan, size_t plan_l
 enum sas_number sas_task_plan_why(sas_task *task, const uint8_t *plan, size_t plan_length,
                                   uint8_t *room, size_t room_length, size_t *size);
 
-/* What each step of a plan does, and whether the plan solves the task that is held, as `sas_plan_reasons`. The task isn't read
+/* What each step of a plan does, and whether the plan solves the task that is held, as `sas_trace`. The task isn't read
    again. */
 enum sas_number sas_task_trace(sas_task *task, const uint8_t *plan, size_t plan_length,
                                uint8_t *room, size_t room_length, size_t *size);

@@ -169,7 +169,7 @@ inline std::string_view version() noexcept { return sas_version(); }
 inline Answer plan(Bytes task, Bytes plan) { return detail::of_both(sas_plan, task, plan, SAS_LINE_ROOM); }
 inline Answer plan_why(Bytes task, Bytes plan) { return detail::of_both(sas_plan_why, task, plan, detail::usual_room); }
 inline Answer trace(Bytes task, Bytes plan) {
-    return detail::of_both(sas_plan_reasons, task, plan, detail::usual_room + 10 * plan.size() + task.size() / 8);
+    return detail::of_both(sas_trace, task, plan, detail::usual_room + 10 * plan.size() + task.size() / 8);
 }
 inline Answer check(Bytes task) { return detail::of_one(sas_check, task, SAS_LINE_ROOM); }
 inline Answer check_why(Bytes task) { return detail::of_one(sas_check_why, task, detail::usual_room); }

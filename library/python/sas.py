@@ -142,7 +142,7 @@ def _call(name: str, *kinds: Any) -> Callable[..., int]:
 
 
 _FILE = (ctypes.c_void_p, ctypes.c_size_t)
-_PLAN, _PLAN_WHY, _TRACE = (_call(name, *_FILE, *_FILE) for name in ("sas_plan", "sas_plan_why", "sas_plan_reasons"))
+_PLAN, _PLAN_WHY, _TRACE = (_call(name, *_FILE, *_FILE) for name in ("sas_plan", "sas_plan_why", "sas_trace"))
 _CHECK, _CHECK_WHY = (_call(name, *_FILE) for name in ("sas_check", "sas_check_why"))
 _MUTEX, _MUTEX_WHY = (_call(name, *_FILE) for name in ("sas_mutex", "sas_mutex_why"))
 _SHOW, _PRINT, _STEPS = (_call(name, *_FILE) for name in ("sas_show", "sas_print", "sas_steps"))

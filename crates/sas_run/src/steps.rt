@@ -48,7 +48,7 @@ pub fn missed_precondition<T: Grounded>(
 
 /// Applies the effects that fire to the state. The operator must be applicable. On success `deleted` contains the facts that the effects
 /// made false, if they are noted. If two of the effects conflict, leaves the state and `deleted` unchanged and returns the fault.
-#[tactic(auto, using(crate::proofs::DeletedFacts::room_on))]
+#[tactic(auto, using(crate::proofs::Deleted::room_on))]
 #[inline(always)]
 pub fn apply<E: Settle<T> + Drop, T: Grounded>(
     task: &Layered<T>,

@@ -1,4 +1,4 @@
-// Calls of `judge` of `sas_plans` over devices, and of `judge_slices` over bytes in memory.
+// Calls of `judge` of `sas_requests` over devices, and of `judge_slices` over bytes in memory.
 
 use crate::{LONGEST_READ, say_answer};
 use sas_lines::Watched;

@@ -128,7 +128,7 @@ pub fn plan_why(task: &[u8], plan: &[u8]) -> Result<Answer, Error> {
 
 /// Checks a plan as [`plan`] does, and prints what each of its steps changes: `sas trace`.
 pub fn trace(task: &[u8], plan: &[u8]) -> Result<Answer, Error> {
-    of_both(sas_plan_reasons, task, plan, USUAL_ROOM + 10 * plan.len() + task.len() / 8)
+    of_both(sas_trace, task, plan, USUAL_ROOM + 10 * plan.len() + task.len() / 8)
 }
 
 /// Checks whether a task is layered: `sas check`.
@@ -240,7 +240,7 @@ unsafe extern "C" {
     fn sas_version() -> *const c_char;
     fn sas_plan(t: *const u8, t_len: usize, p: *const u8, p_len: usize, room: *mut u8, len: usize, size: *mut usize) -> u32;
     fn sas_plan_why(t: *const u8, t_len: usize, p: *const u8, p_len: usize, room: *mut u8, len: usize, size: *mut usize) -> u32;
-    fn sas_plan_reasons(t: *const u8, t_len: usize, p: *const u8, p_len: usize, room: *mut u8, len: usize, size: *mut usize) -> u32;
+    fn sas_trace(t: *const u8, t_len: usize, p: *const u8, p_len: usize, room: *mut u8, len: usize, size: *mut usize) -> u32;
     fn sas_check(task: *const u8, task_len: usize, room: *mut u8, len: usize, size: *mut usize) -> u32;
     fn sas_check_why(task: *const u8, task_len: usize, room: *mut u8, len: usize, size: *mut usize) -> u32;
     fn sas_mutex(task: *const u8, task_len: usize, room: *mut u8, len: usize, size: *mut usize) -> u32;
