@@ -27,8 +27,8 @@ pub fn status_number(status: Status) -> u32
     }
 }
 
-/// Returns the number of a run that ended without an answer. Bytes in memory are read and written without a failure, so
-/// without memory is the only other end.
+/// Returns the number of a run that ended without an answer. Bytes in memory are read and written without a failure, so only
+/// `TooLong` and `Memory` occur.
 pub fn fault_number(fault: ToolFault) -> u32
     ensures { result ≡ number_of_fault fault }
 {

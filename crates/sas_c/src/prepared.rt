@@ -1,4 +1,4 @@
-// What is kept of a task.
+// A task that is loaded for a program in C.
 ghost use Rattle.std.specs.Prelude.{◌≡◌, IfSome};
 
 use sas_axioms::Worklist;
@@ -15,7 +15,7 @@ pub struct Prepared {
 }
 
 impl Prepared {
-    /// Holds the task in a box. Returns `None` if memory is refused; the task is dropped then.
+    /// Loads the task, and returns it in a box. Returns `None` if memory is refused; the task is dropped then.
     pub fn boxed(alloc: Global, layered: Layered<FlatTask>) -> Option<Box<Prepared>>
         ensures { IfSome result (λ b. b.value ≡ record { held = layered }) }
     {

@@ -26,7 +26,7 @@ impl Changes {
     }
 
     /// Notes the step, which led to this state, for each variable whose value it changed. Each of these is the variable of a
-    /// fact that is deleted, or one that was touched. The others aren't looked at.
+    /// fact that is deleted, or one of `touched`, which may have changed. The others aren't looked at.
     #[tactic(auto, using(crate::proofs::Looking::all_noted))]
     pub fn note(&mut self, step: usize, state: &State, deleted: &[Fact], touched: &[u32])
         requires places { HavePlaces (length state.now) self.old }

@@ -13,8 +13,8 @@ use Rattle.sas_answers.specs.Ending.{Output}
 use Rattle.sas_answers.specs.Answers.{VerdictAnswer}
 use Rattle.sas_requests.specs.Output.{LayeredOut, VerdictOut, plain_refusal}
 
--- the report on a plan: its label, the line that `plan` prints of it, with its end, and its cost
--- if it is valid
+-- what is printed of a plan: its label, the line that `plan` prints of it, with its end, and its
+-- cost if it is valid
 pub record Judged : Type 0 where
   pub label : List ℕ
   pub line : List ℕ

@@ -28,7 +28,7 @@ abbrev pub KnownBeginsWith : Option (List ℕ) → List ℕ → Type 0
 KnownBeginsWith known c = (whole : List ℕ) → known ≡ Some whole
     → (rest : List ℕ) × (whole ≡ c ++ rest)
 
--- the verdict on a plan with these bytes
+-- the report on a plan with these bytes
 abbrev pub IsVerdict : Parts → List ℕ → PlanReport → Type 0
 IsVerdict p c verdict = (output : Output)
     × VerdictOut VerdictAnswer p c (Some output)
@@ -40,32 +40,32 @@ abbrev pub cost_if : Status → ℕ → Option ℕ
 cost_if Yes cost = Some cost
 cost_if No cost = None
 
--- this is the verdict on a plan that was read
+-- this is the report on a plan that was read
 abbrev pub IsVerdictOnPlan : Parts → PlanParts → PlanReport → Type 0
 IsVerdictOnPlan p plan verdict = (output : Output)
     × VerdictAnswer p plan output
     × (verdict.line.items ≡ output.text)
     × (verdict.cost ≡ cost_if output.status plan.cost)
 
--- this is the verdict on a plan file that is refused for this fault
+-- this is the report on a plan file that is refused for this fault
 abbrev pub IsVerdictOnRefusal : Fault → PlanReport → Type 0
 IsVerdictOnRefusal fault verdict = (output : Output)
     × (refusal (codes "plan") fault ≡ Some output)
     × (verdict.line.items ≡ output.text)
     × (verdict.cost ≡ None)
 
--- the result is the verdict on it, and past the limit there is none
+-- the result is the report on it, and past the limit there is none
 abbrev pub GivesVerdict : Parts → List ℕ → Result PlanReport ToolFault → Type 0
 GivesVerdict p c (Ok verdict) = IsVerdict p c verdict
 GivesVerdict p c (Err why) = why ≡ fault.TooLong → VerdictOut VerdictAnswer p c None
 
--- what the verdict on a plan promises that is read to its end or to its first fault; `known` are
+-- what the report on a plan promises that is read to its end or to its first fault; `known` are
 -- its bytes, where they are known
 pub record Judges (p : Parts) (known : Option (List ℕ)) (result : Result PlanReport ToolFault)
     : Type 0 where
-  -- of a plan whose bytes are known, it is the verdict on them
+  -- of a plan whose bytes are known, it is the report on them
   pub output : (c : List ℕ) → known ≡ Some c → GivesVerdict p c result
-  -- and of any plan, the verdict on the bytes that were read of it
+  -- and of any plan, the report on the bytes that were read of it
   pub taken : IsDecided result → (c : List ℕ) × KnownBeginsWith known c × GivesVerdict p c result
   pub writes : IfErr result (λ e. IsWrite e → ⊥)
 
@@ -130,7 +130,7 @@ module _ {S I : Type 0} (gives : S → ℕ → Option I → S → Type 0) where
 abbrev pub unjudged : Judged
 unjudged = record { label = []; line = []; cost = None }
 
--- these are said of so many first plans
+-- these are the reports on so many first plans
 pub record AreSaid (p : Parts) (known : ℕ → Option (List ℕ)) (labels : List (List ℕ))
     (count : ℕ) (all : List Judged) : Type 0 where
   pub many : length all ≡ count

@@ -1,4 +1,4 @@
-// The verdict on one of many plans.
+// The report on one of many plans.
 ghost use Rattle.std.specs.Prelude.{◌≡◌, ◌↔◌, ◌<◌, ℕ, length, false, IfOk, IfErr, IsErrOf, IsTrue};
 ghost use Rattle.sas_answers.specs.Ending.{IsWrite};
 ghost use Rattle.sas_requests.specs.Inputs.{tool_fault, tool_result};
@@ -24,7 +24,7 @@ pub struct PlanReport {
     pub cost: Option<u64>,
 }
 
-/// Opens the plan with this number, reads it, and returns the verdict on it. The input is let go.
+/// Opens the plan with this number, reads it, and returns the report on it. The input is let go.
 pub fn judge_plan<S: PlanInputs>(
     alloc: Global,
     loaded: &mut LoadedTask<Worklist, FlatTask>,
@@ -73,7 +73,7 @@ fn fault_of_plan(number: usize, fault: ToolFault) -> JudgeFault
     }
 }
 
-/// Reads a plan, and returns the verdict on it. A plan file that is refused has a verdict, too.
+/// Reads a plan, and returns the report on it. There is one on a plan file that is refused, too.
 fn judge_input<P: Read>(
     alloc: Global,
     loaded: &mut LoadedTask<Worklist, FlatTask>,
@@ -90,7 +90,7 @@ fn judge_input<P: Read>(
     }
 }
 
-/// Returns the verdict that refuses a plan file for its fault, or why the run ends at it.
+/// Returns the report on a plan file that is refused for this fault, or why the run ends at it.
 fn verdict_on_refusal(alloc: Global, fault: Fault) -> Result<PlanReport, ToolFault>
     ensures ok { IfOk result (IsVerdictOnRefusal fault) }
     ensures long { IsErrOf result ToolFault.TooLong ↔ (fault.kind ≡ Kind.TooLong) }
@@ -104,7 +104,7 @@ fn verdict_on_refusal(alloc: Global, fault: Fault) -> Result<PlanReport, ToolFau
     })
 }
 
-/// Returns the verdict on a plan that was read.
+/// Returns the report on a plan that was read.
 fn verdict_by(
     alloc: Global,
     loaded: &mut LoadedTask<Worklist, FlatTask>,

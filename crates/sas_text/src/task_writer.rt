@@ -1,4 +1,6 @@
 // Writes task files.
+#![tactic(auto, using(crate::proofs::TaskTexts::texts))]
+
 ghost use Rattle.std.specs.Prelude.{◌≡◌, List, [], ◌∷◌, ◌++◌, IfOk, OnOk};
 ghost use Rattle.std.specs.List.{flat_map};
 ghost use Rattle.sas_lines.specs.Lines.{text};
@@ -10,7 +12,6 @@ ghost use Rattle.sas_task_file.specs.TaskFormat.{variable_lines, group_lines, st
 ghost use Rattle.sas_task_file.specs.TaskFormat.{operator_lines, rule_lines, fact_words, task_texts};
 ghost use Rattle.sas_text.specs.TaskText.{text_of, spaced};
 
-#![tactic(auto, using(crate::proofs::TaskTexts::texts))]
 use sas_core::{Effect, Fact, Items, Operator, Rule, Task, Variable};
 use sas_lines::{push_line, push_number};
 use std::alloc::{AllocError, Global};
