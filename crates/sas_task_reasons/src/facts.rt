@@ -36,7 +36,7 @@ pub fn default_fact(task: &FlatTask, var: u32) -> Fact
 
 /// Returns what the rule changes.
 pub fn change_by(task: &FlatTask, rule: u32) -> Change
-    ensures { result ≡ spec.rule_change (rule_at task.now rule) }
+    ensures { result ≡ spec.change_of (rule_at task.now rule) }
 {
     if rule < task.rules() {
         task.rule_change(rule)
