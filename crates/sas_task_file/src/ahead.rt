@@ -3,6 +3,7 @@
 ghost use Rattle.std.specs.Prelude.{◌≡◌, ◌+◌, ◌-◌, ◌<◌, ◌≤◌, length, take, drop, IfSome, IsTrue};
 ghost use Rattle.sas_core.specs.Names.{IsName};
 ghost use Rattle.sas_task_file.specs.TaskFormat as format;
+ghost use Rattle.sas_reader.specs.Ends.{StandsBefore};
 ghost use Rattle.sas_task_file.specs.Ahead.{LineAhead, NumberAhead, SignedAhead, FactAhead, ChangeAhead};
 ghost use Rattle.sas_core.specs.Changes.{plain_effect};
 
@@ -13,9 +14,22 @@ use sas_reader::{behind_end, plain_end};
 /// left for each number of a line, no byte has to be compared with the end of the bytes.
 const NUMBER: usize = 11;
 
-/// Returns the number of at most nine digits before the byte `end`, and the bytes after it. CR LF may stand in place of LF.
+/// Returns the bytes after the byte `end` at `at`, or `None` if it isn't there. If `RETURNS`, and the byte is LF, there may be a CR before it.
 #[inline(always)]
-fn number_in(bytes: &[u8], end: u8) -> Option<(u32, &[u8])>
+fn behind_number<const RETURNS: bool>(bytes: &[u8], at: usize, end: u8) -> Option<&[u8]>
+    requires { at < length bytes.now }
+    ensures { IfSome result (λ rest. StandsBefore (take at bytes.now) end rest.now bytes.now) }
+{
+    if RETURNS || bytes[at] == end {
+        behind_end(bytes, at, end)
+    } else {
+        None
+    }
+}
+
+/// Returns the number of at most nine digits before the byte `end`, and the bytes after it. If `RETURNS`, CR LF may stand in place of LF.
+#[inline(always)]
+fn number_by<const RETURNS: bool>(bytes: &[u8], end: u8) -> Option<(u32, &[u8])>
     requires long { 11 ≤ length bytes.now }
     ensures ahead { IfSome result (λ found. NumberAhead bytes.now found.0 end found.1.now) }
     ensures left { IfSome result (λ found. length bytes.now ≤ length found.1.now + 11) }
@@ -26,19 +40,47 @@ fn number_in(bytes: &[u8], end: u8) -> Option<(u32, &[u8])>
     }
     let mut value = (first - b'0') as u32;
     if bytes[1] == end || value == 0 {
-        let rest = behind_end(bytes, 1, end)?;
+        let rest = behind_number::<RETURNS>(bytes, 1, end)?;
         return Some((value, rest));
     }
     for at in 1..9 {
         let byte = bytes[at];
         if !byte.is_ascii_digit() {
-            let rest = behind_end(bytes, at, end)?;
+            let rest = behind_number::<RETURNS>(bytes, at, end)?;
             return Some((value, rest));
         }
         value = value * 10 + (byte - b'0') as u32;
     }
-    let rest = behind_end(bytes, 9, end)?;
+    let rest = behind_number::<RETURNS>(bytes, 9, end)?;
     Some((value, rest))
+}
+
+/// Returns the number before LF or CR LF, and the bytes after it. It isn't inlined, so that the code for lines with LF stays small.
+#[cold]
+#[inline(never)]
+fn number_with_return(bytes: &[u8], end: u8) -> Option<(u32, &[u8])>
+    requires long { 11 ≤ length bytes.now }
+    ensures ahead { IfSome result (λ found. NumberAhead bytes.now found.0 end found.1.now) }
+    ensures left { IfSome result (λ found. length bytes.now ≤ length found.1.now + 11) }
+{
+    number_by::<true>(bytes, end)
+}
+
+/// Returns the number of at most nine digits before the byte `end`, and the bytes after it. CR LF may stand in place of LF.
+#[inline(always)]
+fn number_in(bytes: &[u8], end: u8) -> Option<(u32, &[u8])>
+    requires long { 11 ≤ length bytes.now }
+    ensures ahead { IfSome result (λ found. NumberAhead bytes.now found.0 end found.1.now) }
+    ensures left { IfSome result (λ found. length bytes.now ≤ length found.1.now + 11) }
+{
+    if let Some(found) = number_by::<false>(bytes, end) {
+        return Some(found);
+    }
+    if end == b'\n' {
+        number_with_return(bytes, end)
+    } else {
+        None
+    }
 }
 
 /// Returns the number before the byte `end` (`None` for `-1`), and the bytes after it.
