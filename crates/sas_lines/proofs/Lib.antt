@@ -1,7 +1,6 @@
 mod Separated
 mod Sent
 mod Found
-pub mod Returns
 mod Feeding
 mod Digits
 pub mod Splitting

@@ -1,9 +1,7 @@
 // Appends numbers and lines to a text.
-ghost use Rattle.sas_lines.specs.Lines.{without_returns};
 ghost use Rattle.std.specs.Prelude.{◌≡◌, ◌+◌, ◌<◌, [], ◌∷◌, ◌++◌, length, OnOk, OnErr, decimal};
 ghost use Rattle.std.specs.Vec.{vec_len, vec_capacity};
 
-use crate::separators::first_place;
 use itoa::Buffer;
 use std::alloc::AllocError;
 
@@ -27,18 +25,5 @@ pub fn push_line(out: &mut Vec<u8>, line: &[u8]) -> Result<(), AllocError>
     out.reserve(line.len() + 1)?;
     out.extend_from_slice(line)?;
     out.push(b'\n')?;
-    Ok(())
-}
-
-/// Appends the bytes without their CRs. After `Err` (out of memory) some of them may have been appended.
-pub fn push_without_returns(out: &mut Vec<u8>, bytes: &[u8]) -> Result<(), AllocError>
-    ensures { OnOk result (out.new.items ≡ out.old.items ++ without_returns bytes.now) }
-{
-    let mut rest = bytes;
-    while let Some(place) = first_place(b'\r', rest) {
-        out.extend_from_slice(&rest[..place])?;
-        rest = &rest[place + 1..];
-    }
-    out.extend_from_slice(rest)?;
     Ok(())
 }

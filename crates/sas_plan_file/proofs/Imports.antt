@@ -6,7 +6,7 @@ pub use Rattle.std.proofs.Math.Seq.{drop-append_seam, take-append_seam}
 pub use Rattle.std.proofs.lemmas.Bool.{false_from_ne_true}
 pub use Rattle.std.proofs.lemmas.Fmt.{decimal_injective}
 pub use Rattle.std.proofs.lemmas.Grind.{flat_map-append}
-pub use Rattle.std.proofs.lemmas.List.{take-append-drop, length-take-le, get_or-take, take_at, append-nil, append_cancel_left, append_cancel_right}
+pub use Rattle.std.proofs.lemmas.List.{take-append-drop, length-take-le, get_or-take, take_at, drop_more, append-nil, append_cancel_left, append_cancel_right, take_rest}
 pub use Rattle.std.specs.Cmp.Lexicographic.{pointwise, same_text, other_text}
 pub use Rattle.std.specs.Fmt.{decimal}
 pub use Rattle.std.specs.List.{AllByRecursion}
@@ -18,14 +18,13 @@ pub use Rattle.sas_core.specs.Plain.{IsPlain}
 pub use Rattle.sas_core.specs.PlanParts.{PlanParts}
 pub use Rattle.sas_core.specs.Plans.{WellNamed}
 pub use Rattle.sas_core.specs.declared.plan.CostKind.{CostKind}
-pub use Rattle.sas_lines.proofs.Beginnings.{front_of_lines}
+pub use Rattle.sas_lines.proofs.Splitting.{lines-one, unfinished-one}
 pub use Rattle.sas_lines.proofs.Words.{NoSpace, NoSpace-decimal}
-pub use Rattle.sas_lines.specs.Lines.{text, EndedLines}
+pub use Rattle.sas_lines.specs.Lines.{text}
 unfoldable pub use Rattle.sas_lines.specs.Lines.{lines}
 pub use Rattle.sas_reader.proofs.About.{about_laws_of}
 pub use Rattle.sas_reader.proofs.AcceptedLines.{LinesAccepted, none_accepted, one_more, accepted}
 pub use Rattle.sas_reader.proofs.Conversion.{Follows, reads_of_format, some_read}
-pub use Rattle.sas_reader.proofs.Ends.{ended_line}
 pub use Rattle.sas_reader.proofs.Every.{laws_of}
 pub use Rattle.sas_reader.proofs.Live.{leads_line}
 pub use Rattle.sas_reader.proofs.Paths.{one_ended}
@@ -33,7 +32,6 @@ pub use Rattle.sas_reader.proofs.Plain.{plain, plain-decimal}
 pub use Rattle.sas_reader.proofs.Reading.{end_fault, reads_all, refuses_all, feeds}
 pub use Rattle.sas_reader.proofs.Refusals.{reported_by, explains, reads_explained, refuses_explained}
 pub use Rattle.sas_reader.specs.About.{ConcernsText}
-pub use Rattle.sas_reader.specs.Ends.{StandsBefore}
 pub use Rattle.sas_reader.specs.Devices.{ReadsAll, ValueOf}
 pub use Rattle.sas_reader.specs.Format.{ReadsAs}
 pub use Rattle.sas_reader.specs.Laws.{Laws}

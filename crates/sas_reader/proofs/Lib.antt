@@ -10,7 +10,6 @@ pub mod Standing
 pub mod Pieces
 pub mod Advancing
 pub mod AcceptedLines
-pub mod Ends
 pub mod Conversion
 pub mod Reading
 pub mod Known
@@ -20,4 +19,8 @@ pub mod KnownRefusals
 mod Tested
 mod Ending
 mod Keeping
+mod BehindEnds
+mod Copying
+mod WithLfAlone
+mod FeedingPlain
 mod Imports

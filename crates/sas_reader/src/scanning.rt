@@ -1,11 +1,10 @@
-// Finds the end of a line of plain bytes, many bytes at a time, and what follows an end.
-ghost use Rattle.std.specs.Prelude.{◌≡◌, ◌+◌, ◌<◌, ◌≤◌, ℕ, ◌∷◌, ◌++◌, length, take, slice_index, IfSome};
-ghost use Rattle.sas_reader.specs.Ends.{StandsBefore};
+// Finds the end of a line of plain bytes, many bytes at a time.
+ghost use Rattle.std.specs.Prelude.{◌+◌, ◌<◌, ◌≤◌, ℕ, length, slice_index, IfSome};
 
 use std::simd::prelude::*;
 
 /// How many bytes are compared at once.
-const LANES: usize = 32;
+pub(crate) const LANES: usize = 32;
 
 /// Returns how many of the thirty-two bytes from `at` on come before the first byte that is at most CR.
 #[inline(always)]
@@ -38,33 +37,4 @@ pub fn plain_end(bytes: &[u8]) -> Option<usize>
         at += LANES;
     }
     None
-}
-
-/// Returns the bytes after the CR LF at `at`, or `None` if there is none. It isn't inlined, so that the code for lines with LF stays small.
-#[cold]
-#[inline(never)]
-fn behind_return(bytes: &[u8], at: usize) -> Option<&[u8]>
-    requires { at ≤ length bytes.now }
-    ensures { IfSome result (λ rest. bytes.now ≡ take at bytes.now ++ 13 ∷ 10 ∷ rest.now) }
-{
-    match &bytes[at..] {
-        [b'\r', b'\n', rest @ ..] => Some(rest),
-        _ => None,
-    }
-}
-
-/// Returns the bytes after the byte `end` at `at`, or `None` if it isn't there. If the byte is LF, there may be a CR before it.
-#[inline(always)]
-pub fn behind_end(bytes: &[u8], at: usize, end: u8) -> Option<&[u8]>
-    requires { at < length bytes.now }
-    ensures { IfSome result (λ rest. StandsBefore (take at bytes.now) end rest.now bytes.now) }
-{
-    if bytes[at] == end {
-        return Some(&bytes[at + 1..]);
-    }
-    if end == b'\n' {
-        behind_return(bytes, at)
-    } else {
-        None
-    }
 }

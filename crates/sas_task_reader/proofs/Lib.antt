@@ -13,6 +13,5 @@ pub mod RefusedLines
 mod TaskStanding
 mod Outlines
 mod StoredParts
-mod StoredText
 mod Reasons
 mod Imports

@@ -1,7 +1,6 @@
 -- What the judge of the lines of a task file represents: what may still follow the content so far.
 use Rattle.std.specs.Prelude.{◌≡◌, ◌≢◌, ◌⊎◌, ◌<◌, ℕ, ◌-◌, List, [], ◌∷◌, ◌++◌, Result, Ok, Err}
 use Rattle.sas_core.specs.Plain.{IsPlain}
-use Rattle.sas_lines.specs.Lines.{EndedLines}
 use Rattle.sas_reader.specs.declared.fault.Kind.{Kind}
 use Rattle.sas_reader.specs.declared.fault.Kind.TheVariants as kinds
 use Rattle.sas_task_file.specs.declared.places.Event.{Event}
@@ -93,10 +92,10 @@ JudgesLine j line k (Err kind) =
     × (kind ≢ kinds.Memory → RejectsLine j line kind)
     × (kind ≢ kinds.Memory → StandsAsBefore j k)
 
--- The bytes are a line, its end, and the rest. The line leads to the content with what it adds.
+-- The bytes are a line, then LF, then the rest. The line leads to the content with what it adds.
 pub record MovesAhead (j : TaskJudge) (bytes : List ℕ) (k : TaskJudge) (event : Event)
     (rest : List ℕ) : Type 0 where
   pub line : List ℕ
   pub plain : IsPlain line
-  pub before : EndedLines (line ∷ []) rest bytes
+  pub before : bytes ≡ line ++ 10 ∷ rest
   pub moves : JudgesLine j line k (Ok event)

@@ -1,13 +1,12 @@
 // Stores only the text of a task file.
 ghost use Rattle.std.specs.Prelude.{◌≡◌, ◌++◌, ◌≤◌, [], length, take, OnOk, IfErr};
-ghost use Rattle.sas_lines.specs.Lines.{without_returns};
 
 use crate::fronts::{
     NO_VARIABLE, SectionLists, group_front, operator_front, rule_front, variable_front,
 };
 use crate::{Keeper, KeptVariable};
 use sas_core::Items;
-use sas_lines::{push_line, push_without_returns};
+use sas_lines::push_line;
 use sas_reader::{Front, Kind};
 use sas_task_file::{Event, LineValues};
 use std::alloc::Global;
@@ -48,13 +47,13 @@ impl TaskText {
         text
     }
 
-    /// Appends the first `count` bytes, which are whole lines, without their CRs.
+    /// Appends the first `count` bytes, which are whole lines.
     fn take(&mut self, bytes: &[u8], count: usize) -> Result<(), Kind>
         requires { count ≤ length bytes.now }
-        ensures ok { OnOk result (self.new ≡ self.old ++ without_returns (take count bytes.now)) }
+        ensures ok { OnOk result (self.new ≡ self.old ++ take count bytes.now) }
         ensures err { IfErr result (λ k. k ≡ Kind.Memory) }
     {
-        push_without_returns(&mut self.text, &bytes[..count])?;
+        self.text.extend_from_slice(&bytes[..count])?;
         Ok(())
     }
 }
