@@ -59,6 +59,13 @@ impl<D> Watched<D> {
     }
 
     /// Returns the wrapped device.
+    pub fn device(&self) -> &D
+        ensures { result.now ≡ self.now.device }
+    {
+        &self.device
+    }
+
+    /// Unwraps the device.
     pub fn into_device(self) -> D
         ensures { result ≡ self.device }
     {

@@ -114,24 +114,16 @@ impl PlanMachine<Lists<u8>> {
 }
 
 impl<S: NameList> Machine for PlanMachine<S> {
-    ghost use Rattle.sas_plan_file.specs.PlanFormat.{plan_format, PlanLineFits};
-    ghost use Rattle.sas_plan_file.specs.PlanMachine.{plan_node, plan_start, HasCostLine, plan_stays};
-    ghost use Rattle.sas_reader.specs.System.{Leads, Rejects};
+    ghost use Rattle.sas_plan_file.specs.PlanMachine.{plan_behavior};
 
-    ghost led_by = { λ lines m. Leads plan_format PlanLineFits plan_node plan_start lines m };
-
-    ghost ended = { HasCostLine };
-
-    ghost rejects = { λ m line k. Rejects plan_format PlanLineFits (plan_node m) line k };
-
-    ghost stopped = { plan_stays };
+    ghost behavior = { plan_behavior };
 
     fn has_ended(&self) -> bool {
         self.cost.is_some()
     }
 
     #[tactic(auto, using(crate::proofs::PlanSteps::next_lines))]
-    fn accept(&mut self, line: &[u8]) -> Result<(), Kind> {
+    fn accept(&mut self, line: &[u8], _number: u64) -> Result<(), Kind> {
         match plan_line(line)? {
             PlanLine::Cost(cost, kind) => {
                 self.cost = Some((cost, kind));

@@ -47,25 +47,15 @@ impl PlanText {
 }
 
 impl Machine for PlanText {
-    ghost use Rattle.std.specs.Prelude.{IsTrue};
-    ghost use Rattle.sas_plan_file.specs.PlanFormat.{plan_format, PlanLineFits};
-    ghost use Rattle.sas_plan_file.specs.PlanMachine.{plan_line_ok};
-    ghost use Rattle.sas_plan_file.specs.PlanText.{KeepsLines, text_stays};
-    ghost use Rattle.sas_reader.specs.System.{IsRejected};
+    ghost use Rattle.sas_plan_file.specs.PlanText.{text_behavior};
 
-    ghost led_by = { KeepsLines };
-
-    ghost ended = { λ m. IsTrue m.closed };
-
-    ghost rejects = { λ m line k. IsRejected plan_format PlanLineFits tt plan_line_ok line k };
-
-    ghost stopped = { text_stays };
+    ghost behavior = { text_behavior };
 
     fn has_ended(&self) -> bool {
         self.closed
     }
 
-    fn accept(&mut self, line: &[u8]) -> Result<(), Kind> {
+    fn accept(&mut self, line: &[u8], _number: u64) -> Result<(), Kind> {
         let is_cost = matches!(plan_line(line)?, PlanLine::Cost(..));
         self.keep(line)?;
         self.closed = is_cost;

@@ -1,6 +1,6 @@
 -- One step of a reader: it takes a piece up to and including the first line end, or all of it.
 use Rattle.std.proofs.lemmas.Grind.{common_steps}
-use Rattle.sas_reader.proofs.Imports.{◌≡◌, ◌≢◌, ℕ, ◌+◌, ◌-◌, ◌≤◌, ◌<◌, Bool, true, false, not, List, [], ◌∷◌, ◌++◌, length, take, drop, refl, sym, ap, subst, ◌∙◌, append_assoc, arith, length-append, length-drop, Result, Ok, Err, append-nil, length-take, take_all, take-append-drop, take-add, lines, unfinished, TakesLine, LineStandsFirst, LinesStandFirst, lines-append, unfinished-append, lines-few, Fault, Kind, Reader, Front, IsOfBytes, IsFront, IsFoundOf, Reached, Accepted, LineIsDue, FaultBehind, TookFront, Stopped, TakesFrontOrStops, Progress, completed}
+use Rattle.sas_reader.proofs.Imports.{Behavior, ◌≡◌, ◌≢◌, ℕ, ◌+◌, ◌-◌, ◌≤◌, ◌<◌, Bool, true, false, not, List, [], ◌∷◌, ◌++◌, length, take, drop, refl, sym, ap, subst, ◌∙◌, append_assoc, arith, length-append, length-drop, Result, Ok, Err, append-nil, length-take, take_all, take-append-drop, take-add, lines, unfinished, TakesLine, LineStandsFirst, LinesStandFirst, lines-append, unfinished-append, lines-few, Fault, Kind, Reader, Front, IsOfBytes, IsFront, IsFoundOf, Reached, Accepted, LineIsDue, FaultBehind, TookFront, Stopped, TakesFrontOrStops, Progress, completed}
 use Rattle.sas_reader.specs.declared.fault.Kind.TheVariants as kinds
 use Rattle.sas_reader.proofs.Pieces.{takes_bound, front_of, lines_fed, unfinished_fed, reached_part, reached_line, due_first, due_wider, due_behind, fault_full, fault_over, fault_line, fault_wider, fault_behind}
 
@@ -56,43 +56,42 @@ within_fits limit taken piece front e l = let n = ap length e ∙ length-take (l
 pub within_none : (limit taken : ℕ) (piece front : List ℕ) → front ≡ take (limit - taken) piece → taken ≤ limit → 0 < length piece → length front ≡ 0 → taken ≡ limit
 within_none limit taken piece front e l some none = let n = ap length e ∙ length-take (limit - taken) piece in omega (arith, n, l, some, none)
 
-module _ {M : Type 0} (led_by : List (List ℕ) → M → Type 0) (ended : M → Type 0) where
-  pub accepted_part : (r s : Reader M) (bytes piece : List ℕ) (n : ℕ) (complete : Bool) → Accepted led_by ended r bytes → (ended r.machine → ⊥) → not complete ≡ true → Fed r.pending.pending s.pending piece n complete
-      → s.machine ≡ r.machine → s.lines ≡ r.lines → s.taken ≡ r.taken + n → Accepted led_by ended s (bytes ++ take n piece)
+module _ {M : Type 0} (B : Behavior M) where
+  pub accepted_part : (r s : Reader M) (bytes piece : List ℕ) (n : ℕ) (complete : Bool) → Accepted B r bytes → (B.ended r.machine → ⊥) → not complete ≡ true → Fed r.pending.pending s.pending piece n complete
+      → s.machine ≡ r.machine → s.lines ≡ r.lines → s.taken ≡ r.taken + n → Accepted B s (bytes ++ take n piece)
   accepted_part r s bytes piece n complete h going part fed same_machine same_lines same_taken =
       let none : lines (r.pending.pending ++ take n piece) ≡ [] = fed.lines ∙ ap (λ b. completed b s.pending.line) (is_false complete part) in
       record {
-        reached = subst (λ m. Reached led_by ended m (bytes ++ take n piece)) (sym same_machine) (reached_part led_by ended r.machine bytes (take n piece) r.pending.pending h.reached going h.pending none);
+        reached = subst (λ m. Reached B m (bytes ++ take n piece)) (sym same_machine) (reached_part B r.machine bytes (take n piece) r.pending.pending h.reached going h.pending none);
         pending = sym (unfinished_fed bytes (take n piece) r.pending.pending s.pending.pending h.pending fed.rest);
         lines = same_lines ∙ h.lines ∙ ap length (sym (lines_fed bytes (take n piece) r.pending.pending [] false h.pending none ∙ append-nil (lines bytes)));
         taken = same_taken ∙ (let l = length_taken piece n complete fed.taken in omega (arith, h.taken, l, length-append bytes (take n piece)));
       }
 
-  pub accepted_line : (r s : Reader M) (bytes piece line : List ℕ) (n : ℕ) (complete : Bool) (m : M) (next : Progress) → Accepted led_by ended r bytes → not complete ≡ false → Fed r.pending.pending next piece n complete
-      → (complete ≡ true → next.pending ≡ []) → line ≡ next.line → ((before : List (List ℕ)) → led_by before r.machine → led_by (before ++ line ∷ []) m)
-      → s.machine ≡ m → s.pending.pending ≡ next.pending → s.lines ≡ r.lines + 1 → s.taken ≡ r.taken + n → Accepted led_by ended s (bytes ++ take n piece)
+  pub accepted_line : (r s : Reader M) (bytes piece line : List ℕ) (n : ℕ) (complete : Bool) (m : M) (next : Progress) → Accepted B r bytes → not complete ≡ false → Fed r.pending.pending next piece n complete
+      → (complete ≡ true → next.pending ≡ []) → line ≡ next.line → ((before : List (List ℕ)) → length before + 1 ≡ r.lines + 1 → B.led_by before r.machine → B.led_by (before ++ line ∷ []) m)
+      → s.machine ≡ m → s.pending.pending ≡ next.pending → s.lines ≡ r.lines + 1 → s.taken ≡ r.taken + n → Accepted B s (bytes ++ take n piece)
   accepted_line r s bytes piece line n complete m next h whole fed nothing line_is leads same_machine same_pending same_lines same_taken =
       let yes = is_true complete whole in
       let one : lines (r.pending.pending ++ take n piece) ≡ line ∷ [] = fed.lines ∙ ap (λ b. completed b next.line) yes ∙ ap (λ (x : List ℕ). x ∷ []) (sym line_is) in
       let rest : unfinished (r.pending.pending ++ take n piece) ≡ next.pending = fed.rest in
       let more : lines (bytes ++ take n piece) ≡ lines bytes ++ line ∷ [] = lines_fed bytes (take n piece) r.pending.pending line true h.pending one in
       record {
-        reached = subst (λ x. Reached led_by ended x (bytes ++ take n piece)) (sym same_machine) (reached_line led_by ended m bytes (take n piece) r.pending.pending line (leads (lines bytes) h.reached.led) h.pending one (rest ∙ nothing yes));
+        reached = subst (λ x. Reached B x (bytes ++ take n piece)) (sym same_machine) (reached_line B m bytes (take n piece) r.pending.pending line (leads (lines bytes) (ap (λ n. n + 1) (sym h.lines)) h.reached.led) h.pending one (rest ∙ nothing yes));
         pending = same_pending ∙ sym (unfinished_fed bytes (take n piece) r.pending.pending next.pending h.pending rest);
         lines = same_lines ∙ (let e : length (lines (bytes ++ take n piece)) ≡ length (lines bytes) + 1 = ap length more ∙ length-append (lines bytes) (line ∷ []) in omega (arith, h.lines, e));
         taken = same_taken ∙ (let l = length_taken piece n complete fed.taken in omega (arith, h.taken, l, length-append bytes (take n piece)));
       }
 
--- ---- the promises of a step
+  -- ---- the promises of a step
 
-module _ {M : Type 0} (led_by : List (List ℕ) → M → Type 0) (ended : M → Type 0) (rejects : M → List ℕ → Kind → Type 0) (halted : M → List ℕ → Kind → M → Type 0) where
   -- nothing was taken
-  pub took_none : (r : Reader M) (piece : List ℕ) → TookFront led_by ended rejects halted r r piece 0
-  took_none r piece = record { within = omega arith; count = omega arith; accepted = λ bytes h. subst (Accepted led_by ended r) (sym (append-nil bytes)) h }
+  pub took_none : (r : Reader M) (piece : List ℕ) → TookFront B r r piece 0
+  took_none r piece = record { within = omega arith; count = omega arith; accepted = λ bytes h. subst (Accepted B r) (sym (append-nil bytes)) h }
 
   -- the first lines of the piece were taken, and nothing was pending
-  pub took_lines : (r s : Reader M) (piece : List ℕ) (first : List (List ℕ)) (n : ℕ) → r.pending.pending ≡ [] → LinesStandFirst piece first n → ((before : List (List ℕ)) → led_by before r.machine → led_by (before ++ first) s.machine)
-      → s.pending ≡ r.pending → s.lines ≡ r.lines + length first → s.taken ≡ r.taken + n → TookFront led_by ended rejects halted r s piece n
+  pub took_lines : (r s : Reader M) (piece : List ℕ) (first : List (List ℕ)) (n : ℕ) → r.pending.pending ≡ [] → LinesStandFirst piece first n → ((before : List (List ℕ)) → B.led_by before r.machine → B.led_by (before ++ first) s.machine)
+      → s.pending ≡ r.pending → s.lines ≡ r.lines + length first → s.taken ≡ r.taken + n → TookFront B r s piece n
   took_lines r s piece first n nothing stand leads same_pending same_lines same_taken = record {
     within = stand.within;
     count = same_taken;
@@ -101,7 +100,7 @@ module _ {M : Type 0} (led_by : List (List ℕ) → M → Type 0) (ended : M →
         let more : lines (bytes ++ take n piece) ≡ lines bytes ++ first = lines-append bytes (take n piece) ∙ ap (λ (x : List ℕ). lines bytes ++ lines (x ++ take n piece)) whole ∙ ap (λ (x : List (List ℕ)). lines bytes ++ x) stand.lines in
         let none : unfinished (bytes ++ take n piece) ≡ [] = unfinished-append bytes (take n piece) ∙ ap (λ (x : List ℕ). unfinished (x ++ take n piece)) whole ∙ stand.rest in
         record {
-          reached = record { led = subst (λ (l : List (List ℕ)). led_by l s.machine) (sym more) (leads (lines bytes) h.reached.led); rest = λ e. none };
+          reached = record { led = subst (λ (l : List (List ℕ)). B.led_by l s.machine) (sym more) (leads (lines bytes) h.reached.led); rest = λ e. none };
           pending = ap (λ (p : Progress). p.pending) same_pending ∙ nothing ∙ sym none;
           lines = same_lines ∙ (let e : length (lines (bytes ++ take n piece)) ≡ length (lines bytes) + length first = ap length more ∙ length-append (lines bytes) first in omega (arith, h.lines, e));
           taken = same_taken ∙ (let l = length-take n piece in omega (arith, h.taken, l, stand.within, length-append bytes (take n piece)));
@@ -109,17 +108,17 @@ module _ {M : Type 0} (led_by : List (List ℕ) → M → Type 0) (ended : M →
   }
 
   -- the first line of the piece was taken, and nothing was pending
-  pub took_whole : (r s : Reader M) (piece line : List ℕ) (n : ℕ) → r.pending.pending ≡ [] → LineStandsFirst piece line n → ((before : List (List ℕ)) → led_by before r.machine → led_by (before ++ line ∷ []) s.machine)
-      → s.pending ≡ r.pending → s.lines ≡ r.lines + 1 → s.taken ≡ r.taken + n → TookFront led_by ended rejects halted r s piece n
+  pub took_whole : (r s : Reader M) (piece line : List ℕ) (n : ℕ) → r.pending.pending ≡ [] → LineStandsFirst piece line n → ((before : List (List ℕ)) → length before + 1 ≡ r.lines + 1 → B.led_by before r.machine → B.led_by (before ++ line ∷ []) s.machine)
+      → s.pending ≡ r.pending → s.lines ≡ r.lines + 1 → s.taken ≡ r.taken + n → TookFront B r s piece n
   took_whole r s piece line n nothing whole leads same_pending same_lines same_taken = record {
     within = takes_bound piece n true whole.taken;
     count = same_taken;
-    accepted = λ bytes h. accepted_line led_by ended r s bytes piece line n true s.machine (record { line = line; pending = [] }) h refl (fed_whole r.pending.pending piece line n nothing whole) (λ e. refl) refl leads refl (ap (λ (p : Progress). p.pending) same_pending ∙ nothing) same_lines same_taken;
+    accepted = λ bytes h. accepted_line r s bytes piece line n true s.machine (record { line = line; pending = [] }) h refl (fed_whole r.pending.pending piece line n nothing whole) (λ e. refl) refl leads refl (ap (λ (p : Progress). p.pending) same_pending ∙ nothing) same_lines same_taken;
   }
 
   -- the reader refuses the first line of the piece, or is out of memory
-  pub stopped_at : (r s : Reader M) (piece line : List ℕ) (n : ℕ) (complete : Bool) (next : Progress) (k : Kind) → 0 < length piece → (ended r.machine → ⊥) → not complete ≡ false → Fed r.pending.pending next piece n complete
-      → line ≡ next.line → r.taken + length piece ≤ r.limit → IsOfBytes k → (k ≢ kinds.Memory → rejects r.machine line k) → (k ≢ kinds.Memory → halted r.machine line k s.machine) → IsFoundOf line s.found → s.lines ≡ r.lines → Stopped led_by ended rejects halted r s piece k
+  pub stopped_at : (r s : Reader M) (piece line : List ℕ) (n : ℕ) (complete : Bool) (next : Progress) (k : Kind) → 0 < length piece → (B.ended r.machine → ⊥) → not complete ≡ false → Fed r.pending.pending next piece n complete
+      → line ≡ next.line → r.taken + length piece ≤ r.limit → IsOfBytes k → (k ≢ kinds.Memory → B.rejects r.machine line k) → (k ≢ kinds.Memory → B.stopped r.machine line k s.machine) → IsFoundOf line s.found → s.lines ≡ r.lines → Stopped B r s piece k
   stopped_at r s piece line n complete next k some going whole fed line_is fits of_bytes refused behind known same =
       let yes = is_true complete whole in
       let takes : TakesLine piece n true = subst (λ b. TakesLine piece n b) yes fed.taken in
@@ -127,87 +126,87 @@ module _ {M : Type 0} (led_by : List (List ℕ) → M → Type 0) (ended : M →
       let bound = takes_bound piece n complete fed.taken in
       record {
         kind = of_bytes;
-        fault = λ ne bytes h. fault_line led_by ended rejects halted r.limit r.machine bytes piece r.pending.pending line n (record { line = s.lines + 1; kind = k }) s.machine s.found h.reached going takes h.pending one (omega (arith, h.taken, bound, fits)) (ap (λ (x : ℕ). x + 1) (same ∙ h.lines)) (refused ne) (behind ne) known;
-        memory = λ e bytes h. due_first led_by ended r.limit r.machine bytes piece some h.reached going (omega (arith, h.taken, some, fits));
+        fault = λ ne bytes h. fault_line B r.limit r.machine bytes piece r.pending.pending line n (record { line = s.lines + 1; kind = k }) s.machine s.found h.reached going takes h.pending one (omega (arith, h.taken, bound, fits)) (ap (λ (x : ℕ). x + 1) (same ∙ h.lines)) (refused ne) (behind ne) known;
+        memory = λ e bytes h. due_first B r.limit r.machine bytes piece some h.reached going (omega (arith, h.taken, some, fits));
       }
 
   -- the same if nothing is pending
-  pub stopped_whole : (r s : Reader M) (piece line : List ℕ) (n : ℕ) (k : Kind) → 0 < length piece → (ended r.machine → ⊥) → r.pending.pending ≡ [] → LineStandsFirst piece line n
-      → r.taken + length piece ≤ r.limit → IsOfBytes k → (k ≢ kinds.Memory → rejects r.machine line k) → (k ≢ kinds.Memory → halted r.machine line k s.machine) → IsFoundOf line s.found → s.lines ≡ r.lines → Stopped led_by ended rejects halted r s piece k
+  pub stopped_whole : (r s : Reader M) (piece line : List ℕ) (n : ℕ) (k : Kind) → 0 < length piece → (B.ended r.machine → ⊥) → r.pending.pending ≡ [] → LineStandsFirst piece line n
+      → r.taken + length piece ≤ r.limit → IsOfBytes k → (k ≢ kinds.Memory → B.rejects r.machine line k) → (k ≢ kinds.Memory → B.stopped r.machine line k s.machine) → IsFoundOf line s.found → s.lines ≡ r.lines → Stopped B r s piece k
   stopped_whole r s piece line n k some going nothing whole fits of_bytes refused behind known same =
       stopped_at r s piece line n true (record { line = line; pending = [] }) k some going refl (fed_whole r.pending.pending piece line n nothing whole) refl fits of_bytes refused behind known same
 
   -- the reader is out of memory while a line is expected
-  pub stopped_memory : (r s : Reader M) (piece : List ℕ) (k : Kind) → 0 < length piece → (ended r.machine → ⊥) → r.taken < r.limit → k ≡ kinds.Memory → Stopped led_by ended rejects halted r s piece k
+  pub stopped_memory : (r s : Reader M) (piece : List ℕ) (k : Kind) → 0 < length piece → (B.ended r.machine → ⊥) → r.taken < r.limit → k ≡ kinds.Memory → Stopped B r s piece k
   stopped_memory r s piece k some going room is = record {
     kind = subst IsOfBytes (sym is) ((λ e. absurd cc), (λ e. absurd cc));
     fault = λ ne. absurd (ne is);
-    memory = λ e bytes h. due_first led_by ended r.limit r.machine bytes piece some h.reached going (omega (arith, h.taken, room));
+    memory = λ e bytes h. due_first B r.limit r.machine bytes piece some h.reached going (omega (arith, h.taken, room));
   }
 
   -- no byte may follow at the limit
-  pub stopped_full : (r : Reader M) (piece : List ℕ) → 0 < length piece → r.taken ≡ r.limit → Stopped led_by ended rejects halted r r piece kinds.TooLong
+  pub stopped_full : (r : Reader M) (piece : List ℕ) → 0 < length piece → r.taken ≡ r.limit → Stopped B r r piece kinds.TooLong
   stopped_full r piece some l = record {
     kind = ((λ e. absurd cc), (λ e. absurd cc));
-    fault = λ ne bytes h. fault_full led_by ended rejects halted r.limit r.machine bytes piece (record { line = r.lines + 1; kind = kinds.TooLong }) r.machine r.found some h.reached (ap (λ (x : ℕ). x + 1) h.lines) (sym h.taken ∙ l) refl;
+    fault = λ ne bytes h. fault_full B r.limit r.machine bytes piece (record { line = r.lines + 1; kind = kinds.TooLong }) r.machine r.found some h.reached (ap (λ (x : ℕ). x + 1) h.lines) (sym h.taken ∙ l) refl;
     memory = λ e. absurd cc;
   }
 
   -- and no byte after the end of the machine
-  pub stopped_over : (r s : Reader M) (piece : List ℕ) → 0 < length piece → r.taken < r.limit → ended r.machine → s.machine ≡ r.machine → s.lines ≡ r.lines → IsFoundOf (take 1 piece) s.found → Stopped led_by ended rejects halted r s piece kinds.Trailing
+  pub stopped_over : (r s : Reader M) (piece : List ℕ) → 0 < length piece → r.taken < r.limit → B.ended r.machine → s.machine ≡ r.machine → s.lines ≡ r.lines → IsFoundOf (take 1 piece) s.found → Stopped B r s piece kinds.Trailing
   stopped_over r s piece some room d stays same known = record {
     kind = ((λ e. absurd cc), (λ e. absurd cc));
-    fault = λ ne bytes h. fault_over led_by ended rejects halted r.limit r.machine bytes piece (record { line = s.lines + 1; kind = kinds.Trailing }) s.machine s.found some h.reached (ap (λ (x : ℕ). x + 1) (same ∙ h.lines)) (omega (arith, h.taken, room)) d refl stays known;
+    fault = λ ne bytes h. fault_over B r.limit r.machine bytes piece (record { line = s.lines + 1; kind = kinds.Trailing }) s.machine s.found some h.reached (ap (λ (x : ℕ). x + 1) (same ∙ h.lines)) (omega (arith, h.taken, room)) d refl stays known;
     memory = λ e. absurd cc;
   }
 
   -- ---- a prefix of a piece
 
   -- what holds for a prefix of a piece holds for the piece
-  took_wider : (old new : Reader M) (piece : List ℕ) (room n : ℕ) → TookFront led_by ended rejects halted old new (take room piece) n → TookFront led_by ended rejects halted old new piece n
+  took_wider : (old new : Reader M) (piece : List ℕ) (room n : ℕ) → TookFront B old new (take room piece) n → TookFront B old new piece n
   took_wider old new piece room n h = record {
     within = omega (arith, h.within, length-take room piece);
     count = h.count;
-    accepted = λ bytes a. subst (λ (x : List ℕ). Accepted led_by ended new (bytes ++ x)) (front_of room n piece h.within) (h.accepted bytes a);
+    accepted = λ bytes a. subst (λ (x : List ℕ). Accepted B new (bytes ++ x)) (front_of room n piece h.within) (h.accepted bytes a);
   }
 
-  stopped_wider : (old new : Reader M) (piece : List ℕ) (room : ℕ) (k : Kind) → Stopped led_by ended rejects halted old new (take room piece) k → Stopped led_by ended rejects halted old new piece k
+  stopped_wider : (old new : Reader M) (piece : List ℕ) (room : ℕ) (k : Kind) → Stopped B old new (take room piece) k → Stopped B old new piece k
   stopped_wider old new piece room k h = record {
     kind = h.kind;
-    fault = λ ne bytes a. fault_wider led_by ended rejects halted old.limit bytes piece room (record { line = new.lines + 1; kind = k }) new.machine new.found (h.fault ne bytes a);
-    memory = λ e bytes a. due_wider led_by ended old.limit bytes piece room (h.memory e bytes a);
+    fault = λ ne bytes a. fault_wider B old.limit bytes piece room (record { line = new.lines + 1; kind = k }) new.machine new.found (h.fault ne bytes a);
+    memory = λ e bytes a. due_wider B old.limit bytes piece room (h.memory e bytes a);
   }
 
-  pub advances_wider : (old new : Reader M) (piece front : List ℕ) (room : ℕ) (r : Result ℕ Kind) → front ≡ take room piece → TakesFrontOrStops led_by ended rejects halted old front new r → TakesFrontOrStops led_by ended rejects halted old piece new r
+  pub advances_wider : (old new : Reader M) (piece front : List ℕ) (room : ℕ) (r : Result ℕ Kind) → front ≡ take room piece → TakesFrontOrStops B old front new r → TakesFrontOrStops B old piece new r
   advances_wider old new piece front room (Ok n) e h =
-      record { took = took_wider old new piece room n (subst (λ (x : List ℕ). TookFront led_by ended rejects halted old new x n) e h.took); stopped = tt; fault = h.fault; limit = h.limit }
+      record { took = took_wider old new piece room n (subst (λ (x : List ℕ). TookFront B old new x n) e h.took); stopped = tt; fault = h.fault; limit = h.limit }
   advances_wider old new piece front room (Err k) e h =
-      record { took = tt; stopped = stopped_wider old new piece room k (subst (λ (x : List ℕ). Stopped led_by ended rejects halted old new x k) e h.stopped); fault = h.fault; limit = h.limit }
+      record { took = tt; stopped = stopped_wider old new piece room k (subst (λ (x : List ℕ). Stopped B old new x k) e h.stopped); fault = h.fault; limit = h.limit }
 
   -- the error that is passed on when a step stops
-  pub advances_no_more : (old new : Reader M) (piece : List ℕ) (r : Result ℕ Kind) (k : Kind) → r ≡ Err k → TakesFrontOrStops led_by ended rejects halted old piece new (Err k) → TakesFrontOrStops led_by ended rejects halted old piece new r
-  advances_no_more old new piece r k e h = subst (λ (x : Result ℕ Kind). TakesFrontOrStops led_by ended rejects halted old piece new x) (sym e) h
+  pub advances_no_more : (old new : Reader M) (piece : List ℕ) (r : Result ℕ Kind) (k : Kind) → r ≡ Err k → TakesFrontOrStops B old piece new (Err k) → TakesFrontOrStops B old piece new r
+  advances_no_more old new piece r k e h = subst (λ (x : Result ℕ Kind). TakesFrontOrStops B old piece new x) (sym e) h
 
   -- ---- after a prefix of the piece that was taken
 
-  pub took_behind : (old mid new : Reader M) (piece : List ℕ) (i n : ℕ) → TookFront led_by ended rejects halted old mid piece i → TookFront led_by ended rejects halted mid new (rest i piece) n → TookFront led_by ended rejects halted old new piece (i + n)
+  pub took_behind : (old mid new : Reader M) (piece : List ℕ) (i n : ℕ) → TookFront B old mid piece i → TookFront B mid new (rest i piece) n → TookFront B old new piece (i + n)
   took_behind old mid new piece i n a b =
       let w : n ≤ length (drop i piece) = subst (λ (x : List ℕ). n ≤ length x) (rest_is i piece) b.within in
       record {
         within = omega (arith, w, length-drop i piece, a.within);
         count = omega (arith, a.count, b.count);
-        accepted = λ bytes h. subst (Accepted led_by ended new) (joined bytes piece i n) (b.accepted (bytes ++ take i piece) (a.accepted bytes h));
+        accepted = λ bytes h. subst (Accepted B new) (joined bytes piece i n) (b.accepted (bytes ++ take i piece) (a.accepted bytes h));
       }
 
-  pub stopped_behind : (old mid new : Reader M) (piece : List ℕ) (i : ℕ) (k : Kind) → TookFront led_by ended rejects halted old mid piece i → mid.limit ≡ old.limit → Stopped led_by ended rejects halted mid new (rest i piece) k → Stopped led_by ended rejects halted old new piece k
+  pub stopped_behind : (old mid new : Reader M) (piece : List ℕ) (i : ℕ) (k : Kind) → TookFront B old mid piece i → mid.limit ≡ old.limit → Stopped B mid new (rest i piece) k → Stopped B old new piece k
   stopped_behind old mid new piece i k a same b = record {
     kind = b.kind;
     fault = λ ne bytes h.
         let f : Fault = record { line = new.lines + 1; kind = k } in
-        subst (λ (l : ℕ). FaultBehind led_by ended rejects halted l bytes piece f new.machine new.found) same
-        (fault_behind led_by ended rejects halted mid.limit bytes piece (take i piece) (rest i piece) f new.machine new.found (whole_is i piece) (b.fault ne (bytes ++ take i piece) (a.accepted bytes h)));
+        subst (λ (l : ℕ). FaultBehind B l bytes piece f new.machine new.found) same
+        (fault_behind B mid.limit bytes piece (take i piece) (rest i piece) f new.machine new.found (whole_is i piece) (b.fault ne (bytes ++ take i piece) (a.accepted bytes h)));
     memory = λ e bytes h.
-        due_behind led_by ended old.limit bytes piece i
-        (subst (λ (l : ℕ). LineIsDue led_by ended l (bytes ++ take i piece) (drop i piece)) same
-        (subst (LineIsDue led_by ended mid.limit (bytes ++ take i piece)) (rest_is i piece) (b.memory e (bytes ++ take i piece) (a.accepted bytes h))));
+        due_behind B old.limit bytes piece i
+        (subst (λ (l : ℕ). LineIsDue B l (bytes ++ take i piece) (drop i piece)) same
+        (subst (LineIsDue B mid.limit (bytes ++ take i piece)) (rest_is i piece) (b.memory e (bytes ++ take i piece) (a.accepted bytes h))));
   }

@@ -1,16 +1,16 @@
 -- Why a reader refuses the input at its end.
-use Rattle.sas_reader.proofs.Imports.{◌≡◌, ℕ, ◌+◌, List, refl, sym, ap, subst, ◌∙◌, arith, inl, inr, Option, Some, None, Fault, Kind, Excerpt, Reader, IsFoundOf, FaultIn, RefusedAtEnd}
+use Rattle.sas_reader.proofs.Imports.{Behavior, ◌≡◌, ℕ, ◌+◌, List, refl, sym, ap, subst, ◌∙◌, arith, inl, inr, Option, Some, None, Fault, Excerpt, Reader, IsFoundOf, FaultIn, RefusedAtEnd}
 use Rattle.sas_reader.specs.declared.fault.Kind.TheVariants as kinds
 use Rattle.sas_reader.proofs.Standing.{accepted_of, fault_of}
 
-module _ {M : Type 0} (led_by : List (List ℕ) → M → Type 0) (ended : M → Type 0) (rejects : M → List ℕ → Kind → Type 0) (halted : M → List ℕ → Kind → M → Type 0) where
-  module _ (r : Reader M) (f : Fault) (found : Excerpt) (kept : (g : Fault) → r.fault ≡ Some g → (f ≡ g) × (found ≡ r.found)) (early : r.fault ≡ None → (ended r.machine → ⊥) × (f.line ≡ r.lines + 1) × (f.kind ≡ kinds.End)) (rest : r.fault ≡ None → IsFoundOf r.pending.pending found) where
-    refused_by : (o : Option Fault) → r.fault ≡ o → RefusedAtEnd led_by ended rejects halted r (record { fault = f; machine = r.machine; found = found })
+module _ {M : Type 0} (B : Behavior M) where
+  module _ (r : Reader M) (f : Fault) (found : Excerpt) (kept : (g : Fault) → r.fault ≡ Some g → (f ≡ g) × (found ≡ r.found)) (early : r.fault ≡ None → (B.ended r.machine → ⊥) × (f.line ≡ r.lines + 1) × (f.kind ≡ kinds.End)) (rest : r.fault ≡ None → IsFoundOf r.pending.pending found) where
+    refused_by : (o : Option Fault) → r.fault ≡ o → RefusedAtEnd B r (record { fault = f; machine = r.machine; found = found })
     refused_by (Some g) is =
         let k = kept g is in
         let there : r.fault ≡ Some f = is ∙ ap (λ (x : Fault). Some x) (sym k.0) in
         record {
-          fault = λ ne bytes s. inl (subst (λ (x : Excerpt). FaultIn led_by ended rejects halted r.limit bytes f r.machine x) (sym k.1) (fault_of led_by ended rejects halted r f bytes there s ne));
+          fault = λ ne bytes s. inl (subst (λ (x : Excerpt). FaultIn B r.limit bytes f r.machine x) (sym k.1) (fault_of B r f bytes there s ne));
           memory = λ _. there;
           read = λ _. there;
         }
@@ -18,7 +18,7 @@ module _ {M : Type 0} (led_by : List (List ℕ) → M → Type 0) (ended : M →
         let end = early is in
         record {
           fault = λ ne bytes s.
-              let h = accepted_of led_by ended rejects halted r bytes is s in
+              let h = accepted_of B r bytes is s in
               inr (record {
                 reached = h.reached;
                 open_still = end.0;
@@ -31,5 +31,5 @@ module _ {M : Type 0} (led_by : List (List ℕ) → M → Type 0) (ended : M →
           read = λ e. let x : kinds.End ≡ kinds.Read = sym end.2 ∙ e in absurd cc;
         }
 
-    pub refused_at_end : RefusedAtEnd led_by ended rejects halted r (record { fault = f; machine = r.machine; found = found })
+    pub refused_at_end : RefusedAtEnd B r (record { fault = f; machine = r.machine; found = found })
     refused_at_end = refused_by r.fault refl

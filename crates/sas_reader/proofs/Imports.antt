@@ -2,7 +2,7 @@
 pub use lib.Count.{count_trailing_zeros}
 pub use lib.Lanes.{chunk, mask_l}
 pub use mir.Syntax.{w8}
-pub use Rattle.std.proofs.Common.{leb, ◌≡◌, ◌≢◌, ℕ, List, [], ◌∷◌, ◌++◌, refl, sym, ap, ◌∙◌, append_assoc, ◌⊎◌, inl, inr, ◌+◌, ◌-◌, ◌≤◌, ◌<◌, Bool, true, false, not, length, take, drop, subst, arith, length-append, length-drop, Result, Ok, Err, ◌*◌, ◌/◌, ◌^◌, cond, ◌==◌, if◌then◌else◌, zero, suc, get_or, map, ap₂, Option, Some, None, IsTrue, ◌&&◌, eqb, IfOk, IsErr, IsErrAnd, rules}
+pub use Rattle.std.proofs.Common.{leb, ◌≡◌, ◌≢◌, ℕ, List, [], ◌∷◌, ◌++◌, refl, sym, ap, ◌∙◌, append_assoc, ◌⊎◌, inl, inr, ◌+◌, ◌-◌, ◌≤◌, ◌<◌, Bool, true, false, not, length, take, drop, subst, arith, length-append, length-drop, Result, Ok, Err, ◌*◌, ◌/◌, ◌^◌, cond, ◌==◌, if◌then◌else◌, zero, suc, get_or, map, ap₂, Option, Some, None, IsTrue, ◌&&◌, eqb, IfOk, IsErr, IsErrAnd, rules, ◌↔◌}
 pub use Rattle.std.proofs.KnownBytes.{Consumes-nil, Consumes-trans, Consumes-kept}
 pub use Rattle.std.proofs.Math.Dec.{ltb}
 pub use Rattle.std.proofs.Math.Nat.{min_comm}
@@ -28,14 +28,14 @@ pub use Rattle.sas_lines.specs.FirstLines.{TakesLine, LineStandsFirst, LinesStan
 pub use Rattle.sas_lines.specs.Lines.{without_return, NoEnd, text, EndedLines}
 unfoldable pub use Rattle.sas_lines.specs.Lines.{lines, unfinished}
 pub use Rattle.sas_lines.specs.Progress.{Progress, completed}
-pub use Rattle.sas_reader.specs.About.{IsAbout, of_line, of_byte, of_end, ConcernsText, AboutLaws}
+pub use Rattle.sas_reader.specs.About.{IsAbout, of_line, of_byte, of_end, ConcernsText, EndsUnended, AboutLaws}
 pub use Rattle.sas_reader.specs.Devices.{Refuses, unread_at, ended_at, faulty_at, ReadsAll}
 pub use Rattle.sas_reader.specs.Faults.{IsOfBytes, answer}
-pub use Rattle.sas_reader.specs.Format.{Format, KindAt, too_long, trailing, wrong, FaultOf, EndOf, Live, MoreIsDue, ReadsAs, IsBegun, MayFollow}
+pub use Rattle.sas_reader.specs.Format.{Format, KindAt, too_long, trailing, wrong, FaultOf, EndOf, Live, MoreIsDue, ReadsAs, IsBegun, AreAllLines, LacksLineEnd, MayFollow}
 pub use Rattle.sas_reader.specs.Found.{IsFoundOf, behind_ends, kept_bytes}
 pub use Rattle.sas_reader.specs.Laws.{Laws, FaultlessIsLive, SomeReading, TextsAreEndedLines, TextIsRead, OneValue, OneSlot, NoSlotAtEnd, FaultIsDead, OneFault, TextIsLive, FaultIsNoText, OneReading}
 pub use Rattle.sas_reader.specs.Limit.{most_bytes}
-pub use Rattle.sas_reader.specs.Machine.{IsFront, AcceptsAhead}
+pub use Rattle.sas_reader.specs.Machine.{Behavior, IsFront, AcceptsAhead}
 pub use Rattle.sas_reader.specs.Reader.{Reached, Accepted, LineIsDue, FaultBehind, TookFront, Stopped, TakesFrontOrStops, Stops, full, over, rejected, FaultIn, EndsEarly, IsRefused, ReadFails, unread, early, faulty, RefusedAtEnd, TakesPiece, FeedsMachine, StandsAt, ReachesEnd}
 pub use Rattle.sas_reader.specs.Reading.{View, Feeds}
 pub use Rattle.sas_reader.specs.Refusals.{ExplainsRefusal, ReadsOrExplains, StandsBehind, behind_line, behind_text, at_end}

@@ -14,6 +14,7 @@ pub mod Conversion
 pub mod Reading
 pub mod Known
 pub mod About
+pub mod LineEnds
 pub mod Refusals
 pub mod KnownRefusals
 mod Tested

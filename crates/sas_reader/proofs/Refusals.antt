@@ -1,26 +1,23 @@
 -- What a refusal explains, for a machine that follows a grammar.
-use Rattle.sas_reader.proofs.Imports.{◌≡◌, ℕ, ◌≤◌, List, [], ◌∷◌, ◌++◌, length, refl, sym, ap, subst, ◌∙◌, arith, inl, inr, Option, Ok, Err, IsAtEnd, Device, without_return, lines, unfinished, lines-end, Fault, Kind, Excerpt, Refusal, ConcernsText, IsAbout, of_line, of_byte, of_end, Refuses, ReadsAll, Format, Live, trailing, wrong, FaultOf, IsFoundOf, most_bytes, Reached, Stops, full, over, rejected, FaultIn, EndsEarly, IsRefused, ReadFails, unread, early, faulty, FeedsMachine, ExplainsRefusal, ReadsOrExplains, StandsBehind, behind_line, behind_text, at_end, Node, Grammar}
-use Rattle.sas_reader.proofs.Conversion.{Follows, At, at, path_of, end_of_format, device_refusal}
+use Rattle.sas_reader.proofs.Imports.{Behavior, ◌≡◌, ℕ, ◌≤◌, List, [], ◌∷◌, ◌++◌, length, refl, sym, ap, subst, ◌∙◌, arith, inl, inr, Option, Ok, Err, IsAtEnd, Device, without_return, lines, unfinished, lines-end, Fault, Excerpt, Refusal, ConcernsText, IsAbout, of_line, of_byte, of_end, Refuses, ReadsAll, Format, Live, trailing, wrong, FaultOf, IsFoundOf, most_bytes, Reached, Stops, full, over, rejected, FaultIn, EndsEarly, IsRefused, ReadFails, unread, early, faulty, FeedsMachine, ExplainsRefusal, ReadsOrExplains, StandsBehind, behind_line, behind_text, at_end, Node, Grammar}
+use Rattle.sas_reader.proofs.Conversion.{Follows, path_of, end_of_format, device_refusal}
 use Rattle.sas_reader.proofs.Live.{live, done_dead, line_dead, rejected_as, next_slot, reads_done}
 use Rattle.sas_reader.proofs.Reading.{reads_all, refuses_all}
 
-module _ {T V I S M : Type 0} (F : Format V I S) (Fits : I → Type 0) (node : T → Node T V I S) (start : T) (g : Grammar F Fits node start) (led_by : List (List ℕ) → M → Type 0) (Ended : M → Type 0) (rejects : M → List ℕ → Kind → Type 0) (halted : M → List ℕ → Kind → M → Type 0) (follows : Follows F Fits node start led_by Ended rejects) where
+module _ {T V I S M : Type 0} (F : Format V I S) (Fits : I → Type 0) (node : T → Node T V I S) (start : T) (g : Grammar F Fits node start) (B : Behavior M) (follows : Follows F Fits node start B) where
   -- what the fault is about, the kept text, and the state of the machine after the fault
   pub record Answer (limit : ℕ) (bytes : List ℕ) (f : Fault) (now : M) (found : Excerpt) : Type 0 where
     pub accepted : List (List ℕ)
     pub text : List ℕ
     pub about : IsAbout F limit bytes f accepted text
     pub kept : IsFoundOf text found
-    pub stands : StandsBehind led_by Ended rejects halted accepted text f.kind now
+    pub stands : StandsBehind B accepted text f.kind now
 
-  abbrev take_cut_line : (m : M) (bytes : List ℕ) → Reached led_by Ended m bytes → At F Fits node start Ended rejects (lines bytes) m
-  take_cut_line m bytes h = at F Fits node start g led_by Ended rejects follows m bytes h
-
-  fault_reported : (limit : ℕ) (bytes : List ℕ) (f : Fault) (now : M) (found : Excerpt) → ConcernsText f.kind → (h : FaultIn led_by Ended rejects halted limit bytes f now found) → Stops led_by Ended rejects halted limit h.machine h.before h.byte f.kind now found → Answer limit bytes f now found
+  fault_reported : (limit : ℕ) (bytes : List ℕ) (f : Fault) (now : M) (found : Excerpt) → ConcernsText f.kind → (h : FaultIn B limit bytes f now found) → Stops B limit h.machine h.before h.byte f.kind now found → Answer limit bytes f now found
   fault_reported limit bytes f now found reported h (full l k) = absurd (reported.1 k)
   fault_reported limit bytes f now found reported h (over l d k stays is) =
-      let a = take_cut_line h.machine h.before h.reached in
-      let path = path_of F Fits node start g led_by Ended rejects follows h.machine h.before h.reached in
+      let a = follows (lines h.before) h.machine h.reached.led in
+      let path = path_of F Fits node start g B follows h.machine h.before h.reached in
       let v = a.value d in
       let reads = reads_done F Fits node start g a.state v.0 h.before v.1 path in
       let fault : FaultOf F limit bytes f = record { before = h.before; byte = h.byte; after = h.after; whole = h.whole; live = live F Fits node start g limit a.state h.before (omega (arith, l)) path; dead = done_dead F Fits node start g limit a.state v.0 h.before h.byte v.1 path; line = h.line; kind = trailing l v.0 reads k } in
@@ -29,12 +26,12 @@ module _ {T V I S M : Type 0} (F : Format V I S) (Fits : I → Type 0) (node : T
         text = h.byte ∷ [];
         about = of_byte fault refl refl v.0 reads k;
         kept = is;
-        stands = behind_text (subst (λ (m : M). led_by (lines h.before) m) (sym stays) h.reached.led) (subst Ended (sym stays) d) k;
+        stands = behind_text (subst (λ (m : M). B.led_by (lines h.before) m) (sym stays) h.reached.led) (subst B.ended (sym stays) d) k;
       }
   fault_reported limit bytes f now found reported h (rejected l going b r behind is) =
       let line = without_return (unfinished h.before) in
-      let a = take_cut_line h.machine h.before h.reached in
-      let path = path_of F Fits node start g led_by Ended rejects follows h.machine h.before h.reached in
+      let a = follows (lines h.before) h.machine h.reached.led in
+      let path = path_of F Fits node start g B follows h.machine h.before h.reached in
       let refused = a.refuses line f.kind going r in
       let j = rejected_as F Fits node start g (node a.state) line f.kind refused in
       let ended : lines (h.before ++ h.byte ∷ []) ≡ lines h.before ++ line ∷ [] = ap (λ (y : ℕ). lines (h.before ++ y ∷ [])) b ∙ lines-end h.before in
@@ -49,20 +46,20 @@ module _ {T V I S M : Type 0} (F : Format V I S) (Fits : I → Type 0) (node : T
         stands = behind_line h.machine h.reached.led going r behind;
       }
 
-  end_reported : (limit : ℕ) (bytes : List ℕ) (f : Fault) (now : M) (found : Excerpt) → EndsEarly led_by Ended limit bytes f now found → Answer limit bytes f now found
+  end_reported : (limit : ℕ) (bytes : List ℕ) (f : Fault) (now : M) (found : Excerpt) → EndsEarly B limit bytes f now found → Answer limit bytes f now found
   end_reported limit bytes f now found h = record {
     accepted = lines bytes;
     text = unfinished bytes;
-    about = of_end (end_of_format F Fits node start g led_by Ended rejects follows limit bytes f now found h) refl refl;
+    about = of_end (end_of_format F Fits node start g B follows limit bytes f now found h) refl refl;
     kept = h.rest;
     stands = at_end h.reached.led h.open_still h.kind;
   }
 
-  pub reported_by : (limit : ℕ) (bytes : List ℕ) (r : Refusal M) → ConcernsText r.fault.kind → IsRefused led_by Ended rejects halted limit bytes r → Answer limit bytes r.fault r.machine r.found
+  pub reported_by : (limit : ℕ) (bytes : List ℕ) (r : Refusal M) → ConcernsText r.fault.kind → IsRefused B limit bytes r → Answer limit bytes r.fault r.machine r.found
   reported_by limit bytes r reported (inl h) = fault_reported limit bytes r.fault r.machine r.found reported h h.stops
   reported_by limit bytes r reported (inr h) = end_reported limit bytes r.fault r.machine r.found h
 
-  device_reported : (bytes : List ℕ) (End : Type 0) (r : Refusal M) → ConcernsText r.fault.kind → ReadFails led_by Ended rejects halted most_bytes bytes End r → Answer most_bytes bytes r.fault r.machine r.found
+  device_reported : (bytes : List ℕ) (End : Type 0) (r : Refusal M) → ConcernsText r.fault.kind → ReadFails B most_bytes bytes End r → Answer most_bytes bytes r.fault r.machine r.found
   device_reported bytes End r reported (unread m h l n k) = absurd (reported.0 k)
   device_reported bytes End r reported (early e h) = reported_by most_bytes bytes r reported (inr h)
   device_reported bytes End r reported (faulty h ne) = reported_by most_bytes bytes r reported (inl h)
@@ -70,31 +67,31 @@ module _ {T V I S M : Type 0} (F : Format V I S) (Fits : I → Type 0) (node : T
   -- ---- a refusal X that is made from that of the machine
 
   module _ {X : Type 0} (fault : X → Fault) (found : X → Excerpt) (Why : List (List ℕ) → List ℕ → X → Type 0) (r : Refusal M) (x : X) (same : fault x ≡ r.fault) (same_found : found x ≡ r.found)
-      (why : (a : List (List ℕ)) (t : List ℕ) → StandsBehind led_by Ended rejects halted a t r.fault.kind r.machine → Why a t x) where
+      (why : (a : List (List ℕ)) (t : List ℕ) → StandsBehind B a t r.fault.kind r.machine → IsFoundOf t r.found → Why a t x) where
     pub explains : (bytes : List ℕ) → Answer most_bytes bytes r.fault r.machine r.found → ExplainsRefusal F fault found Why bytes x
     explains bytes w = record {
       accepted = w.accepted;
       text = w.text;
       about = subst (λ (f : Fault). IsAbout F most_bytes bytes f w.accepted w.text) (sym same) w.about;
       kept = subst (IsFoundOf w.text) (sym same_found) w.kept;
-      why = why w.accepted w.text w.stands;
+      why = why w.accepted w.text w.stands w.kept;
     }
 
-    pub refuses_explained : {D A : Type 0} (left : D → Option (List ℕ)) (Gives : List ℕ → A → Type 0) (old new : Device D) → FeedsMachine led_by Ended rejects halted left most_bytes old new (Err r) → ReadsOrExplains F fault found Why left Gives old new (Err x)
+    pub refuses_explained : {D A : Type 0} (left : D → Option (List ℕ)) (Gives : List ℕ → A → Type 0) (old new : Device D) → FeedsMachine B left most_bytes old new (Err r) → ReadsOrExplains F fault found Why left Gives old new (Err x)
     refuses_explained left Gives old new h = record {
-      plain = subst (λ (f : Fault). ReadsAll left F Gives old new (Err f)) (sym same) (refuses_all F Fits node start g led_by Ended rejects halted follows left Gives old new r h);
+      plain = subst (λ (f : Fault). ReadsAll left F Gives old new (Err f)) (sym same) (refuses_all F Fits node start g B follows left Gives old new r h);
       explained = λ is_reported.
           let reported : ConcernsText r.fault.kind = subst (λ (f : Fault). ConcernsText f.kind) same is_reported in
           let t = h.refused reported.2 in
           let End = IsAtEnd (left new.device) in (
             t.0,
             t.1,
-            subst (λ (f : Fault). Refuses F t.0 End f) (sym same) (device_refusal F Fits node start g led_by Ended rejects halted follows t.0 End r t.2),
+            subst (λ (f : Fault). Refuses F t.0 End f) (sym same) (device_refusal F Fits node start g B follows t.0 End r t.2),
             explains t.0 (device_reported t.0 End r reported t.2),
           );
     }
 
   -- and what was read
-  pub reads_explained : {D A X : Type 0} (fault : X → Fault) (found : X → Excerpt) (Why : List (List ℕ) → List ℕ → X → Type 0) (left : D → Option (List ℕ)) (Gives : List ℕ → A → Type 0) (old new : Device D) (m : M) (a : A) → FeedsMachine led_by Ended rejects halted left most_bytes old new (Ok m)
-      → ((b : List ℕ) → Reached led_by Ended m b → length b ≤ most_bytes → Gives b a) → ReadsOrExplains F fault found Why left Gives old new (Ok a)
-  reads_explained fault found Why left Gives old new m a h gives = record { plain = reads_all F Fits node start g led_by Ended rejects halted follows left Gives old new m a h gives; explained = tt }
+  pub reads_explained : {D A X : Type 0} (fault : X → Fault) (found : X → Excerpt) (Why : List (List ℕ) → List ℕ → X → Type 0) (left : D → Option (List ℕ)) (Gives : List ℕ → A → Type 0) (old new : Device D) (m : M) (a : A) → FeedsMachine B left most_bytes old new (Ok m)
+      → ((b : List ℕ) → Reached B m b → length b ≤ most_bytes → Gives b a) → ReadsOrExplains F fault found Why left Gives old new (Ok a)
+  reads_explained fault found Why left Gives old new m a h gives = record { plain = reads_all F Fits node start g B follows left Gives old new m a h gives; explained = tt }

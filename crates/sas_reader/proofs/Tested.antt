@@ -1,5 +1,5 @@
 -- The results of a reader's tests, and of its calls that fail.
-use Rattle.sas_reader.proofs.Imports.{◌≡◌, ℕ, ◌<◌, ◌∙◌, Bool, true, false, List, [], length, eqb, sym, ap, subst, arith, Result, Ok, Err, IfOk, IsErr, IsErrAnd, eqb-true, eqb-false, false≢true, nil_from_length, append-nil, Progress, Kind, Reader, Reached, Accepted, TookFront, TakesFrontOrStops}
+use Rattle.sas_reader.proofs.Imports.{Behavior, ◌≡◌, ℕ, ◌<◌, ◌∙◌, Bool, true, false, List, [], length, eqb, sym, ap, subst, arith, Result, Ok, Err, IfOk, IsErr, IsErrAnd, eqb-true, eqb-false, false≢true, nil_from_length, append-nil, Progress, Kind, Reader, Reached, Accepted, TookFront, TakesFrontOrStops}
 use Rattle.sas_reader.specs.declared.fault.Kind.TheVariants as kinds
 use Rattle.sas_reader.proofs.Advancing.{stopped_memory}
 
@@ -25,25 +25,25 @@ pub memory_is : {A : Type 0} (r : Result A Kind) (e : Kind) → e ≡ kinds.Memo
 memory_is (Ok x) e m is = is
 memory_is (Err x) e m is = is ∙ m
 
-module _ {M : Type 0} (led_by : List (List ℕ) → M → Type 0) (ended : M → Type 0) (rejects : M → List ℕ → Kind → Type 0) (halted : M → List ℕ → Kind → M → Type 0) where
+module _ {M : Type 0} (B : Behavior M) where
   -- the reader is out of memory while a line is expected
-  pub advances_refused : (old new : Reader M) (piece : List ℕ) (r : Result ℕ Kind) → IsErr r → IsErrAnd r (λ k. k ≡ kinds.Memory) → 0 < length piece → (ended old.machine → ⊥) → old.taken < old.limit
-      → new.fault ≡ old.fault → new.limit ≡ old.limit → TakesFrontOrStops led_by ended rejects halted old piece new r
+  pub advances_refused : (old new : Reader M) (piece : List ℕ) (r : Result ℕ Kind) → IsErr r → IsErrAnd r (λ k. k ≡ kinds.Memory) → 0 < length piece → (B.ended old.machine → ⊥) → old.taken < old.limit
+      → new.fault ≡ old.fault → new.limit ≡ old.limit → TakesFrontOrStops B old piece new r
   advances_refused old new piece (Ok n) is k some going room fault limit = absurd (false≢true is)
   advances_refused old new piece (Err e) is k some going room fault limit = record {
     took = tt;
-    stopped = stopped_memory led_by ended rejects halted old new piece e some going room k;
+    stopped = stopped_memory B old new piece e some going room k;
     fault = fault;
     limit = limit;
   }
 
   -- nothing was taken, and everything relevant is unchanged
-  pub took_nothing : (old new : Reader M) (piece : List ℕ) → new.machine ≡ old.machine → new.pending ≡ old.pending → new.lines ≡ old.lines → new.taken ≡ old.taken → TookFront led_by ended rejects halted old new piece 0
+  pub took_nothing : (old new : Reader M) (piece : List ℕ) → new.machine ≡ old.machine → new.pending ≡ old.pending → new.lines ≡ old.lines → new.taken ≡ old.taken → TookFront B old new piece 0
   took_nothing old new piece machine pending lines taken = record {
     within = omega arith;
     count = omega (arith, taken);
-    accepted = λ bytes h. subst (Accepted led_by ended new) (sym (append-nil bytes)) (record {
-      reached = subst (λ (m : M). Reached led_by ended m bytes) (sym machine) h.reached;
+    accepted = λ bytes h. subst (Accepted B new) (sym (append-nil bytes)) (record {
+      reached = subst (λ (m : M). Reached B m bytes) (sym machine) h.reached;
       pending = ap (λ (p : Progress). p.pending) pending ∙ h.pending;
       lines = lines ∙ h.lines;
       taken = taken ∙ h.taken;

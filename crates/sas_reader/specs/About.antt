@@ -1,11 +1,11 @@
 -- What a fault is about: the lines that were accepted before it, and the text at the fault.
 use Rattle.std.specs.Prelude.{◌≡◌, ◌≢◌, ℕ, List, [], ◌∷◌, ◌++◌, ◌⊎◌}
-use Rattle.sas_lines.specs.Lines.{lines, unfinished}
+use Rattle.sas_lines.specs.Lines.{without_return, lines, unfinished}
 use Rattle.sas_reader.specs.declared.fault.Fault.{Fault}
 use Rattle.sas_reader.specs.declared.fault.Kind.{Kind}
 use Rattle.sas_reader.specs.declared.fault.Kind.TheVariants as kinds
 use Rattle.sas_reader.specs.Texts.{Reads}
-use Rattle.sas_reader.specs.Format.{Format, MayFollow, FaultOf, EndOf}
+use Rattle.sas_reader.specs.Format.{Format, AreAllLines, MayFollow, FaultOf, EndOf}
 
 -- a fault of this kind is about a text; one of kind `Read`, `TooLong` or `Memory` is not
 abbrev pub ConcernsText : Kind → Type 0
@@ -27,6 +27,12 @@ module _ {V I S : Type 0} (F : Format V I S) where
     -- an early end: the text is what follows the last line end
     of_end : EndOf F limit bytes f → accepted ≡ lines bytes → text ≡ unfinished bytes
         → IsAbout limit bytes f accepted text
+
+  -- The same, by what the fault of the bytes is about. They end early, and the accepted lines and
+  -- the unfinished one, without a CR at its end, are all lines of some value.
+  abbrev pub EndsUnended : Kind → List (List ℕ) → List ℕ → Type 0
+  EndsUnended kind accepted text =
+      (kind ≡ kinds.End) × AreAllLines F (accepted ++ without_return text ∷ [])
 
   -- laws
   pub record AboutLaws : Type 0 where

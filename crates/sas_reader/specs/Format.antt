@@ -22,6 +22,18 @@ module _ {V I S : Type 0} (F : Format V I S) where
   IsBegun begun = (v : V) × (more : List (List ℕ)) × F.texts.Good v
       × (lines_of F.texts v ≡ begun ++ more)
 
+  -- these are all lines of some value
+  abbrev pub AreAllLines : List (List ℕ) → Type 0
+  AreAllLines ls = (v : V) × F.texts.Good v × (lines_of F.texts v ≡ ls)
+
+  -- the bytes are a text of some value
+  abbrev pub IsText : List ℕ → Type 0
+  IsText bytes = (v : V) × Reads F.texts bytes v
+
+  -- only a line end is missing: the bytes and an LF are a text
+  abbrev pub LacksLineEnd : List ℕ → Type 0
+  LacksLineEnd bytes = IsText (bytes ++ 10 ∷ [])
+
   -- No fault so far: the bytes are within the limit, some value's lines begin with their complete
   -- lines and, if these are all lines of a value, nothing follows. Otherwise anything may follow
   -- the last line end, until that line ends as well.

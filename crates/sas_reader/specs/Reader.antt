@@ -12,14 +12,13 @@ use Rattle.sas_reader.specs.declared.reader.Reader.{Reader}
 use Rattle.sas_reader.specs.declared.reader.Refusal.{Refusal}
 use Rattle.sas_reader.specs.Faults.{IsOfBytes, answer}
 use Rattle.sas_reader.specs.Found.{IsFoundOf}
+use Rattle.sas_reader.specs.Machine.{Behavior}
 
--- A machine M is led by the lines that it accepts, may have ended, and rejects lines that may not
--- follow.
-module _ {M : Type 0} (led_by : List (List ℕ) → M → Type 0) (ended : M → Type 0) where
+module _ {M : Type 0} (B : Behavior M) where
   -- the machine has accepted the complete lines of the bytes; if it has ended, nothing follows them
   pub record Reached (machine : M) (bytes : List ℕ) : Type 0 where
-    pub led : led_by (lines bytes) machine
-    pub rest : ended machine → unfinished bytes ≡ []
+    pub led : B.led_by (lines bytes) machine
+    pub rest : B.ended machine → unfinished bytes ≡ []
 
   -- the reader has taken the bytes: its machine has accepted their complete lines, and it has their
   -- rest and their length
@@ -33,7 +32,7 @@ module _ {M : Type 0} (led_by : List (List ℕ) → M → Type 0) (ended : M →
   pub record EndsEarly (limit : ℕ) (bytes : List ℕ) (f : Fault) (machine : M)
       (found : Excerpt) : Type 0 where
     pub reached : Reached machine bytes
-    pub open_still : ended machine → ⊥
+    pub open_still : B.ended machine → ⊥
     pub short : length bytes ≤ limit
     pub line : f.line ≡ length (lines bytes) + 1
     pub kind : f.kind ≡ kinds.End
@@ -46,13 +45,9 @@ module _ {M : Type 0} (led_by : List (List ℕ) → M → Type 0) (ended : M →
     pub at : ℕ
     pub within : at < length piece
     pub reached : Reached machine (bytes ++ take at piece)
-    pub open_still : ended machine → ⊥
+    pub open_still : B.ended machine → ⊥
     pub room : length (bytes ++ take at piece) < limit
 
--- `halted` relates a machine, a line that it refused, the kind of fault, and the machine after
--- that.
-module _ {M : Type 0} (led_by : List (List ℕ) → M → Type 0) (ended : M → Type 0)
-    (rejects : M → List ℕ → Kind → Type 0) (halted : M → List ℕ → Kind → M → Type 0) where
   -- Why the byte may not follow these bytes, after which the machine is `machine`. At the limit
   -- nothing more is known. Otherwise `found` is the byte after a whole text or the refused line,
   -- and `now` is the machine after the fault.
@@ -60,11 +55,11 @@ module _ {M : Type 0} (led_by : List (List ℕ) → M → Type 0) (ended : M →
       (now : M) (found : Excerpt) : Type 0 where
     full : length bytes ≡ limit → k ≡ kinds.TooLong
         → Stops limit machine bytes byte k now found
-    over : length bytes + 1 ≤ limit → ended machine → k ≡ kinds.Trailing → now ≡ machine
+    over : length bytes + 1 ≤ limit → B.ended machine → k ≡ kinds.Trailing → now ≡ machine
         → IsFoundOf (byte ∷ []) found → Stops limit machine bytes byte k now found
-    rejected : length bytes + 1 ≤ limit → (ended machine → ⊥) → byte ≡ 10
-        → rejects machine (without_return (unfinished bytes)) k
-        → halted machine (without_return (unfinished bytes)) k now
+    rejected : length bytes + 1 ≤ limit → (B.ended machine → ⊥) → byte ≡ 10
+        → B.rejects machine (without_return (unfinished bytes)) k
+        → B.stopped machine (without_return (unfinished bytes)) k now
         → IsFoundOf (without_return (unfinished bytes)) found
         → Stops limit machine bytes byte k now found
 
@@ -76,12 +71,12 @@ module _ {M : Type 0} (led_by : List (List ℕ) → M → Type 0) (ended : M →
     pub byte : ℕ
     pub after : List ℕ
     pub whole : bytes ≡ before ++ byte ∷ after
-    pub reached : Reached led_by ended machine before
+    pub reached : Reached machine before
     pub line : f.line ≡ length (lines before) + 1
     pub stops : Stops limit machine before byte f.kind now found
 
   abbrev pub StandsAt : Option Fault → Reader M → List ℕ → Type 0
-  StandsAt None r bytes = Accepted led_by ended r bytes
+  StandsAt None r bytes = Accepted r bytes
   StandsAt (Some f) r bytes = f.kind ≢ kinds.Memory → FaultIn r.limit bytes f r.machine r.found
 
   -- A reader without a fault represents the bytes that it has taken. With a fault, except for
@@ -104,7 +99,7 @@ module _ {M : Type 0} (led_by : List (List ℕ) → M → Type 0) (ended : M →
     -- a call runs out of memory only if a line is expected
     pub memory : IfErr result
         (λ f. old.fault ≡ None → f.kind ≡ kinds.Memory → (bytes : List ℕ) → Stands old bytes
-        → LineIsDue led_by ended old.limit bytes piece)
+        → LineIsDue old.limit bytes piece)
     pub count : OnOk result (new.taken ≡ old.taken + length piece)
     pub limit : new.limit ≡ old.limit
 
@@ -114,8 +109,7 @@ module _ {M : Type 0} (led_by : List (List ℕ) → M → Type 0) (ended : M →
   pub record TookFront (old new : Reader M) (piece : List ℕ) (n : ℕ) : Type 0 where
     pub within : n ≤ length piece
     pub count : new.taken ≡ old.taken + n
-    pub accepted : (bytes : List ℕ) → Accepted led_by ended old bytes
-        → Accepted led_by ended new (bytes ++ take n piece)
+    pub accepted : (bytes : List ℕ) → Accepted old bytes → Accepted new (bytes ++ take n piece)
 
   -- like `FaultIn`, for a piece after these bytes that has the faulty byte
   pub record FaultBehind (limit : ℕ) (bytes piece : List ℕ) (f : Fault) (now : M)
@@ -125,7 +119,7 @@ module _ {M : Type 0} (led_by : List (List ℕ) → M → Type 0) (ended : M →
     pub byte : ℕ
     pub after : List ℕ
     pub whole : piece ≡ front ++ byte ∷ after
-    pub reached : Reached led_by ended machine (bytes ++ front)
+    pub reached : Reached machine (bytes ++ front)
     pub line : f.line ≡ length (lines (bytes ++ front)) + 1
     pub stops : Stops limit machine (bytes ++ front) byte f.kind now found
 
@@ -133,11 +127,11 @@ module _ {M : Type 0} (led_by : List (List ℕ) → M → Type 0) (ended : M →
   -- line is expected
   pub record Stopped (old new : Reader M) (piece : List ℕ) (k : Kind) : Type 0 where
     pub kind : IsOfBytes k
-    pub fault : k ≢ kinds.Memory → (bytes : List ℕ) → Accepted led_by ended old bytes
+    pub fault : k ≢ kinds.Memory → (bytes : List ℕ) → Accepted old bytes
         → FaultBehind old.limit bytes piece (record { line = new.lines + 1; kind = k })
         new.machine new.found
-    pub memory : k ≡ kinds.Memory → (bytes : List ℕ) → Accepted led_by ended old bytes
-        → LineIsDue led_by ended old.limit bytes piece
+    pub memory : k ≡ kinds.Memory → (bytes : List ℕ) → Accepted old bytes
+        → LineIsDue old.limit bytes piece
 
   -- the promise of a step of a reader: it took this many bytes of the piece, or stopped
   pub record TakesFrontOrStops (old : Reader M) (piece : List ℕ) (new : Reader M)
@@ -152,7 +146,7 @@ module _ {M : Type 0} (led_by : List (List ℕ) → M → Type 0) (ended : M →
   -- the bytes have the fault of the refusal, or end early
   abbrev pub IsRefused : ℕ → List ℕ → Refusal M → Type 0
   IsRefused limit bytes r = FaultIn limit bytes r.fault r.machine r.found
-      ⊎ EndsEarly led_by ended limit bytes r.fault r.machine r.found
+      ⊎ EndsEarly limit bytes r.fault r.machine r.found
 
   -- why the input is refused at its end; `Memory` and `Read` are reported only if they occurred
   -- before
@@ -164,19 +158,19 @@ module _ {M : Type 0} (led_by : List (List ℕ) → M → Type 0) (ended : M →
 
   -- the promise of a reader at the end: the machine after all lines, or why the input is refused
   pub record ReachesEnd (r : Reader M) (result : Result M (Refusal M)) : Type 0 where
-    pub at_end : IfOk result (λ m. ended m)
+    pub at_end : IfOk result (λ m. B.ended m)
     pub reached : IfOk result (λ m. (bytes : List ℕ) → Stands r bytes
-        → Reached led_by ended m bytes × (length bytes ≤ r.limit))
+        → Reached m bytes × (length bytes ≤ r.limit))
     pub refused : IfErr result (λ e. RefusedAtEnd r e)
     pub kept : (f : Fault) → r.fault ≡ Some f → IsErrAnd result (λ e. e.fault ≡ f)
 
   -- Why a device was not read as a whole. Either a read failed after these bytes; or they are all
   -- and end early; or they have a fault.
   pub data ReadFails (limit : ℕ) (bytes : List ℕ) (at_end : Type 0) (r : Refusal M) : Type 0 where
-    unread : (machine : M) → Reached led_by ended machine bytes → length bytes ≤ limit
+    unread : (machine : M) → Reached machine bytes → length bytes ≤ limit
         → r.fault.line ≡ length (lines bytes) + 1 → r.fault.kind ≡ kinds.Read
         → ReadFails limit bytes at_end r
-    early : at_end → EndsEarly led_by ended limit bytes r.fault r.machine r.found
+    early : at_end → EndsEarly limit bytes r.fault r.machine r.found
         → ReadFails limit bytes at_end r
     faulty : FaultIn limit bytes r.fault r.machine r.found → r.fault.kind ≢ kinds.Read
         → ReadFails limit bytes at_end r
@@ -186,16 +180,16 @@ module _ {M : Type 0} (led_by : List (List ℕ) → M → Type 0) (ended : M →
     -- first fault. `left` maps a device to the bytes that are still to be read, if they are known.
     pub record FeedsMachine (limit : ℕ) (old new : Device D)
         (result : Result M (Refusal M)) : Type 0 where
-      pub at_end : IfOk result (λ m. ended m)
+      pub at_end : IfOk result (λ m. B.ended m)
       pub reached : IfOk result (λ m. (b : List ℕ)
           × Consumes (left old.device) (left new.device) b
           × IsAtEnd (left new.device)
-          × Reached led_by ended m b
+          × Reached m b
           × (length b ≤ limit))
       pub refused : IfErr result (λ r. r.fault.kind ≢ kinds.Memory → (b : List ℕ)
           × Consumes (left old.device) (left new.device) b
           × ReadFails limit b (IsAtEnd (left new.device)) r)
       pub memory : IfErr result (λ r. r.fault.kind ≡ kinds.Memory → (b piece : List ℕ)
           × Consumes (left old.device) (left new.device) (b ++ piece)
-          × LineIsDue led_by ended limit b piece)
+          × LineIsDue limit b piece)
       pub note : IsErrAnd result (λ r. r.fault.kind ≡ kinds.Read) ↔ IsTrue new.failed

@@ -12,6 +12,7 @@ use Rattle.sas_reader.specs.Devices.{Refuses, WasRead, ReadsAll}
 use Rattle.sas_reader.specs.Format.{Format}
 use Rattle.sas_reader.specs.Found.{IsFoundOf}
 use Rattle.sas_reader.specs.Limit.{most_bytes}
+use Rattle.sas_reader.specs.Machine.{Behavior}
 
 -- the result with the fault of a refusal R alone
 abbrev pub by_fault : {A R : Type 0} → (R → Fault) → Result A R → Result A Fault
@@ -40,16 +41,13 @@ module _ {V I S R : Type 0} (F : Format V I S) (fault : R → Fault) (found : R 
           × Refuses F bytes (IsAtEnd (left new.device)) (fault r)
           × ExplainsRefusal bytes r)
 
--- A machine M is led by the lines that it accepts, may have ended, rejects lines, and is in some
--- state after it refused one.
-module _ {M : Type 0} (led_by : List (List ℕ) → M → Type 0) (ended : M → Type 0)
-    (rejects : M → List ℕ → Kind → Type 0) (halted : M → List ℕ → Kind → M → Type 0) where
+module _ {M : Type 0} (B : Behavior M) where
   -- the state of a machine after a fault that is about these lines and this text
   pub data StandsBehind (accepted : List (List ℕ)) (text : List ℕ) (k : Kind) (now : M)
       : Type 0 where
-    behind_line : (machine : M) → led_by accepted machine → (ended machine → ⊥)
-        → rejects machine text k → halted machine text k now → StandsBehind accepted text k now
-    behind_text : led_by accepted now → ended now → k ≡ kinds.Trailing
+    behind_line : (machine : M) → B.led_by accepted machine → (B.ended machine → ⊥)
+        → B.rejects machine text k → B.stopped machine text k now → StandsBehind accepted text k now
+    behind_text : B.led_by accepted now → B.ended now → k ≡ kinds.Trailing
         → StandsBehind accepted text k now
-    at_end : led_by accepted now → (ended now → ⊥) → k ≡ kinds.End
+    at_end : B.led_by accepted now → (B.ended now → ⊥) → k ≡ kinds.End
         → StandsBehind accepted text k now

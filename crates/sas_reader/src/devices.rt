@@ -26,9 +26,8 @@ pub fn read_all<M: Machine, R: Read>(
 ) -> Result<M, Refusal<M>>
     requires note { device.old.failed ≡ false }
     requires small { limit ≤ most_bytes }
-    requires start { M.led_by [] machine }
-    ensures { FeedsMachine M.led_by M.ended M.rejects M.stopped R.remaining limit
-        device.old device.new result }
+    requires start { M.behavior.led_by [] machine }
+    ensures { FeedsMachine M.behavior R.remaining limit device.old device.new result }
 {
     let mut buffer = [0u8; 4096];
     feed_all(Reader::new(alloc, machine, limit), device, &mut buffer)
@@ -44,9 +43,8 @@ pub fn read_all_large<M: Machine, R: Read>(
 ) -> Result<M, Refusal<M>>
     requires note { device.old.failed ≡ false }
     requires small { limit ≤ most_bytes }
-    requires start { M.led_by [] machine }
-    ensures { FeedsMachine M.led_by M.ended M.rejects M.stopped R.remaining limit
-        device.old device.new result }
+    requires start { M.behavior.led_by [] machine }
+    ensures { FeedsMachine M.behavior R.remaining limit device.old device.new result }
 {
     match vec![in alloc; 0u8; LARGE] {
         Ok(mut buffer) => feed_all(
@@ -66,10 +64,9 @@ fn feed_all<M: Machine, R: Read>(
 ) -> Result<M, Refusal<M>>
     requires note { device.old.failed ≡ false }
     requires room { 0 < length buffer.old }
-    requires stands { Stands M.led_by M.ended M.rejects M.stopped reader [] }
+    requires stands { Stands M.behavior reader [] }
     requires fault { reader.fault ≡ None }
-    ensures { FeedsMachine M.led_by M.ended M.rejects M.stopped R.remaining reader.limit
-        device.old device.new result }
+    ensures { FeedsMachine M.behavior R.remaining reader.limit device.old device.new result }
 {
     loop {
         let taken = match device.take(buffer) {

@@ -29,40 +29,33 @@ impl Front {
 
 /// Judges the lines of a text, one after another.
 pub trait Machine: Drop {
-    ghost use Rattle.sas_reader.specs.declared.fault.Kind.{Kind};
+    ghost use Rattle.sas_reader.specs.Machine.{Behavior};
 
-    /// The lines that the machine has accepted so far.
-    ghost led_by: { List (List ℕ) → Self → Type 0 };
-
-    /// No line may follow.
-    ghost ended: { Self → Type 0 };
-
-    /// The line may not follow, and has this kind of fault.
-    ghost rejects: { Self → List ℕ → Kind → Type 0 };
-
-    /// The state of the machine after it refused the line with this kind of fault.
-    ghost stopped: { Self → List ℕ → Kind → Self → Type 0 };
+    ghost behavior: { Behavior Self };
 
     /// Returns whether the last line has been accepted.
     fn has_ended(&self) -> bool
-        ensures { IsTrue result ↔ ended self.now };
+        ensures { IsTrue result ↔ behavior.ended self.now };
 
-    /// Accepts the next line. Returns the kind of fault if the line may not stand here, or `Memory` if out of memory.
-    fn accept(&mut self, line: &[u8]) -> Result<(), Kind>
-        requires { ended self.old → ⊥ }
+    /// Accepts the next line. Returns the kind of fault if the line may not stand here, or `Memory` if out of memory. `number` is that of
+    /// the line, counted from 1.
+    fn accept(&mut self, line: &[u8], number: u64) -> Result<(), Kind>
+        requires { behavior.ended self.old → ⊥ }
         ensures led { OnOk result
-            ((before : List (List ℕ)) → led_by before self.old
-            → led_by (before ++ line.now ∷ []) self.new) }
-        ensures rejects { IfErr result (λ k. k ≢ Kind.Memory → rejects self.old line.now k) }
+            ((before : List (List ℕ)) → length before + 1 ≡ number
+            → behavior.led_by before self.old
+            → behavior.led_by (before ++ line.now ∷ []) self.new) }
+        ensures rejects { IfErr result (λ k. k ≢ Kind.Memory
+            → behavior.rejects self.old line.now k) }
         ensures stopped { IfErr result (λ k. k ≢ Kind.Memory
-            → stopped self.old line.now k self.new) }
+            → behavior.stopped self.old line.now k self.new) }
         ensures kind { IfErr result IsOfBytes };
 
     /// Accepts one or more of the first lines of the bytes if it can do so quickly. Returns how many lines and bytes it accepted. Otherwise
     /// accepts nothing and returns `Front::EMPTY`; then `accept` has to judge the next line.
     fn accept_ahead(&mut self, bytes: &[u8]) -> Result<Front, Kind>
-        requires { ended self.old → ⊥ }
-        ensures { AcceptsAhead led_by self.old bytes.now self.new result }
+        requires { behavior.ended self.old → ⊥ }
+        ensures { AcceptsAhead behavior.led_by self.old bytes.now self.new result }
     {
         Ok(Front::EMPTY)
     }
@@ -133,8 +126,8 @@ impl<M: Machine> Reader<M> {
     /// Returns a reader that has read nothing yet and refuses more than `limit` bytes.
     pub fn new(alloc: Global, machine: M, limit: u64) -> Self
         requires small { limit ≤ most_bytes }
-        requires start { M.led_by [] machine }
-        ensures stands { Stands M.led_by M.ended M.rejects M.stopped result [] }
+        requires start { M.behavior.led_by [] machine }
+        ensures stands { Stands M.behavior result [] }
         ensures limit { result.limit ≡ limit }
         ensures fault { result.fault ≡ None }
     {
@@ -156,9 +149,8 @@ impl<M: Machine> Reader<M> {
     fn take_cut_line(&mut self, piece: &[u8]) -> Result<usize, Kind>
         requires some { 0 < length piece.now }
         requires room { self.old.taken + length piece.now ≤ self.old.limit }
-        requires going { M.ended self.old.machine → ⊥ }
-        ensures advances { TakesFrontOrStops M.led_by M.ended M.rejects M.stopped
-            self.old piece.now self.new result }
+        requires going { M.behavior.ended self.old.machine → ⊥ }
+        ensures advances { TakesFrontOrStops M.behavior self.old piece.now self.new result }
         ensures some { IfOk result (λ n. 0 < n) }
     {
         let fed = self.pending.feed(piece)?;
@@ -166,7 +158,7 @@ impl<M: Machine> Reader<M> {
             self.taken += fed.taken as u64;
             return Ok(fed.taken);
         }
-        match self.machine.accept(self.pending.line()) {
+        match self.machine.accept(self.pending.line(), self.lines + 1) {
             Ok(()) => {
                 self.lines += 1;
                 self.taken += fed.taken as u64;
@@ -190,8 +182,7 @@ impl<M: Machine> Reader<M> {
     /// Takes the bytes up to and including the first LF, or all bytes if there is no LF, within the limit. Returns how many bytes it took.
     fn take_line(&mut self, piece: &[u8]) -> Result<usize, Kind>
         requires some { 0 < length piece.now }
-        ensures advances { TakesFrontOrStops M.led_by M.ended M.rejects M.stopped
-            self.old piece.now self.new result }
+        ensures advances { TakesFrontOrStops M.behavior self.old piece.now self.new result }
         ensures some { IfOk result (λ n. 0 < n) }
     {
         let within = self.within_limit(piece);
@@ -209,7 +200,7 @@ impl<M: Machine> Reader<M> {
         let Some(first) = first_line(within) else {
             return self.take_cut_line(within);
         };
-        match self.machine.accept(first.line) {
+        match self.machine.accept(first.line, self.lines + 1) {
             Ok(()) => {
                 self.lines += 1;
                 self.taken += first.taken as u64;
@@ -227,8 +218,7 @@ impl<M: Machine> Reader<M> {
         requires some { 0 < length piece.now }
         requires room { self.old.taken + length piece.now ≤ self.old.limit }
         requires whole { self.old.pending.pending ≡ [] }
-        ensures advances { TakesFrontOrStops M.led_by M.ended M.rejects M.stopped
-            self.old piece.now self.new result }
+        ensures advances { TakesFrontOrStops M.behavior self.old piece.now self.new result }
         ensures pending { self.new.pending ≡ self.old.pending }
     {
         if self.machine.has_ended() {
@@ -245,8 +235,7 @@ impl<M: Machine> Reader<M> {
 
     /// Takes lines ahead, as many as the machine and the limit allow. Returns how many bytes it took.
     fn take_fronts(&mut self, piece: &[u8]) -> Result<usize, Kind>
-        ensures { TakesFrontOrStops M.led_by M.ended M.rejects M.stopped
-            self.old piece.now self.new result }
+        ensures { TakesFrontOrStops M.behavior self.old piece.now self.new result }
     {
         if !self.pending.pending().is_empty() {
             return Ok(0);
@@ -266,8 +255,7 @@ impl<M: Machine> Reader<M> {
     /// Takes the lines that can be taken ahead, and then the bytes up to and including the next LF. Returns how many bytes it took.
     fn take_next(&mut self, piece: &[u8]) -> Result<usize, Kind>
         requires some { 0 < length piece.now }
-        ensures advances { TakesFrontOrStops M.led_by M.ended M.rejects M.stopped
-            self.old piece.now self.new result }
+        ensures advances { TakesFrontOrStops M.behavior self.old piece.now self.new result }
         ensures some { IfOk result (λ n. 0 < n) }
     {
         let ahead = self.take_fronts(piece)?;
@@ -280,8 +268,7 @@ impl<M: Machine> Reader<M> {
     /// Takes all of the bytes.
     #[inline(always)]
     fn take_all(&mut self, bytes: &[u8]) -> Result<usize, Kind>
-        ensures advances { TakesFrontOrStops M.led_by M.ended M.rejects M.stopped
-            self.old bytes.now self.new result }
+        ensures advances { TakesFrontOrStops M.behavior self.old bytes.now self.new result }
         ensures all { IfOk result (λ n. n ≡ length bytes.now) }
     {
         let mut at = 0;
@@ -294,8 +281,7 @@ impl<M: Machine> Reader<M> {
     /// If a line has begun, takes the bytes up to and including the first LF, or all bytes if there is no LF. Returns how many bytes it
     /// took.
     fn end_line(&mut self, piece: &[u8]) -> Result<usize, Kind>
-        ensures { TakesFrontOrStops M.led_by M.ended M.rejects M.stopped
-            self.old piece.now self.new result }
+        ensures { TakesFrontOrStops M.behavior self.old piece.now self.new result }
     {
         if piece.is_empty() || self.pending.pending().is_empty() {
             return Ok(0);
@@ -307,8 +293,7 @@ impl<M: Machine> Reader<M> {
     /// copy. Leaves a CR at the end of the piece, since LF may come next. Returns how many bytes of the piece it took, which is 0 for any
     /// other piece.
     fn run_copy(&mut self, piece: &[u8], plain: &mut Vec<u8>) -> Result<usize, Kind>
-        ensures { TakesFrontOrStops M.led_by M.ended M.rejects M.stopped
-            self.old piece.now self.new result }
+        ensures { TakesFrontOrStops M.behavior self.old piece.now self.new result }
     {
         if !self.pending.pending().is_empty()
             || self.within_limit(piece).len() < piece.len()
@@ -336,8 +321,7 @@ impl<M: Machine> Reader<M> {
     /// Calls `run_copy` with the reader's memory for the copy. It isn't inlined, so that the code for lines with LF stays small.
     #[inline(never)]
     fn run_with_lf_alone(&mut self, piece: &[u8]) -> Result<usize, Kind>
-        ensures { TakesFrontOrStops M.led_by M.ended M.rejects M.stopped
-            self.old piece.now self.new result }
+        ensures { TakesFrontOrStops M.behavior self.old piece.now self.new result }
     {
         let mut plain = mem::replace(&mut self.plain, Vec::new(self.alloc));
         let taken = self.run_copy(piece, &mut plain);
@@ -347,8 +331,7 @@ impl<M: Machine> Reader<M> {
 
     /// Takes all of the piece.
     fn take_piece(&mut self, piece: &[u8]) -> Result<usize, Kind>
-        ensures advances { TakesFrontOrStops M.led_by M.ended M.rejects M.stopped
-            self.old piece.now self.new result }
+        ensures advances { TakesFrontOrStops M.behavior self.old piece.now self.new result }
         ensures all { IfOk result (λ n. n ≡ length piece.now) }
     {
         let begun = self.end_line(piece)?;
@@ -358,8 +341,7 @@ impl<M: Machine> Reader<M> {
 
     /// Reads the next piece. Once there is a fault, this call and all later calls return the first fault.
     pub fn feed(&mut self, piece: &[u8]) -> Result<(), Fault>
-        ensures { TakesPiece M.led_by M.ended M.rejects M.stopped
-            self.old piece.now self.new result }
+        ensures { TakesPiece M.behavior self.old piece.now self.new result }
     {
         if let Some(fault) = self.fault {
             return Err(fault);
@@ -379,10 +361,10 @@ impl<M: Machine> Reader<M> {
 
     /// Returns the fault if the input ends here, or `None` if the text is whole.
     fn end_fault(&self) -> Option<Fault>
-        ensures none { IfNone result (M.ended self.now.machine × (self.now.fault ≡ None)) }
+        ensures none { IfNone result (M.behavior.ended self.now.machine × (self.now.fault ≡ None)) }
         ensures kept { (f : Fault) → self.now.fault ≡ Some f → result ≡ Some f }
         ensures early { self.now.fault ≡ None → IfSome result
-            (λ f. (M.ended self.now.machine → ⊥) × (f.line ≡ self.now.lines + 1)
+            (λ f. (M.behavior.ended self.now.machine → ⊥) × (f.line ≡ self.now.lines + 1)
             × (f.kind ≡ Kind.End)) }
     {
         if let Some(fault) = self.fault {
@@ -424,7 +406,7 @@ impl<M: Machine> Reader<M> {
     /// Returns the machine if the text is whole. Otherwise returns the first fault, or `End` if the text ends early, with the machine and
     /// the text at the fault.
     pub fn finish(self) -> Result<M, Refusal<M>>
-        ensures { ReachesEnd M.led_by M.ended M.rejects M.stopped self result }
+        ensures { ReachesEnd M.behavior self result }
     {
         match self.end_fault() {
             Some(fault) => {

@@ -1,24 +1,24 @@
 use Rattle.std.proofs.lemmas.Grind.{common_steps}
-use Rattle.sas_reader.proofs.Imports.{refl, ◌≡◌, ◌≢◌, ◌≤◌, ◌<◌, Bool, true, false, ◌+◌, ◌++◌, ℕ, List, length, ap, subst, ◌∙◌, sym, arith, inl, inr, take, Result, Ok, Err, None, Some, Option, IsTrue, Consumes, IsAtEnd, Consumes-nil, Consumes-trans, Consumes-kept, append-nil, length-take-le, false≢true, Device, Fault, Kind, Reader, Refusal, answer, LineIsDue, FaultIn, IsRefused, Stands, ReadFails, unread, early, faulty, ReachesEnd, FeedsMachine}
+use Rattle.sas_reader.proofs.Imports.{Behavior, refl, ◌≡◌, ◌≢◌, ◌≤◌, ◌<◌, Bool, true, false, ◌+◌, ◌++◌, ℕ, List, length, ap, subst, ◌∙◌, sym, arith, inl, inr, take, Result, Ok, Err, None, Some, Option, IsTrue, Consumes, IsAtEnd, Consumes-nil, Consumes-trans, Consumes-kept, append-nil, length-take-le, false≢true, Device, Fault, Reader, Refusal, answer, LineIsDue, FaultIn, IsRefused, Stands, ReadFails, unread, early, faulty, ReachesEnd, FeedsMachine}
 use Rattle.sas_reader.specs.declared.fault.Kind.TheVariants as kinds
 use Rattle.sas_reader.proofs.Standing.{accepted_of, fault_of}
 use Rattle.sas_reader.proofs.devices.feed_all.Goals as goal
 
-module _ {M D : Type 0} (led_by : List (List ℕ) → M → Type 0) (ended : M → Type 0) (rejects : M → List ℕ → Kind → Type 0) (halted : M → List ℕ → Kind → M → Type 0) (left : D → Option (List ℕ)) where
+module _ {M D : Type 0} (B : Behavior M) (left : D → Option (List ℕ)) where
   -- a refusal, by its reason other than `Memory`
-  pub refused_as : (limit : ℕ) (old new : Device D) (x r : Refusal M) → x ≡ r → (r.fault.kind ≢ kinds.Memory → (b : List ℕ) × Consumes (left old.device) (left new.device) b × ReadFails led_by ended rejects halted limit b (IsAtEnd (left new.device)) r)
-      → (r.fault.kind ≡ kinds.Memory → (b piece : List ℕ) × Consumes (left old.device) (left new.device) (b ++ piece) × LineIsDue led_by ended limit b piece) → (r.fault.kind ≡ kinds.Read → IsTrue new.failed) → (IsTrue new.failed → r.fault.kind ≡ kinds.Read)
-      → FeedsMachine led_by ended rejects halted left limit old new (Err x)
-  refused_as limit old new x r is refused memory read note = subst (λ (y : Refusal M). FeedsMachine led_by ended rejects halted left limit old new (Err y)) (sym is) (record { at_end = tt; reached = tt; refused = refused; memory = memory; note = (read, note) })
+  pub refused_as : (limit : ℕ) (old new : Device D) (x r : Refusal M) → x ≡ r → (r.fault.kind ≢ kinds.Memory → (b : List ℕ) × Consumes (left old.device) (left new.device) b × ReadFails B limit b (IsAtEnd (left new.device)) r)
+      → (r.fault.kind ≡ kinds.Memory → (b piece : List ℕ) × Consumes (left old.device) (left new.device) (b ++ piece) × LineIsDue B limit b piece) → (r.fault.kind ≡ kinds.Read → IsTrue new.failed) → (IsTrue new.failed → r.fault.kind ≡ kinds.Read)
+      → FeedsMachine B left limit old new (Err x)
+  refused_as limit old new x r is refused memory read note = subst (λ (y : Refusal M). FeedsMachine B left limit old new (Err y)) (sym is) (record { at_end = tt; reached = tt; refused = refused; memory = memory; note = (read, note) })
 
   -- the fault that a reader finds at the end of its device
-  at_end : (limit : ℕ) (b : List ℕ) (End : Type 0) (r : Refusal M) → End → r.fault.kind ≢ kinds.Read → IsRefused led_by ended rejects halted limit b r → ReadFails led_by ended rejects halted limit b End r
+  at_end : (limit : ℕ) (b : List ℕ) (End : Type 0) (r : Refusal M) → End → r.fault.kind ≢ kinds.Read → IsRefused B limit b r → ReadFails B limit b End r
   at_end limit b End r e ne (inl h) = faulty h ne
   at_end limit b End r e ne (inr h) = early e h
 
   -- a device is read to its end with a reader that has no fault
-  ended_so : (limit : ℕ) (old new : Device D) (b : List ℕ) (r : Reader M) (result : Result M (Refusal M)) → ReachesEnd led_by ended rejects halted r result → Stands led_by ended rejects halted r b → r.fault ≡ None → r.limit ≡ limit
-      → Consumes (left old.device) (left new.device) b → IsAtEnd (left new.device) → (IsTrue new.failed → ⊥) → FeedsMachine led_by ended rejects halted left limit old new result
+  ended_so : (limit : ℕ) (old new : Device D) (b : List ℕ) (r : Reader M) (result : Result M (Refusal M)) → ReachesEnd B r result → Stands B r b → r.fault ≡ None → r.limit ≡ limit
+      → Consumes (left old.device) (left new.device) b → IsAtEnd (left new.device) → (IsTrue new.failed → ⊥) → FeedsMachine B left limit old new result
   ended_so limit old new b r (Ok m) h s none same took over well = record {
     at_end = h.at_end;
     reached = let reached = h.reached b s in (b, took, over, reached.0, subst (λ (l : ℕ). length b ≤ l) same reached.1);
@@ -29,7 +29,7 @@ module _ {M D : Type 0} (led_by : List (List ℕ) → M → Type 0) (ended : M �
   ended_so limit old new b r (Err e) h s none same took over well =
       let not_read : e.fault.kind ≢ kinds.Read = λ is. (let x = h.refused.read is in let y : None ≡ Some e.fault = sym none ∙ x in cc) in
       refused_as limit old new e e refl
-      (λ ne. (b, took, subst (λ (l : ℕ). ReadFails led_by ended rejects halted l b (IsAtEnd (left new.device)) e) same (at_end r.limit b (IsAtEnd (left new.device)) e over not_read (h.refused.fault ne b s))))
+      (λ ne. (b, took, subst (λ (l : ℕ). ReadFails B l b (IsAtEnd (left new.device)) e) same (at_end r.limit b (IsAtEnd (left new.device)) e over not_read (h.refused.fault ne b s))))
       (λ is. let x = h.refused.memory is in let y : None ≡ Some e.fault = sym none ∙ x in absurd cc)
       (λ is. absurd (not_read is))
       (λ t. absurd (well t))
@@ -59,9 +59,9 @@ returns-in-Err g c =
     let v = c.loop-n.invariant in
     let b = v.read.0 in
     let r = c.loop-n.reader in
-    let h = accepted_of g.M.Machine.led_by g.M.Machine.ended g.M.Machine.rejects g.M.Machine.stopped r b v.fault v.read.2 in
+    let h = accepted_of g.M.Machine.behavior r b v.fault v.read.2 in
     let e : Refusal _ = record { fault = record { line = r.lines + 1; kind = kinds.Read }; machine = r.machine; found = r.found } in
-    refused_as g.M.Machine.led_by g.M.Machine.ended g.M.Machine.rejects g.M.Machine.stopped g.R.Read.remaining c.args.reader.limit _ _ _ e c.refused.ensures
+    refused_as g.M.Machine.behavior g.R.Read.remaining c.args.reader.limit _ _ _ e c.refused.ensures
     (λ ne. (b, Consumes-kept _ _ _ b v.read.1 c.in-Err.ensures.bytes, unread r.machine h.reached (omega (arith, h.taken, r.within, v.limit)) (ap (λ (n : ℕ). n + 1) h.lines) refl))
     (λ is. absurd {0} (apart is))
     (λ is. c.in-Err.ensures.note.0 refl)
@@ -72,7 +72,7 @@ returns-then-taken-eq0 g c =
     let v = c.loop-n.invariant in
     let b = v.read.0 in
     let whole : Consumes _ _ b = subst (Consumes _ _) (ap (λ (n : ℕ). b ++ take n c.take.new.buffer) c.if-taken-eq0.true ∙ append-nil b) (Consumes-trans _ _ _ b _ v.read.1 c.in-Ok.ensures.bytes.0) in
-    ended_so g.M.Machine.led_by g.M.Machine.ended g.M.Machine.rejects g.M.Machine.stopped g.R.Read.remaining c.args.reader.limit _ _ b c.loop-n.reader c.finish.result c.finish.ensures v.read.2 v.fault v.limit whole (c.in-Ok.ensures.bytes.1 c.if-taken-eq0.true (some_still c.loop-n.buffer _ v.room c.take.auto.buffer)) (λ t. false≢true (c.in-Ok.ensures.note.1 t))
+    ended_so g.M.Machine.behavior g.R.Read.remaining c.args.reader.limit _ _ b c.loop-n.reader c.finish.result c.finish.ensures v.read.2 v.fault v.limit whole (c.in-Ok.ensures.bytes.1 c.if-taken-eq0.true (some_still c.loop-n.buffer _ v.room c.take.auto.buffer)) (λ t. false≢true (c.in-Ok.ensures.note.1 t))
 
 pub returns-in-Err-feed : goal.returns-in-Err-feed
 returns-in-Err-feed g c =
@@ -85,9 +85,9 @@ returns-in-Err-feed g c =
     let s = takes.stands b v.read.2 in
     let not_read : f.kind ≢ kinds.Read = λ e. (takes.kind v.fault).1 e in
     let e : Refusal _ = record { fault = f; machine = next.machine; found = next.found } in
-    refused_as g.M.Machine.led_by g.M.Machine.ended g.M.Machine.rejects g.M.Machine.stopped g.R.Read.remaining c.args.reader.limit _ _ _ e c.refused-in-Err-feed.ensures
-    (λ ne. (b ++ piece, Consumes-trans _ _ _ b piece v.read.1 c.in-Ok.ensures.bytes.0, faulty (subst (λ (l : ℕ). FaultIn g.M.Machine.led_by g.M.Machine.ended g.M.Machine.rejects g.M.Machine.stopped l (b ++ piece) f next.machine next.found) (takes.limit ∙ v.limit) (fault_of g.M.Machine.led_by g.M.Machine.ended g.M.Machine.rejects g.M.Machine.stopped next f (b ++ piece) (answer_err next.fault f (sym takes.answer)) s ne)) not_read))
-    (λ is. (b, piece, Consumes-trans _ _ _ b piece v.read.1 c.in-Ok.ensures.bytes.0, subst (λ (l : ℕ). LineIsDue g.M.Machine.led_by g.M.Machine.ended l b piece) v.limit (takes.memory v.fault is b v.read.2)))
+    refused_as g.M.Machine.behavior g.R.Read.remaining c.args.reader.limit _ _ _ e c.refused-in-Err-feed.ensures
+    (λ ne. (b ++ piece, Consumes-trans _ _ _ b piece v.read.1 c.in-Ok.ensures.bytes.0, faulty (subst (λ (l : ℕ). FaultIn g.M.Machine.behavior l (b ++ piece) f next.machine next.found) (takes.limit ∙ v.limit) (fault_of g.M.Machine.behavior next f (b ++ piece) (answer_err next.fault f (sym takes.answer)) s ne)) not_read))
+    (λ is. (b, piece, Consumes-trans _ _ _ b piece v.read.1 c.in-Ok.ensures.bytes.0, subst (λ (l : ℕ). LineIsDue g.M.Machine.behavior l b piece) v.limit (takes.memory v.fault is b v.read.2)))
     (λ is. absurd (not_read is))
     (λ t. absurd {0} (false≢true (c.in-Ok.ensures.note.1 t)))
 

@@ -9,7 +9,7 @@ invariant-loop-n g l =
       room : 0 < length l.buffer;
       fault : l.reader.fault ≡ None;
       limit : l.reader.limit ≡ l.fn.reader.limit;
-      read : (b : List ℕ) × Consumes (g.R.Read.remaining l.initial.device.device) (g.R.Read.remaining l.device.device) b × Stands g.M.Machine.led_by g.M.Machine.ended g.M.Machine.rejects g.M.Machine.stopped l.reader b;
+      read : (b : List ℕ) × Consumes (g.R.Read.remaining l.initial.device.device) (g.R.Read.remaining l.device.device) b × Stands g.M.Machine.behavior l.reader b;
     }
 
 abbrev pub decreases-loop-n : goal.decreases-loop-n

@@ -10,7 +10,7 @@ returns-in-Some g c = record {
   memory = λ none. let x : None ≡ Some c.in-Some.fault = sym none ∙ c.in-Some.is in absurd cc;
   count = tt;
   limit = refl;
-  stands = λ bytes s. stands_more g.M.Machine.led_by g.M.Machine.ended g.M.Machine.rejects g.M.Machine.stopped c.args.self.now c.in-Some.fault bytes c.args.piece.now c.in-Some.is s;
+  stands = λ bytes s. stands_more g.M.Machine.behavior c.args.self.now c.in-Some.fault bytes c.args.piece.now c.in-Some.is s;
 }
 
 pub returns-in-Err : goal.returns-in-Err
@@ -23,14 +23,14 @@ returns-in-Err g c =
       answer = refl;
       kept = λ g e. let x : None ≡ Some g = sym none ∙ e in absurd cc;
       kind = λ e. step.stopped.kind;
-      memory = λ e is bytes s. step.stopped.memory is bytes (accepted_of g.M.Machine.led_by g.M.Machine.ended g.M.Machine.rejects g.M.Machine.stopped c.args.self.now bytes none s);
+      memory = λ e is bytes s. step.stopped.memory is bytes (accepted_of g.M.Machine.behavior c.args.self.now bytes none s);
       count = tt;
       limit = step.limit;
       stands = λ bytes s.
-          stands_fault g.M.Machine.led_by g.M.Machine.ended g.M.Machine.rejects g.M.Machine.stopped _ _ (bytes ++ c.args.piece.now) refl (λ ne.
-          subst (λ (l : ℕ). FaultIn g.M.Machine.led_by g.M.Machine.ended g.M.Machine.rejects g.M.Machine.stopped l (bytes ++ c.args.piece.now) f next.machine next.found) (sym step.limit)
-          (fault_in_piece g.M.Machine.led_by g.M.Machine.ended g.M.Machine.rejects g.M.Machine.stopped c.args.self.now.limit bytes c.args.piece.now f next.machine next.found
-          (step.stopped.fault ne bytes (accepted_of g.M.Machine.led_by g.M.Machine.ended g.M.Machine.rejects g.M.Machine.stopped c.args.self.now bytes none s))));
+          stands_fault g.M.Machine.behavior _ _ (bytes ++ c.args.piece.now) refl (λ ne.
+          subst (λ (l : ℕ). FaultIn g.M.Machine.behavior l (bytes ++ c.args.piece.now) f next.machine next.found) (sym step.limit)
+          (fault_in_piece g.M.Machine.behavior c.args.self.now.limit bytes c.args.piece.now f next.machine next.found
+          (step.stopped.fault ne bytes (accepted_of g.M.Machine.behavior c.args.self.now bytes none s))));
     }
 
 pub returns-in-Ok : goal.returns-in-Ok
@@ -47,7 +47,7 @@ returns-in-Ok g c =
       count = omega (arith, step.took.count, all);
       limit = step.limit;
       stands = λ bytes s.
-          stands_accepted g.M.Machine.led_by g.M.Machine.ended g.M.Machine.rejects g.M.Machine.stopped c.take_piece.new.self (bytes ++ c.args.piece.now) still
-          (subst (λ (x : List ℕ). Accepted g.M.Machine.led_by g.M.Machine.ended c.take_piece.new.self (bytes ++ x)) (take_all _ c.args.piece.now (omega (arith, all)))
-          (step.took.accepted bytes (accepted_of g.M.Machine.led_by g.M.Machine.ended g.M.Machine.rejects g.M.Machine.stopped c.args.self.now bytes none s)));
+          stands_accepted g.M.Machine.behavior c.take_piece.new.self (bytes ++ c.args.piece.now) still
+          (subst (λ (x : List ℕ). Accepted g.M.Machine.behavior c.take_piece.new.self (bytes ++ x)) (take_all _ c.args.piece.now (omega (arith, all)))
+          (step.took.accepted bytes (accepted_of g.M.Machine.behavior c.args.self.now bytes none s)));
     }

@@ -12,7 +12,7 @@ returns g c =
     let none = c.in-None.ensures.none in
     record {
       at_end = none.0;
-      reached = λ bytes s. let h = accepted_of g.M.Machine.led_by g.M.Machine.ended g.M.Machine.rejects g.M.Machine.stopped r bytes none.1 s in (h.reached, omega (arith, h.taken, r.within));
+      reached = λ bytes s. let h = accepted_of g.M.Machine.behavior r bytes none.1 s in (h.reached, omega (arith, h.taken, r.within));
       refused = tt;
       kept = λ f e. let x : None ≡ Some f = sym none.1 ∙ e in absurd cc;
     }
@@ -25,6 +25,6 @@ returns-in-Some g c =
     record {
       at_end = tt;
       reached = tt;
-      refused = refused_at_end g.M.Machine.led_by g.M.Machine.ended g.M.Machine.rejects g.M.Machine.stopped c.args.self f c.found_at_end-found.result (λ g e. (of_some f g (end.kept g e), found.kept g e)) end.early found.early;
+      refused = refused_at_end g.M.Machine.behavior c.args.self f c.found_at_end-found.result (λ g e. (of_some f g (end.kept g e), found.kept g e)) end.early found.early;
       kept = λ g e. of_some f g (end.kept g e);
     }

@@ -5,8 +5,8 @@ use Rattle.sas_reader.proofs.reader.Reader.new.Goals as goal
 
 pub returns-clause-stands : goal.returns-clause-stands
 returns-clause-stands g c =
-    stands_accepted g.M.Machine.led_by g.M.Machine.ended g.M.Machine.rejects g.M.Machine.stopped _ [] refl (record {
-      reached = reached_start g.M.Machine.led_by g.M.Machine.ended c.args.machine c.requires.start;
+    stands_accepted g.M.Machine.behavior _ [] refl (record {
+      reached = reached_start g.M.Machine.behavior c.args.machine c.requires.start;
       pending = c.new.ensures.pending ∙ sym unfinished-none;
       lines = ap length (sym lines-none);
       taken = refl;

@@ -20,9 +20,9 @@ returns-in-Err g c =
     let is : take c.in-Some.kept c.deref.result.now ≡ without_returns bytes = ap (take c.in-Some.kept) c.deref.ensures.value ∙ copy.front in
     let k = c.in-Err.kind in
     let reported = c.as_it_stood-self.ensures in
-    advances_wider g.M.Machine.led_by g.M.Machine.ended g.M.Machine.rejects g.M.Machine.stopped old _ c.args.piece.now bytes front.0 (Err k) front.1 (record {
+    advances_wider g.M.Machine.behavior old _ c.args.piece.now bytes front.0 (Err k) front.1 (record {
       took = tt;
-      stopped = stopped_plain g.M.Machine.led_by g.M.Machine.ended g.M.Machine.rejects g.M.Machine.stopped old _ bytes nothing (each_ends bytes copy.ends) mid k c.saturating_sub.result room (subst (λ x. Stopped g.M.Machine.led_by g.M.Machine.ended g.M.Machine.rejects g.M.Machine.stopped old mid x k) is step.stopped) refl refl c.saturating_sub.ensures reported.byte reported.same;
+      stopped = stopped_plain g.M.Machine.behavior old _ bytes nothing (each_ends bytes copy.ends) mid k c.saturating_sub.result room (subst (λ x. Stopped g.M.Machine.behavior old mid x k) is step.stopped) refl refl c.saturating_sub.ensures reported.byte reported.same;
       fault = step.fault;
       limit = step.limit;
     })
@@ -46,8 +46,8 @@ returns-in-Ok g c =
     let all : n ≡ length (without_returns bytes) = c.in-Ok.ensures.all ∙ ap length is in
     let long = length-take-le kept _ copy.within in
     let count : c.take_all.new.self.taken + (length bytes - kept) ≡ old.taken + length bytes = omega (arith, step.took.count, all, ap length copy.front, long, fewer bytes) in
-    advances_wider g.M.Machine.led_by g.M.Machine.ended g.M.Machine.rejects g.M.Machine.stopped old _ c.args.piece.now bytes front.0 (Ok (length bytes)) front.1 (record {
-      took = took_plain g.M.Machine.led_by g.M.Machine.ended g.M.Machine.rejects g.M.Machine.stopped old _ bytes nothing (each_ends bytes copy.ends) c.take_all.new.self n (subst (λ x. TookFront g.M.Machine.led_by g.M.Machine.ended g.M.Machine.rejects g.M.Machine.stopped old c.take_all.new.self x n) is step.took) all refl refl refl count;
+    advances_wider g.M.Machine.behavior old _ c.args.piece.now bytes front.0 (Ok (length bytes)) front.1 (record {
+      took = took_plain g.M.Machine.behavior old _ bytes nothing (each_ends bytes copy.ends) c.take_all.new.self n (subst (λ x. TookFront g.M.Machine.behavior old c.take_all.new.self x n) is step.took) all refl refl refl count;
       stopped = tt;
       fault = step.fault;
       limit = step.limit;

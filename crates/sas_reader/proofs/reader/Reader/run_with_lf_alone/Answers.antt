@@ -4,7 +4,7 @@ use Rattle.sas_reader.proofs.reader.Reader.run_with_lf_alone.Goals as goal
 
 pub returns : goal.returns
 returns g c =
-    advances_alike g.M.Machine.led_by g.M.Machine.ended g.M.Machine.rejects g.M.Machine.stopped c.args.self.now _ c.run_copy-taken.new.self _
+    advances_alike g.M.Machine.behavior c.args.self.now _ c.run_copy-taken.new.self _
     (record { machine = refl; pending = refl; lines = refl; taken = refl; limit = refl; fault = refl; found = refl })
     (record { machine = refl; pending = refl; lines = refl; taken = refl; limit = refl; fault = refl; found = refl })
     c.args.piece.now c.run_copy-taken.result c.run_copy-taken.ensures

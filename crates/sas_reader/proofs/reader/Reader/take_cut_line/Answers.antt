@@ -11,7 +11,7 @@ returns-then-not-fed-clause-advances g c =
       took = record {
         within = takes_bound _ _ _ fed.taken;
         count = refl;
-        accepted = λ bytes h. accepted_part g.M.Machine.led_by g.M.Machine.ended c.args.self.now _ bytes c.args.piece.now c.in_ok-fed.fed.taken c.in_ok-fed.fed.complete h c.requires.going c.if-not-fed.true
+        accepted = λ bytes h. accepted_part g.M.Machine.behavior c.args.self.now _ bytes c.args.piece.now c.in_ok-fed.fed.taken c.in_ok-fed.fed.complete h c.requires.going c.if-not-fed.true
             (record { taken = fed.taken; lines = fed.lines; rest = fed.pending }) refl refl refl;
       };
       stopped = tt;
@@ -24,7 +24,7 @@ returns-in-Err-clause-advances g c =
     let fed = c.in_ok-fed.ensures in
     record {
       took = tt;
-      stopped = stopped_at g.M.Machine.led_by g.M.Machine.ended g.M.Machine.rejects g.M.Machine.stopped c.args.self.now _ c.args.piece.now c.line.result.now c.in_ok-fed.fed.taken c.in_ok-fed.fed.complete c.feed.new.self _ c.requires.some c.requires.going c.if-not-fed.false
+      stopped = stopped_at g.M.Machine.behavior c.args.self.now _ c.args.piece.now c.line.result.now c.in_ok-fed.fed.taken c.in_ok-fed.fed.complete c.feed.new.self _ c.requires.some c.requires.going c.if-not-fed.false
           (record { taken = fed.taken; lines = fed.lines; rest = fed.pending }) c.line.ensures c.requires.room c.in-Err.ensures.kind c.in-Err.ensures.rejects c.in-Err.ensures.stopped
           (subst (λ (x : List ℕ). IsFoundOf x c.of-self.result) (c.line-in-Err.ensures ∙ sym c.line.ensures) c.of-self.ensures) refl;
       fault = refl;
@@ -38,7 +38,7 @@ returns-in-Ok-clause-advances g c =
       took = record {
         within = takes_bound _ _ _ fed.taken;
         count = refl;
-        accepted = λ bytes h. accepted_line g.M.Machine.led_by g.M.Machine.ended c.args.self.now _ bytes c.args.piece.now c.line.result.now c.in_ok-fed.fed.taken c.in_ok-fed.fed.complete c.accept.new.self c.feed.new.self h c.if-not-fed.false
+        accepted = λ bytes h. accepted_line g.M.Machine.behavior c.args.self.now _ bytes c.args.piece.now c.line.result.now c.in_ok-fed.fed.taken c.in_ok-fed.fed.complete c.accept.new.self c.feed.new.self h c.if-not-fed.false
             (record { taken = fed.taken; lines = fed.lines; rest = fed.pending }) fed.complete c.line.ensures c.in-Ok.ensures.led refl refl refl refl;
       };
       stopped = tt;

@@ -14,7 +14,7 @@ pub returns-clause-advances : goal.returns-clause-advances
 returns-clause-advances g c =
     let found = c.in_ok-front.ensures.took (omega (arith, c.if-front-eq0.false)) in
     record {
-      took = took_lines g.M.Machine.led_by g.M.Machine.ended g.M.Machine.rejects g.M.Machine.stopped c.args.self.now _ c.args.piece.now found.0 c.in_ok-front.front.bytes c.requires.whole found.1.stand found.2 refl (ap (λ n. c.args.self.now.lines + n) (sym found.1.many)) refl;
+      took = took_lines g.M.Machine.behavior c.args.self.now _ c.args.piece.now found.0 c.in_ok-front.front.bytes c.requires.whole found.1.stand found.2 refl (ap (λ n. c.args.self.now.lines + n) (sym found.1.many)) refl;
       stopped = tt;
       fault = refl;
       limit = refl;
@@ -25,7 +25,7 @@ overflow_add-self-2 g c = grind (arith, common_steps)
 
 pub returns-then-has_ended-clause-advances : goal.returns-then-has_ended-clause-advances
 returns-then-has_ended-clause-advances g c = record {
-  took = took_none g.M.Machine.led_by g.M.Machine.ended g.M.Machine.rejects g.M.Machine.stopped c.args.self.now c.args.piece.now;
+  took = took_none g.M.Machine.behavior c.args.self.now c.args.piece.now;
   stopped = tt;
   fault = refl;
   limit = refl;

@@ -22,7 +22,7 @@ returns-then-taken-eq0 g c = grind (arith, common_steps)
 pub returns : goal.returns
 returns g c =
     let v = c.loop-at.invariant in
-    advances_wider g.M.Machine.led_by g.M.Machine.ended g.M.Machine.rejects g.M.Machine.stopped c.args.self.now _ c.args.piece.now c.within_limit-within.result.now _ (Ok c.loop-at.at) c.within_limit-within.ensures (record {
+    advances_wider g.M.Machine.behavior c.args.self.now _ c.args.piece.now c.within_limit-within.result.now _ (Ok c.loop-at.at) c.within_limit-within.ensures (record {
       took = v.took;
       stopped = tt;
       fault = v.fault;
@@ -38,9 +38,9 @@ returns-in_err-taken g c =
     let front = c.within_limit-within.result.now in
     let step = c.in_err-taken.ensures.advances in
     let same : c.from_residual.result ≡ Err c.in_err-taken.field-0.0 = search rules in
-    advances_no_more g.M.Machine.led_by g.M.Machine.ended g.M.Machine.rejects g.M.Machine.stopped c.args.self.now _ c.args.piece.now _ _ same (advances_wider g.M.Machine.led_by g.M.Machine.ended g.M.Machine.rejects g.M.Machine.stopped c.args.self.now _ c.args.piece.now front _ _ c.within_limit-within.ensures (record {
+    advances_no_more g.M.Machine.behavior c.args.self.now _ c.args.piece.now _ _ same (advances_wider g.M.Machine.behavior c.args.self.now _ c.args.piece.now front _ _ c.within_limit-within.ensures (record {
       took = tt;
-      stopped = stopped_behind g.M.Machine.led_by g.M.Machine.ended g.M.Machine.rejects g.M.Machine.stopped c.args.self.now c.loop-at.self _ front c.loop-at.at c.in_err-taken.field-0.0 v.took v.limit step.stopped;
+      stopped = stopped_behind g.M.Machine.behavior c.args.self.now c.loop-at.self _ front c.loop-at.at c.in_err-taken.field-0.0 v.took v.limit step.stopped;
       fault = step.fault ∙ v.fault;
       limit = step.limit ∙ v.limit;
     }))
@@ -50,7 +50,7 @@ loop-at-preserved g c =
     let v = c.loop-at.invariant in
     let step = c.in_ok-taken.ensures.advances in
     record {
-      took = took_behind g.M.Machine.led_by g.M.Machine.ended g.M.Machine.rejects g.M.Machine.stopped c.args.self.now c.loop-at.self c.take_front.new.self c.within_limit-within.result.now c.loop-at.at c.in_ok-taken.taken v.took step.took;
+      took = took_behind g.M.Machine.behavior c.args.self.now c.loop-at.self c.take_front.new.self c.within_limit-within.result.now c.loop-at.at c.in_ok-taken.taken v.took step.took;
       room = v.room;
       whole = ap (λ (p : Progress). p.pending) c.in_ok-taken.ensures.pending ∙ v.whole;
       fault = step.fault ∙ v.fault;

@@ -5,7 +5,7 @@ use Rattle.sas_reader.proofs.reader.Reader.take_fronts.Given as goal
 abbrev pub invariant-loop-at : goal.invariant-loop-at
 invariant-loop-at g l =
     record {
-      took : TookFront g.M.Machine.led_by g.M.Machine.ended g.M.Machine.rejects g.M.Machine.stopped l.initial.self l.self l.within l.at;
+      took : TookFront g.M.Machine.behavior l.initial.self l.self l.within l.at;
       room : l.initial.self.taken + length l.within ≤ l.initial.self.limit;
       whole : l.self.pending.pending ≡ [];
       fault : l.self.fault ≡ l.initial.self.fault;

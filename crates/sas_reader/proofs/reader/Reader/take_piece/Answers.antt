@@ -9,9 +9,9 @@ returns-in_err-at-clause-advances g c =
     let begun = c.in_ok-begun.ensures in
     let plain = c.in_err-at.ensures in
     let same = err_is c.from_residual-in_err-at.result c.in_err-at.field-0.0 c.from_residual-in_err-at.ensures.0 c.from_residual-in_err-at.ensures.1 in
-    advances_no_more g.M.Machine.led_by g.M.Machine.ended g.M.Machine.rejects g.M.Machine.stopped c.args.self.now _ c.args.piece.now _ _ same (record {
+    advances_no_more g.M.Machine.behavior c.args.self.now _ c.args.piece.now _ _ same (record {
       took = tt;
-      stopped = stopped_behind g.M.Machine.led_by g.M.Machine.ended g.M.Machine.rejects g.M.Machine.stopped c.args.self.now c.end_line.new.self c.run_with_lf_alone.new.self c.args.piece.now c.in_ok-begun.begun c.in_err-at.field-0.0 begun.took begun.limit plain.stopped;
+      stopped = stopped_behind g.M.Machine.behavior c.args.self.now c.end_line.new.self c.run_with_lf_alone.new.self c.args.piece.now c.in_ok-begun.begun c.in_err-at.field-0.0 begun.took begun.limit plain.stopped;
       fault = plain.fault ∙ begun.fault;
       limit = plain.limit ∙ begun.limit;
     })
@@ -21,11 +21,11 @@ returns-in_err-take_all-clause-advances g c =
     let begun = c.in_ok-begun.ensures in
     let plain = c.in_ok-at.ensures in
     let rest = c.in_err-take_all.ensures.advances in
-    let both = took_behind g.M.Machine.led_by g.M.Machine.ended g.M.Machine.rejects g.M.Machine.stopped c.args.self.now c.end_line.new.self c.run_with_lf_alone.new.self c.args.piece.now c.in_ok-begun.begun c.in_ok-at.field-0 begun.took plain.took in
+    let both = took_behind g.M.Machine.behavior c.args.self.now c.end_line.new.self c.run_with_lf_alone.new.self c.args.piece.now c.in_ok-begun.begun c.in_ok-at.field-0 begun.took plain.took in
     let same = err_is c.from_residual-in_err-take_all.result c.in_err-take_all.field-0.0 c.from_residual-in_err-take_all.ensures.0 c.from_residual-in_err-take_all.ensures.1 in
-    advances_no_more g.M.Machine.led_by g.M.Machine.ended g.M.Machine.rejects g.M.Machine.stopped c.args.self.now _ c.args.piece.now _ _ same (record {
+    advances_no_more g.M.Machine.behavior c.args.self.now _ c.args.piece.now _ _ same (record {
       took = tt;
-      stopped = stopped_behind g.M.Machine.led_by g.M.Machine.ended g.M.Machine.rejects g.M.Machine.stopped c.args.self.now c.run_with_lf_alone.new.self c.take_all.new.self c.args.piece.now (c.in_ok-begun.begun + c.in_ok-at.field-0) c.in_err-take_all.field-0.0 both (plain.limit ∙ begun.limit) rest.stopped;
+      stopped = stopped_behind g.M.Machine.behavior c.args.self.now c.run_with_lf_alone.new.self c.take_all.new.self c.args.piece.now (c.in_ok-begun.begun + c.in_ok-at.field-0) c.in_err-take_all.field-0.0 both (plain.limit ∙ begun.limit) rest.stopped;
       fault = rest.fault ∙ plain.fault ∙ begun.fault;
       limit = rest.limit ∙ plain.limit ∙ begun.limit;
     })
@@ -35,9 +35,9 @@ returns-clause-advances g c =
     let begun = c.in_ok-begun.ensures in
     let plain = c.in_ok-at.ensures in
     let rest = c.in_ok-take_all.ensures.advances in
-    let both = took_behind g.M.Machine.led_by g.M.Machine.ended g.M.Machine.rejects g.M.Machine.stopped c.args.self.now c.end_line.new.self c.run_with_lf_alone.new.self c.args.piece.now c.in_ok-begun.begun c.in_ok-at.field-0 begun.took plain.took in
+    let both = took_behind g.M.Machine.behavior c.args.self.now c.end_line.new.self c.run_with_lf_alone.new.self c.args.piece.now c.in_ok-begun.begun c.in_ok-at.field-0 begun.took plain.took in
     record {
-      took = took_behind g.M.Machine.led_by g.M.Machine.ended g.M.Machine.rejects g.M.Machine.stopped c.args.self.now c.run_with_lf_alone.new.self c.take_all.new.self c.args.piece.now (c.in_ok-begun.begun + c.in_ok-at.field-0) c.in_ok-take_all.field-0 both rest.took;
+      took = took_behind g.M.Machine.behavior c.args.self.now c.run_with_lf_alone.new.self c.take_all.new.self c.args.piece.now (c.in_ok-begun.begun + c.in_ok-at.field-0) c.in_ok-take_all.field-0 both rest.took;
       stopped = tt;
       fault = rest.fault ∙ plain.fault ∙ begun.fault;
       limit = rest.limit ∙ plain.limit ∙ begun.limit;
