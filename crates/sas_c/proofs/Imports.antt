@@ -61,4 +61,3 @@ pub use Rattle.sas_c.specs.Written.{IsWritten}
 pub use Rattle.sas_c.specs.contracts.box_pointer.BoxPointer.into_box.{ended, clauses}
 pub use Rattle.sas_c.specs.declared.answering.Call.{Call}
 pub use Rattle.sas_c.specs.declared.plans.PlanCall.{PlanCall}
-pub use Rattle.sas_c.specs.declared.prepared.Prepared.{Prepared}

@@ -1,5 +1,5 @@
 -- What is returned follows from how a run ended.
-use Rattle.sas_c.proofs.Imports.{◌≡◌, ℕ, ◌<◌, List, [], ◌++◌, length, take, drop, codes, arith, refl, sym, ap, subst, ◌∙◌, inr, Option, Some, None, Result, Ok, Err, IfSome, Appends, Parts, LayerFault, IsLayered, ReadsAs, most_bytes, task_format, Status, Yes, No, ToolFault, Memory, Read, TooLong, Write, Output, EndsCounting, layers_verdict, VerdictAnswer, Call, PlanCall, PlanDetail, Prepared, HeldOut, HoldsTask, IsWritten, Returns, ReturnsHeadline, EndsInLine, ReturnsLastLine, ReturnsInvariants, number_of_fault, number_of_status, PlanParts, WhyVerdict, TraceVerdict, Plan, Mutex, Headline, Invariants, CheckOut, FileOut, TaskOut, UnlayeredAnswer, plain_refusal, PlanOut, PlanOutBy, VerdictOut, same_output, ReportsValid, headline_of, Refuses, ReportsGroups, invariants_of, headline_why, invariants_why, judged_by, check_yes, check_no, task_refused, Reasons, PlanFileReasons, OutWhy, WithReasons, TraceOut}
+use Rattle.sas_c.proofs.Imports.{◌≡◌, ℕ, ◌<◌, List, [], ◌++◌, length, take, drop, codes, arith, refl, sym, ap, subst, ◌∙◌, inr, Option, Some, None, Result, Ok, Err, IfSome, Appends, Parts, LayerFault, IsLayered, ReadsAs, most_bytes, task_format, Status, Yes, No, ToolFault, Memory, Read, TooLong, Write, Output, EndsCounting, layers_verdict, VerdictAnswer, Call, PlanCall, PlanDetail, HeldOut, HoldsTask, IsWritten, Returns, ReturnsHeadline, EndsInLine, ReturnsLastLine, ReturnsInvariants, number_of_fault, number_of_status, PlanParts, WhyVerdict, TraceVerdict, Plan, Mutex, Headline, Invariants, CheckOut, FileOut, TaskOut, UnlayeredAnswer, plain_refusal, PlanOut, PlanOutBy, VerdictOut, same_output, ReportsValid, headline_of, Refuses, ReportsGroups, invariants_of, headline_why, invariants_why, judged_by, check_yes, check_no, task_refused, Reasons, PlanFileReasons, OutWhy, WithReasons, TraceOut}
 use Rattle.sas_requests.specs.Answering.{QuestionOut}
 use Rattle.sas_requests.specs.declared.question.Detail.TheVariants.{Plain}
 use Rattle.sas_requests.specs.declared.question.Question.{Question}
@@ -133,29 +133,29 @@ last_line_reported b c before room size number t = λ status is.
 -- ---- a plan of a task that is held
 
 -- what is returned for a call is returned for its plan
-pub held_asked : (call : PlanCall) (detail : PlanDetail) (c before room : List ℕ) (size number : ℕ) (held : Option Prepared) → call.detail ≡ detail → call.plan.now ≡ c
-    → IfSome held (λ prepared. Returns (HeldOut call.detail prepared.held call.plan.now) before room size number) → IfSome held (λ prepared. Returns (HeldOut detail prepared.held c) before room size number)
+pub held_asked : (call : PlanCall) (detail : PlanDetail) (c before room : List ℕ) (size number : ℕ) (held : Option Parts) → call.detail ≡ detail → call.plan.now ≡ c
+    → IfSome held (λ loaded. Returns (HeldOut call.detail loaded call.plan.now) before room size number) → IfSome held (λ loaded. Returns (HeldOut detail loaded c) before room size number)
 held_asked call detail c before room size number held as_much same t =
-    subst (λ (d : PlanDetail). IfSome held (λ prepared. Returns (HeldOut d prepared.held c) before room size number)) as_much
-    (subst (λ (xs : List ℕ). IfSome held (λ prepared. Returns (HeldOut call.detail prepared.held xs) before room size number)) same t)
+    subst (λ (d : PlanDetail). IfSome held (λ loaded. Returns (HeldOut d loaded c) before room size number)) as_much
+    (subst (λ (xs : List ℕ). IfSome held (λ loaded. Returns (HeldOut call.detail loaded xs) before room size number)) same t)
 
 -- what is returned for the task that is held is returned for the bytes that it was read from
 module _ (For : Parts → Option Output → Type 0) (Out : Option Output → Type 0) (b before room : List ℕ) (size number : ℕ) (to : (p : Parts) → IsLayered p → ReadsAs task_format most_bytes b (Ok p) → (o : Option Output) → For p o → Out o) where
-  held_reported : (held : Option Prepared) → HoldsTask b held → IfSome held (λ prepared. Returns (For prepared.held) before room size number) → Returns Out before room size number
+  held_reported : (held : Option Parts) → HoldsTask b held → IfSome held (λ loaded. Returns (For loaded) before room size number) → Returns Out before room size number
   held_reported None holds t = absurd holds
-  held_reported (Some prepared) (reads, layered) t = reports_by (For prepared.held) Out (to prepared.held layered reads) before room size number t
+  held_reported (Some loaded) (reads, layered) t = reports_by (For loaded) Out (to loaded layered reads) before room size number t
 
-module _ (b c before room : List ℕ) (size number : ℕ) (held : Option Prepared) (holds : HoldsTask b held) where
-  pub plan_reported : IfSome held (λ prepared. Returns (VerdictOut VerdictAnswer prepared.held c) before room size number) → Returns (PlanOut b c) before room size number
+module _ (b c before room : List ℕ) (size number : ℕ) (held : Option Parts) (holds : HoldsTask b held) where
+  pub plan_reported : IfSome held (λ loaded. Returns (VerdictOut VerdictAnswer loaded c) before room size number) → Returns (PlanOut b c) before room size number
   plan_reported t = held_reported (λ p. VerdictOut VerdictAnswer p c) (PlanOut b c) b before room size number (λ p layered reads o out. inr (p, reads, layered, out)) held holds t
 
   abbrev PlanWhy : Parts → Option Output → Type 0
   PlanWhy p = WithReasons (VerdictOut WhyVerdict p c) (PlanFileReasons c)
 
-  pub why_reported : IfSome held (λ prepared. Returns (PlanWhy prepared.held) before room size number) → Returns (OutWhy Plan b c) before room size number
+  pub why_reported : IfSome held (λ loaded. Returns (PlanWhy loaded) before room size number) → Returns (OutWhy Plan b c) before room size number
   why_reported t = held_reported PlanWhy (OutWhy Plan b c) b before room size number (λ p layered reads o. judged_by Reasons b c o p layered reads) held holds t
 
-  pub trace_reported : IfSome held (λ prepared. Returns (VerdictOut TraceVerdict prepared.held c) before room size number) → Returns (TraceOut b c) before room size number
+  pub trace_reported : IfSome held (λ loaded. Returns (VerdictOut TraceVerdict loaded c) before room size number) → Returns (TraceOut b c) before room size number
   trace_reported t = held_reported (λ p. VerdictOut TraceVerdict p c) (TraceOut b c) b before room size number (λ p layered reads o out. inr (p, reads, layered, out)) held holds t
 
 -- ---- which mutex groups are exclusive

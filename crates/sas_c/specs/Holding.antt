@@ -9,13 +9,12 @@ use Rattle.sas_answers.specs.Ending.{Output}
 use Rattle.sas_requests.specs.Answering.{PlanBy, VerdictBy}
 use Rattle.sas_requests.specs.Questions.{detail_of}
 use Rattle.sas_requests.specs.declared.question.PlanDetail.{PlanDetail}
-use Rattle.sas_c.specs.declared.prepared.Prepared.{Prepared}
 
 -- a task is held, the one that the bytes are a text of, and it is layered
-abbrev pub HoldsTask : List ℕ → Option Prepared → Type 0
+abbrev pub HoldsTask : List ℕ → Option Parts → Type 0
 HoldsTask b None = ⊥
-HoldsTask b (Some prepared) =
-    ReadsAs task_format most_bytes b (Ok prepared.held) × IsLayered prepared.held
+HoldsTask b (Some p) =
+    ReadsAs task_format most_bytes b (Ok p) × IsLayered p
 
 -- the output about a plan with these bytes
 abbrev pub HeldOut : PlanDetail → Parts → List ℕ → Option Output → Type 0

@@ -6,12 +6,10 @@ mod answering;
 mod box_pointer;
 mod numbers;
 mod plans;
-mod prepared;
 mod reporting;
 mod requests;
 mod sas_task;
 mod task_pointer;
 mod tasks;
 
-pub use prepared::Prepared;
-pub use sas_task::SasTask;
+pub use sas_task::{HeldTask, SasTask};

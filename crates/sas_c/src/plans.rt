@@ -11,9 +11,8 @@ ghost use Rattle.sas_c.specs.Reporting.{Returns, ReturnsHeadline, ReturnsLastLin
 ghost use Rattle.sas_c.specs.Holding.{HeldOut, HoldsTask};
 
 use crate::numbers::{NO_TASK, fault_number};
-use crate::prepared::Prepared;
 use crate::reporting::{report_ended, return_answer};
-use crate::sas_task::SasTask;
+use crate::sas_task::{HeldTask, SasTask};
 use sas_lines::Watched;
 use sas_requests::{PlanDetail, Request, answer_bytes, judge_bytes};
 use std::alloc::Global;
@@ -27,8 +26,8 @@ pub extern "C" fn sas_task_plan(
     room: &mut [u8],
     size: &mut usize,
 ) -> u32
-    ensures answers { IfSome task.old.pointer.task (λ prepared.
-        Returns (VerdictOut VerdictAnswer prepared.held plan.now)
+    ensures answers { IfSome task.old.pointer.task (λ loaded.
+        Returns (VerdictOut VerdictAnswer loaded plan.now)
         room.old room.new size.new result) }
     ensures bytes { (b : List ℕ) → HoldsTask b task.old.pointer.task
         → Returns (PlanOut b plan.now) room.old room.new size.new result }
@@ -50,8 +49,8 @@ pub extern "C" fn sas_task_plan_why(
     room: &mut [u8],
     size: &mut usize,
 ) -> u32
-    ensures answers { IfSome task.old.pointer.task (λ prepared. Returns
-        (WithReasons (VerdictOut WhyVerdict prepared.held plan.now) (PlanFileReasons plan.now))
+    ensures answers { IfSome task.old.pointer.task (λ loaded. Returns
+        (WithReasons (VerdictOut WhyVerdict loaded plan.now) (PlanFileReasons plan.now))
         room.old room.new size.new result) }
     ensures bytes { (b : List ℕ) → HoldsTask b task.old.pointer.task
         → Returns (OutWhy Request.Plan b plan.now) room.old room.new size.new result }
@@ -73,8 +72,8 @@ pub extern "C" fn sas_task_trace(
     room: &mut [u8],
     size: &mut usize,
 ) -> u32
-    ensures answers { IfSome task.old.pointer.task (λ prepared.
-        Returns (VerdictOut TraceVerdict prepared.held plan.now)
+    ensures answers { IfSome task.old.pointer.task (λ loaded.
+        Returns (VerdictOut TraceVerdict loaded plan.now)
         room.old room.new size.new result) }
     ensures bytes { (b : List ℕ) → HoldsTask b task.old.pointer.task
         → Returns (TraceOut b plan.now) room.old room.new size.new result }
@@ -112,16 +111,16 @@ fn answer_held(
     room: &mut [u8],
     size: &mut usize,
 ) -> u32
-    ensures answers { IfSome task.old.pointer.task (λ prepared.
-        Returns (HeldOut call.entry.detail prepared.held call.entry.plan.now)
+    ensures answers { IfSome task.old.pointer.task (λ loaded.
+        Returns (HeldOut call.entry.detail loaded call.entry.plan.now)
         room.old room.new size.new result) }
     ensures same { task.new.pointer.task ≡ task.old.pointer.task }
     ensures none { IsNone task.old.pointer.task → (result ≡ 5) × (room.new ≡ room.old) }
 {
     match task.take(alloc) {
-        Some(mut prepared) => {
-            let number = answer_loaded(alloc, &mut prepared, call, room, size);
-            task.put(prepared);
+        Some(mut loaded) => {
+            let number = answer_loaded(alloc, &mut loaded, call, room, size);
+            task.put(loaded);
             number
         }
         None => NO_TASK,
@@ -131,25 +130,25 @@ fn answer_held(
 /// Writes the answer about the plan for this task.
 fn answer_loaded(
     alloc: Global,
-    prepared: &mut Prepared,
+    loaded: &mut HeldTask,
     call: PlanCall<'_>,
     room: &mut [u8],
     size: &mut usize,
 ) -> u32
     ensures answers { Returns
-        (HeldOut call.entry.detail prepared.old.held call.entry.plan.now)
+        (HeldOut call.entry.detail loaded.old call.entry.plan.now)
         room.old room.new size.new result }
-    ensures same { prepared.new ≡ prepared.old }
+    ensures same { loaded.new ≡ loaded.old }
 {
     match call.detail {
         // The names and the evaluator of the loaded task serve all its plans.
-        PlanDetail::Plain => match judge_bytes(alloc, &mut prepared.held, call.plan) {
+        PlanDetail::Plain => match judge_bytes(alloc, loaded, call.plan) {
             Ok(answer) => return_answer(answer, room, size),
             Err(fault) => fault_number(fault),
         },
         PlanDetail::Reasons | PlanDetail::Trace => {
             let mut text = Watched::new(Vec::new(alloc));
-            let layered = prepared.held.layered();
+            let layered = loaded.layered();
             let ended = answer_bytes(alloc, call.detail, layered, call.plan, &mut text);
             report_ended(ended, text, room, size)
         }

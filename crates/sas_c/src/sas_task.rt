@@ -2,10 +2,15 @@
 ghost use Rattle.std.specs.Prelude.{◌≡◌, ◌↔◌, Some, None, IsSome, IsTrue, option_map};
 
 use crate::box_pointer::BoxPointer;
-use crate::prepared::Prepared;
 use crate::task_pointer::TaskPointer;
+use sas_axioms::Worklist;
+use sas_flat::FlatTask;
+use sas_run::LoadedTask;
 use std::alloc::Global;
 use std::mem::replace;
+
+/// A task with all that its plans need.
+pub type HeldTask = LoadedTask<Worklist, FlatTask>;
 
 /// A task that a program in C holds between two calls, or none. It begins with all bytes 0, which is none, and the program never
 /// changes or copies what is inside.
@@ -29,7 +34,7 @@ impl SasTask {
     }
 
     /// Holds this task from now on. None may be held before, as its memory would be lost.
-    pub fn put(&mut self, task: Box<Prepared>)
+    pub fn put(&mut self, task: Box<HeldTask>)
         requires { self.old.pointer.task ≡ None }
         ensures { self.new.pointer.task ≡ Some task.value }
     {
@@ -40,7 +45,7 @@ impl SasTask {
     }
 
     /// Returns the task that is held, if there is one. None is held then.
-    pub fn take(&mut self, alloc: Global) -> Option<Box<Prepared>>
+    pub fn take(&mut self, alloc: Global) -> Option<Box<HeldTask>>
         ensures task { option_map (λ task. task.value) result ≡ self.old.pointer.task }
         ensures none { self.new.pointer.task ≡ None }
     {

@@ -1,10 +1,10 @@
 // A pointer to a task, as a program in C has it.
 ghost use Rattle.std.specs.Prelude.{◌≡◌, Option, Some, None, IsSome};
 ghost use Rattle.sas_c.specs.TaskPointers.{owns_task};
-ghost use Rattle.sas_c.specs.declared.prepared.Prepared.{Prepared as PreparedTask};
+ghost use Rattle.sas_core.specs.declared.parts.Parts.{Parts};
 
 use crate::box_pointer::BoxPointer;
-use crate::prepared::Prepared;
+use crate::sas_task::HeldTask;
 use std::alloc::Global;
 use std::marker::Model;
 use std::ptr::null_mut;
@@ -14,7 +14,7 @@ use std::ptr::null_mut;
 #[derive(Drop)]
 pub struct TaskPointer {
     at: *mut u8,
-    pub ghost task: { Option PreparedTask },
+    pub ghost task: { Option Parts },
 }
 
 impl Model for TaskPointer {
@@ -30,7 +30,7 @@ impl TaskPointer {
     }
 
     /// Points to this task.
-    pub fn of(task: BoxPointer<Prepared, Global>) -> TaskPointer
+    pub fn of(task: BoxPointer<HeldTask, Global>) -> TaskPointer
         ensures { result.task ≡ Some task.value }
     {
         let BoxPointer { at, alloc: _ } = task;
@@ -38,13 +38,13 @@ impl TaskPointer {
     }
 
     /// Returns the task.
-    pub fn into_box_pointer(self, alloc: Global) -> BoxPointer<Prepared, Global>
+    pub fn into_box_pointer(self, alloc: Global) -> BoxPointer<HeldTask, Global>
         requires { IsSome self.task }
         ensures { self.task ≡ Some result.value }
     {
         let TaskPointer { at } = self;
         BoxPointer {
-            at: at as *mut Prepared,
+            at: at as *mut HeldTask,
             alloc,
         }
     }

@@ -1,19 +1,18 @@
 // A task that is read once, for many plans.
-ghost use Rattle.std.specs.Prelude.{◌≡◌, Some, None};
+ghost use Rattle.std.specs.Prelude.{◌≡◌, Some, None, IfSome};
 ghost use Rattle.sas_answers.specs.Answers.{layers_verdict};
 ghost use Rattle.sas_requests.specs.Output.{CheckOut};
 ghost use Rattle.sas_c.specs.Reporting.{Returns};
 ghost use Rattle.sas_c.specs.Holding.{HoldsTask};
 
 use crate::numbers::{OUT_OF_MEMORY, YES};
-use crate::prepared::Prepared;
 use crate::reporting::{report, report_ended};
-use crate::sas_task::SasTask;
+use crate::sas_task::{HeldTask, SasTask};
 use sas_answers::Status;
 use sas_flat::FlatTask;
 use sas_lines::Watched;
 use sas_meaning::Layered;
-use sas_requests::{Detail, ReadTask, read_layered};
+use sas_requests::{Detail, ReadTask, load, read_layered};
 use std::alloc::Global;
 
 /// Reads a task, and holds it if it is layered, in place of what was held before. Answers as `sas_check` does. Where the number
@@ -63,33 +62,41 @@ fn hold(
     requires { task.old.pointer.task ≡ None }
     ensures answers { Returns (λ output. output ≡ layers_verdict None)
         room.old room.new size.new result }
-    ensures held { result ≡ 0 → task.new.pointer.task ≡ Some (record { held = layered }) }
+    ensures held { result ≡ 0 → task.new.pointer.task ≡ Some layered }
     ensures none { (result ≡ 0 → ⊥) → task.new.pointer.task ≡ None }
 {
-    match Prepared::boxed(alloc, layered) {
-        Some(prepared) => report_held(task, prepared, room, size),
+    let Ok(loaded) = load(alloc, layered) else {
+        return OUT_OF_MEMORY;
+    };
+    match in_box(alloc, loaded) {
+        Some(loaded) => report_held(task, loaded, room, size),
         None => OUT_OF_MEMORY,
     }
 }
 
 /// Writes that the task is layered, and holds it if there is room for that.
-fn report_held(
-    task: &mut SasTask,
-    prepared: Box<Prepared>,
-    room: &mut [u8],
-    size: &mut usize,
-) -> u32
+fn report_held(task: &mut SasTask, loaded: Box<HeldTask>, room: &mut [u8], size: &mut usize) -> u32
     requires { task.old.pointer.task ≡ None }
     ensures answers { Returns (λ output. output ≡ layers_verdict None)
         room.old room.new size.new result }
-    ensures held { result ≡ 0 → task.new.pointer.task ≡ Some prepared.value }
+    ensures held { result ≡ 0 → task.new.pointer.task ≡ Some loaded.value }
     ensures none { (result ≡ 0 → ⊥) → task.new.pointer.task ≡ None }
 {
     let number = report(b"task layered\n", Status::Yes, room, size);
     if number == YES {
-        task.put(prepared);
+        task.put(loaded);
     } else {
-        drop(prepared);
+        drop(loaded);
     }
     number
+}
+
+/// Puts the value into a box. This is generic, since `Box::new` of a type of as many parts as a loaded task has takes the prover too long.
+fn in_box<T: Drop>(alloc: Global, value: T) -> Option<Box<T>>
+    ensures { IfSome result (λ b. b.value ≡ value) }
+{
+    match Box::new(alloc, value) {
+        Ok(value) => Some(value),
+        Err(_) => None,
+    }
 }

@@ -3,6 +3,7 @@ use Rattle.std.specs.Prelude.{ℕ, ◌↔◌, List, Contains}
 use Rattle.sas_core.specs.declared.parts.Fact.{Fact}
 use Rattle.sas_core.specs.declared.parts.Parts.{Parts}
 use Rattle.sas_core.specs.Variables.{FactExists}
+use Rattle.sas_core.specs.WellRanged.{WellRanged}
 use Rattle.sas_groups.specs.declared.index.Index.{Index}
 use Rattle.sas_groups.specs.ByFact.{AreFirstNumbers, fact_number, HasFact, under}
 use Rattle.sas_groups.specs.Distinct.{AreOwnLists}
@@ -13,9 +14,10 @@ use Rattle.sas_groups.specs.ByVariable.{AreByVariable}
 abbrev pub groups_of : Index → Fact → List ℕ
 groups_of index fact = under index.groups (fact_number index.firsts.items fact)
 
--- the index of a task: the groups of each fact, the facts of each group without duplicates, the
--- runs of each group, and the effects of large operators by variable
+-- the index of a well-ranged task: the groups of each fact, the facts of each group without
+-- duplicates, the runs of each group, and the effects of large operators by variable
 pub record IsIndexOf (p : Parts) (index : Index) : Type 0 where
+  pub ranged : WellRanged p
   pub firsts : AreFirstNumbers p index.firsts.items
   pub groups : (fact : Fact) → FactExists p.variables fact
       → (place : ℕ) → Contains (groups_of index fact) place ↔ HasFact p place fact

@@ -1,12 +1,11 @@
 // The index of the groups of a task.
-ghost use Rattle.std.specs.Prelude.{◌≡◌, ℕ, ◌<◌, ◌↔◌, [], length, IsTrue, IfOk, OnOk, IfSome, Contains};
+ghost use Rattle.std.specs.Prelude.{◌≡◌, ℕ, ◌<◌, ◌↔◌, [], length, IsTrue, IfOk, OnOk, Contains};
 ghost use Rattle.std.specs.List.Sorted.{IsNonDecreasing};
-ghost use Rattle.sas_groups.specs.ByVariable.{AreOn};
 ghost use Rattle.sas_groups.specs.Distinct.{facts_at};
 ghost use Rattle.sas_groups.specs.ByFact.{under, fact_number, AreLow, AreFirstNumbers, facts_below};
 
 use crate::by_fact::groups_by_fact;
-use crate::by_variable::{FEW_EFFECTS, effects_by_variable, place_of};
+use crate::by_variable::effects_by_variable;
 use crate::distinct::{facts_of, own_lists};
 use crate::runs::runs_of_groups;
 use sas_core::{Fact, Grounded, Items};
@@ -91,25 +90,6 @@ impl Index {
         facts_of(task, &self.own_facts, group)
     }
 
-    /// Returns all effects of a large operator that set the variable, and possibly others. Returns `None` if the operator isn't large.
-    #[inline(always)]
-    pub fn effects_on<T: Grounded>(
-        &self,
-        task: &Layered<T>,
-        operator: u32,
-        var: u32,
-    ) -> Option<&[u32]>
-        requires index { IsIndexOf task.now self.now }
-        requires operator { operator < length task.now.operators }
-        ensures { IfSome result (λ effects. AreOn task.now operator var effects.now) }
-    {
-        if task.effects(operator) > FEW_EFFECTS {
-            let place = place_of(operator, var, self.effects.len());
-            return Some(under(&self.effects, place));
-        }
-        None
-    }
-
     /// Returns whether the group contains the fact.
     #[inline(always)]
     pub fn has(&self, group: u32, fact: Fact) -> bool
@@ -165,7 +145,7 @@ fn is_among(groups: &[u32], group: u32) -> bool
 
 /// Returns the list with this key; past the last list, the empty list.
 #[inline(always)]
-fn under(lists: &Lists<u32>, key: usize) -> &[u32]
+pub fn under(lists: &Lists<u32>, key: usize) -> &[u32]
     ensures { result.now ≡ under lists.now key }
 {
     if key < lists.len() {

@@ -32,7 +32,6 @@ pub use Rattle.sas_groups.proofs.InLists.{is_among, in_flat, given_is}
 pub use Rattle.sas_groups.proofs.JointLists.{listed_invariants}
 pub use Rattle.sas_groups.proofs.NotesOfFacts.{a_note, apart_or_not, one_or_two, value_note_shows, no_value_note_shows, no_note_shows, some_note_shows, shared_turned, none_or_some, value_note_of, note_stays, note_changes, other_known, no_other, from_apart, noted_still, at_most_one, one_note_shows, completed, noted_less, forgotten_now, forgotten_still, blank_in_the_end, blank_same}
 pub use Rattle.sas_groups.proofs.Turns.{Turns, turns_begin, turn_has, turn_more, turns_end}
-pub use Rattle.sas_groups.specs.ByVariable.{AreOn}
 pub use Rattle.sas_groups.specs.Checks.{IsGone, IsFirstVerdict, AreGone, EffectKeeps}
 pub use Rattle.sas_groups.specs.Clashes.{Keeps, Clash, sets, Contradict, IsRemoved}
 pub use Rattle.sas_groups.specs.Distinct.{AreDistinct}

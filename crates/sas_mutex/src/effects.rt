@@ -1,5 +1,5 @@
 // Which groups an effect preserves.
-ghost use Rattle.std.specs.Prelude.{◌≡◌, ◌<◌, ◌↔◌, ℕ, Bool, List, length, IsTrue, IsFalse, All, Contains};
+ghost use Rattle.std.specs.Prelude.{◌≡◌, ◌<◌, ◌↔◌, ℕ, Bool, List, length, IsTrue, IsFalse, IfSome, All, Contains};
 ghost use Rattle.std.specs.List.{Any};
 ghost use Rattle.sas_core.specs.Grounded.{operator_at, effect_at};
 ghost use Rattle.sas_core.specs.Changes.{fact_of, plain_effects};
@@ -7,6 +7,7 @@ ghost use Rattle.sas_core.specs.Variables.{FactExists};
 ghost use Rattle.sas_groups.specs.Clashes.{sets};
 ghost use Rattle.sas_groups.specs.Families.{IsIn};
 ghost use Rattle.sas_groups.specs.ByFact.{HasFact};
+ghost use Rattle.sas_groups.specs.ByVariable.{AreOn};
 ghost use Rattle.sas_groups.specs.Index.{groups_of};
 ghost use Rattle.sas_groups.specs.Runs.{AreOnOne};
 ghost use Rattle.sas_groups.specs.Kept.{family_of};
@@ -79,6 +80,19 @@ impl<'a, 'b, T: Grounded> FiringEffect<'a, 'b, T> {
             effect,
             change: indexed.task.effect_change(operator, effect),
         }
+    }
+
+    /// Returns all effects of a large operator that set the variable, and possibly others. Returns `None` if the operator isn't large.
+    #[inline(always)]
+    pub fn effects_on(&self, var: u32) -> Option<&'b [u32]>
+        ensures { let f = self.now in
+            IfSome result (λ effects. AreOn f.task f.operator var effects.now) }
+    {
+        let indexed = IndexedTask {
+            task: self.task,
+            index: self.index,
+        };
+        indexed.effects_on(self.operator, var)
     }
 
     /// Returns the groups that contain the fact that the effect sets.
@@ -233,11 +247,11 @@ impl<'a, 'b, T: Grounded> FiringEffect<'a, 'b, T> {
 
     /// Returns whether the operator is large and has more effects than the group has facts.
     #[inline(always)]
-    fn has_more_effects(&self, group: u32) -> bool
+    pub fn has_more_effects(&self, group: u32) -> bool
         requires { group < length self.now.task.groups }
     {
         // The index only contains the effects of large operators.
-        if self.index.effects_on(self.task, self.operator, 0).is_none() {
+        if self.effects_on(0).is_none() {
             return false;
         }
         let facts = self.index.facts_of(self.task, group);
@@ -288,7 +302,7 @@ impl<'a, 'b, T: Grounded> FiringEffect<'a, 'b, T> {
         ensures yes { IsTrue result → IsSingleOn self.now kept.now group var }
         ensures no { IsFalse result → HasNoPartnerAt self.now kept.now group → ⊥ }
     {
-        let Some(effects) = self.index.effects_on(self.task, self.operator, var) else {
+        let Some(effects) = self.effects_on(var) else {
             return self.is_single_of_all(kept, group, marks);
         };
         for other in effects {
@@ -514,7 +528,7 @@ impl<'a, 'b, T: Grounded> FiringEffect<'a, 'b, T> {
         ensures { IsTrue result ↔ SomeRemoves (operator_of self.now) notes.now fact }
     {
         let effects = self.task.effects(self.operator);
-        if let Some(on) = self.index.effects_on(self.task, self.operator, fact.var) {
+        if let Some(on) = self.effects_on(fact.var) {
             return on.iter().any(|effect| *effect < effects && self.removes(*effect, fact, notes));
         }
         match self.task.plain_changes(self.operator) {

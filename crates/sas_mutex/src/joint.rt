@@ -34,8 +34,6 @@ pub fn check_groups<T: Grounded>(
     // If a group is exclusive, no reachable state contains two different facts of it.
     ensures invariants { IfOk result (λ verdicts. AreInvariants layered.now verdicts.items) }
 {
-    // The contract of `task` ensures that the task is well ranged.
-    let _ = layered.task();
     let mut verdicts = first_verdicts(alloc, layered)?;
     // If no group may be exclusive, no operator needs to be checked.
     if !some_exclusive(verdicts.as_slice()) {

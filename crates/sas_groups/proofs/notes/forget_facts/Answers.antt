@@ -6,7 +6,7 @@ use Rattle.sas_groups.proofs.notes.forget_facts.Goals as goal
 
 pub forget-requires-clause-groups : goal.forget-requires-clause-groups
 forget-requires-clause-groups g c =
-    let indexed = subst (λ (q : Parts). IsIndexOf q c.indexed.inside.index.now) c.indexed.view_is c.indexed.invariant.1 in
+    let indexed = subst (λ (q : Parts). IsIndexOf q c.indexed.inside.index.now) c.indexed.view_is c.indexed.invariant in
     groups_below c.args.indexed.now c.indexed.inside.index.now _ (length c.loop-fact.notes.groups) indexed (c.requires.exist c.loop-fact.fact-index _ c.loop-fact-test.true)
     c.loop-fact.invariant.from.wide.groups
 
@@ -18,7 +18,7 @@ loop-fact-preserved g c =
     let n = c.loop-fact.fact-index in
     let new = c.forget.new.notes in
     let inv = c.loop-fact.invariant in
-    let indexed = subst (λ (q : Parts). IsIndexOf q index) c.indexed.view_is c.indexed.invariant.1 in
+    let indexed = subst (λ (q : Parts). IsIndexOf q index) c.indexed.view_is c.indexed.invariant in
     let fact : Fact = get_or facts n (record { var = 0; value = 0 }) in
     let exists = c.requires.exist n (record { var = 0; value = 0 }) c.loop-fact-test.true in
     record {

@@ -16,7 +16,7 @@ forget-requires-clause-value g c =
 pub forget-requires-clause-groups : goal.forget-requires-clause-groups
 forget-requires-clause-groups g c =
     let p = c.args.indexed.now in
-    groups_below p c.indexed.inside.index.now c.in-Some.fact (length c.loop-fact.marks.known.groups) (rw c.indexed.view_is at c.indexed.invariant.1) (All-contains (FactExists p.variables) (known_on p c.args.premises.now) c.in-Some.fact
+    groups_below p c.indexed.inside.index.now c.in-Some.fact (length c.loop-fact.marks.known.groups) (rw c.indexed.view_is at c.indexed.invariant) (All-contains (FactExists p.variables) (known_on p c.args.premises.now) c.in-Some.fact
     c.requires.exist (turn_has c.loop-fact.invariant.came c.in-Some.ensures.steps)) c.loop-fact.invariant.from.known.wide.groups
 
 pub loop-fact-preserved : goal.loop-fact-preserved
@@ -30,11 +30,11 @@ loop-fact-preserved g c =
     let exists = All-contains (FactExists p.variables) all fact c.requires.exist (turn_has inv.came c.in-Some.ensures.steps) in
     let came : Turns (IsForgotten p new) all c.loop-fact.yielded (known_left c.loop-fact.fact-iterator) = record {
       parts = inv.came.parts;
-      have = All-weaker (IsForgotten p old) (IsForgotten p new) (forgotten_still (rw c.indexed.view_is at c.indexed.invariant.1) inv.from.known fact exists c.forget.ensures) c.loop-fact.yielded inv.came.have;
+      have = All-weaker (IsForgotten p old) (IsForgotten p new) (forgotten_still (rw c.indexed.view_is at c.indexed.invariant) inv.from.known fact exists c.forget.ensures) c.loop-fact.yielded inv.came.have;
     } in
     record {
-      came = turn_more came c.in-Some.ensures.steps (forgotten_now (rw c.indexed.view_is at c.indexed.invariant.1) inv.from.known fact exists c.forget.ensures);
-      from = record { known = noted_less (rw c.indexed.view_is at c.indexed.invariant.1) inv.from.known fact exists c.forget.ensures; others = inv.from.others };
+      came = turn_more came c.in-Some.ensures.steps (forgotten_now (rw c.indexed.view_is at c.indexed.invariant) inv.from.known fact exists c.forget.ensures);
+      from = record { known = noted_less (rw c.indexed.view_is at c.indexed.invariant) inv.from.known fact exists c.forget.ensures; others = inv.from.others };
     }
 
 pub returns : goal.returns

@@ -8,17 +8,17 @@ loop-fact-init g c = none_so_far c.requires.exist c.widest_of-widest.result c.wi
 
 pub note-requires-clause-groups : goal.note-requires-clause-groups
 note-requires-clause-groups g c =
-    let indexed = subst (λ (q : Parts). IsIndexOf q c.indexed.inside.index.now) c.indexed.view_is c.indexed.invariant.1 in
+    let indexed = subst (λ (q : Parts). IsIndexOf q c.indexed.inside.index.now) c.indexed.view_is c.indexed.invariant in
     groups_below c.args.indexed.now c.indexed.inside.index.now _ (length c.loop-fact.notes.groups) indexed (c.requires.exist c.loop-fact.fact-index _ c.loop-fact-test.true) c.loop-fact.invariant.from.wide.groups
 
 pub returns-then-not-note-clause-is : goal.returns-then-not-note-clause-is
 returns-then-not-note-clause-is g c =
-    let indexed = subst (λ (q : Parts). IsIndexOf q c.indexed.inside.index.now) c.indexed.view_is c.indexed.invariant.1 in
+    let indexed = subst (λ (q : Parts). IsIndexOf q c.indexed.inside.index.now) c.indexed.view_is c.indexed.invariant in
     iff_yes (refused_so_far c.requires.exist indexed c.loop-fact.invariant _ (Contains-get_or c.args.facts.now c.loop-fact.fact-index _ c.loop-fact-test.true) (c.note.ensures.no c.if-not-note.true))
 
 pub returns-then-not-note-clause-from : goal.returns-then-not-note-clause-from
 returns-then-not-note-clause-from g c =
-    let indexed = subst (λ (q : Parts). IsIndexOf q c.indexed.inside.index.now) c.indexed.view_is c.indexed.invariant.1 in
+    let indexed = subst (λ (q : Parts). IsIndexOf q c.indexed.inside.index.now) c.indexed.view_is c.indexed.invariant in
     from_still c.requires.exist indexed c.loop-fact.invariant _ (Contains-get_or c.args.facts.now c.loop-fact.fact-index _ c.loop-fact-test.true) c.note.ensures.changes
 
 pub loop-fact-preserved : goal.loop-fact-preserved

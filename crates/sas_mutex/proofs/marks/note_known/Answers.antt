@@ -29,19 +29,19 @@ note-requires-clause-value g c =
 pub note-requires-clause-groups : goal.note-requires-clause-groups
 note-requires-clause-groups g c =
     let p = c.args.indexed.now in
-    groups_below p c.indexed.inside.index.now c.in-Some.fact (length c.loop-fact.marks.known.groups) (rw c.indexed.view_is at c.indexed.invariant.1) (All-contains (FactExists p.variables) (known_on p c.args.premises.now) c.in-Some.fact
+    groups_below p c.indexed.inside.index.now c.in-Some.fact (length c.loop-fact.marks.known.groups) (rw c.indexed.view_is at c.indexed.invariant) (All-contains (FactExists p.variables) (known_on p c.args.premises.now) c.in-Some.fact
     c.requires.exist (turn_has c.loop-fact.invariant.turns c.in-Some.ensures.steps)) c.loop-fact.invariant.so_far.from.wide.groups
 
 pub returns-then-not-note-clause-yes : goal.returns-then-not-note-clause-yes
 returns-then-not-note-clause-yes g c t =
     let inv = c.loop-fact.invariant in
-    refused_so_far c.requires.exist (rw c.indexed.view_is at c.indexed.invariant.1) inv.so_far c.in-Some.fact (turn_has inv.turns c.in-Some.ensures.steps) (c.note.ensures.no c.if-not-note.true)
+    refused_so_far c.requires.exist (rw c.indexed.view_is at c.indexed.invariant) inv.so_far c.in-Some.fact (turn_has inv.turns c.in-Some.ensures.steps) (c.note.ensures.no c.if-not-note.true)
 
 pub returns-then-not-note-clause-from : goal.returns-then-not-note-clause-from
 returns-then-not-note-clause-from g c =
     let inv = c.loop-fact.invariant in
     record {
-      known = from_still c.requires.exist (rw c.indexed.view_is at c.indexed.invariant.1) inv.so_far c.in-Some.fact (turn_has inv.turns c.in-Some.ensures.steps) c.note.ensures.changes;
+      known = from_still c.requires.exist (rw c.indexed.view_is at c.indexed.invariant) inv.so_far c.in-Some.fact (turn_has inv.turns c.in-Some.ensures.steps) c.note.ensures.changes;
       others = inv.others;
     }
 
@@ -53,7 +53,7 @@ loop-fact-preserved g c =
     let within = turn_has inv.turns c.in-Some.ensures.steps in
     record {
       turns = turn_more inv.turns c.in-Some.ensures.steps (All-contains (FactExists p.variables) all c.in-Some.fact c.requires.exist within);
-      so_far = one_so_far c.requires.exist (rw c.indexed.view_is at c.indexed.invariant.1) inv.so_far c.in-Some.fact within (c.note.ensures.yes c.if-not-note.false) c.note.ensures.changes;
+      so_far = one_so_far c.requires.exist (rw c.indexed.view_is at c.indexed.invariant) inv.so_far c.in-Some.fact within (c.note.ensures.yes c.if-not-note.false) c.note.ensures.changes;
       others = inv.others;
     }
 

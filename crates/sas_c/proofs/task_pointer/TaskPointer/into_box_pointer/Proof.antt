@@ -22,7 +22,7 @@ use denote.Triple.Walked.{Stays, stay_dropped, walk_of, Goes-dropped}
 use mir.Raw.{raw as bare}
 use Rattle.std.specs.contracts.alloc.Global as heap
 use Rattle.std.proofs.alloc.Global.TheLaws as heap_laws
-use Rattle.sas_c.specs.contracts.prepared.Prepared as prepared
+use Rattle.sas_c.specs.TaskPointers as held
 use Rattle.sas_c.proofs.PointerValues.{both, BoxPointer, pointer_good, pointer_in, one_val, one_reported, slot_at, by_option}
 use Rattle.sas_c.specs.contracts.task_pointer.TaskPointer.into_box_pointer.{ended, clauses}
 use Rattle.sas_c.specs.contracts.task_pointer.TaskPointer.into_box_pointer.Key.{name as #self}
@@ -38,7 +38,7 @@ into_box_pointer_spec 𝓤 𝓛 𝓜 𝓡 wired =
     let stays : Stays En₀.signature.params En₀.kept = (stay_dropped (slot_at 0 En₀.signature.params) En₀.kept.0, (stay_dropped (slot_at 1 En₀.signature.params) En₀.kept.1.0, tt)) in
     let C = (tables 𝓤 H 𝓜 𝓡 𝓡.env).C in
     let Λ = (tables 𝓤 H 𝓜 𝓡 𝓡.env).Λ in
-    let R : RattleType = prepared.the_row in
+    let R : RattleType = held.the_row in
     let Z : RattleType = heap.the_row in
     let LZ = heap_laws.the_row_laws in
     proved_at 𝓛 En₀ stays c 𝓜 𝓡 (Goes-blank 𝓛 0 (slot_at 0 En₀.signature.params) En₀.kept.0 (λ κs x f. tt), (Goes-dropped 𝓛 0 (slot_at 1 En₀.signature.params) En₀.kept.1.0 (λ κs x f. refl), tt)) #self fn (compiled.unfolded 𝓤 H 𝓜 𝓡 wired) (λ z are.

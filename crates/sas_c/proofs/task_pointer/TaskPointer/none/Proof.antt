@@ -18,7 +18,7 @@ use denote.Triple.Entry.{alive}
 use denote.Triple.Walked.{Stays, walk_of}
 use Rattle.std.specs.contracts.alloc.Global as heap
 use Rattle.std.proofs.alloc.Global.TheLaws as heap_laws
-use Rattle.sas_c.specs.contracts.prepared.Prepared as prepared
+use Rattle.sas_c.specs.TaskPointers as held
 use Rattle.sas_c.specs.contracts.task_pointer.TaskPointer as task_pointer
 use Rattle.sas_c.proofs.PointerValues.{one_val, one_own, one_made}
 use Rattle.sas_c.specs.contracts.task_pointer.TaskPointer.none.{ended, clauses}
@@ -35,7 +35,7 @@ none_spec 𝓤 𝓛 𝓜 𝓡 wired =
     let stays : Stays En₀.signature.params En₀.kept = tt in
     let C = (tables 𝓤 H 𝓜 𝓡 𝓡.env).C in
     let Λ = (tables 𝓤 H 𝓜 𝓡 𝓡.env).Λ in
-    let R : RattleType = prepared.the_row in
+    let R : RattleType = held.the_row in
     let Z : RattleType = heap.the_row in
     let LZ = heap_laws.the_row_laws in
     proved_at 𝓛 En₀ stays c 𝓜 𝓡 tt #self fn (compiled.unfolded 𝓤 H 𝓜 𝓡 wired) (λ z are.

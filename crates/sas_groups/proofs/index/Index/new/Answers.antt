@@ -7,6 +7,7 @@ returns g c =
     let p = c.args.task.now in
     let groups = subst (λ (numbers : List ℕ). AreByFact p numbers c.in_ok-groups.groups) c.as_slice.ensures.value c.in_ok-groups.ensures in
     record {
+      ranged = c.variables.ensures.well_ranged;
       firsts = c.in_ok-facts.ensures.firsts;
       groups = groups.are;
       facts = c.in_ok-own_facts.ensures;

@@ -50,7 +50,7 @@ some_clashes-requires-clause-exist g c = rw (← c.self.view_is, c.effect_condit
     (conditions_exist c.self.inside.task.now c.self.invariant.0 c.self.inside.operator c.self.invariant.2 c.args.other (rw (← c.self.view_is) at c.requires.other))
 
 pub invariant_of-indexed : goal.invariant_of-indexed
-invariant_of-indexed g c = (c.self.invariant.0, c.self.invariant.1)
+invariant_of-indexed g c = c.self.invariant.1
 
 pub facts_clash-requires-clause-exist : goal.facts_clash-requires-clause-exist
 facts_clash-requires-clause-exist g c = rw c.effect_conditions-second.ensures

@@ -1,6 +1,6 @@
 -- One more effect sets no other fact of the group, or doesn't exist. Each effect on the variable is
 -- one of these.
-use Rattle.sas_mutex.proofs.Imports.{◌≡◌, length, ◌∙◌, below_more, subst, arith, get_or_default, AreOn, EffectPlace, operator_of, IsApartAt}
+use Rattle.sas_mutex.proofs.Imports.{◌≡◌, length, ◌∙◌, below_more, subst, arith, get_or_default, EffectPlace, operator_of, IsApartAt}
 use Rattle.sas_mutex.proofs.effects.FiringEffect.is_single_on.Goals as goal
 use Rattle.sas_mutex.proofs.effects.FiringEffect.is_single_on.Goals.{else-other-effects-via-then-other-effects+else-not-not_both, else-other-effects-via-else-other-effects}
 
@@ -22,8 +22,7 @@ loop-other-preserved g c =
 pub returns-clause-yes : goal.returns-clause-yes
 returns-clause-yes g c t other on lt =
     let effects = c.in-Some.effects.now in
-    let are = subst (λ (f : EffectPlace). AreOn f.task f.operator c.args.var effects) c.self.view_is c.in-Some.ensures in
-    let (k, within, at) = are other lt on in
+    let (k, within, at) = c.in-Some.ensures other lt on in
     subst (IsApartAt c.args.self.now c.args.kept.now c.args.group) (get_or_default effects k 0 other within ∙ at)
     (c.loop-other.invariant.apart k (let end = c.loop-other-test.false in omega arith)) lt
 
