@@ -1,12 +1,12 @@
 -- What the proofs use of other crates, and of the definitions of this one.
-pub use Rattle.std.proofs.Common.{◌≡◌, ◌⊎◌, inl, inr, ℕ, List, [], ◌∷◌, ◌++◌, length, flat_map, take, ◌≤◌, refl, ap, ◌∙◌, ◌+◌, ◌/◌, ◌%◌, ◌<◌, set, append_assoc, length-append, arith, sym, subst, Option, Some, None, zero, suc, ◌-◌, get_or, IsTrue, not, ◌==◌, if◌then◌else◌, codes, slice_get, append-nil, true, false, ◌^◌, drop, min, Bool, Result, Ok, Err, ◌↔◌, bytes_eq, take_at, map, replicate, rules, MutBor, zero-add, option_map}
+pub use Rattle.std.proofs.Common.{◌≡◌, ◌⊎◌, inl, inr, ℕ, List, [], ◌∷◌, ◌++◌, length, flat_map, take, ◌≤◌, refl, ap, ◌∙◌, ◌+◌, ◌/◌, ◌%◌, ◌<◌, set, append_assoc, length-append, arith, sym, subst, Option, Some, None, zero, suc, ◌-◌, get_or, IsTrue, not, ◌==◌, if◌then◌else◌, codes, slice_get, append-nil, true, false, ◌^◌, drop, min, Bool, Result, Ok, Err, ◌↔◌, bytes_eq, take_at, map, replicate, rules, MutBor, zero-add, option_map, ◌&&◌, ◌*◌, ◌≢◌, eqb-true, nat_eq, nat_lt, ltb-true, lt-ltb}
 pub use Rattle.std.proofs.KnownBytes.{Appends-trans}
 pub use Rattle.std.proofs.Math.ListN.{length-set}
-pub use Rattle.std.proofs.lemmas.Bool.{and_parts, and_from, eq-eqb, false≢true}
+pub use Rattle.std.proofs.lemmas.Bool.{and_parts, and_from, eq-eqb, ne_eqb, le-ltb, false≢true}
 pub use Rattle.std.proofs.lemmas.Fmt.{decimal_digit, decimal_step}
 pub use Rattle.std.proofs.lemmas.Grind.{take-set_at, flat_map-append, common_steps}
 pub use Rattle.std.proofs.lemmas.List.{take_all, length-take-le, take-take, take-append-le, take_more, take-append-drop, length-drop, length-take}
-pub use Rattle.std.proofs.lemmas.List.Folds.{flat_map-map}
+pub use Rattle.std.proofs.lemmas.List.Folds.{flat_map-map, list_all_more}
 pub use Rattle.std.proofs.lemmas.List.FromFn.{length-enumerate_from, get_or-enumerate_from}
 pub use Rattle.std.proofs.lemmas.Option.{none-some}
 pub use Rattle.std.proofs.lemmas.Result.{err_from_is_err_and}
@@ -17,11 +17,11 @@ pub use Rattle.std.specs.List.{AllByRecursion, list_all, enumerate_from}
 pub use Rattle.std.specs.Option.{unwrap_or}
 pub use Rattle.std.specs.Prelude.{⊤, IfErr, IsErrOf}
 pub use Rattle.itoa.proofs.Decimal.{decimal_pair, pair}
-pub use Rattle.sas_core.proofs.Plain.{plain_without, plain-append, plain-name}
+pub use Rattle.sas_core.proofs.Plain.{plain_without, plain-append}
 pub use Rattle.sas_core.specs.Changes.{change_of, fact_of}
 pub use Rattle.sas_core.specs.FirstFault.{Check, first_fault, check}
 pub use Rattle.sas_core.specs.Grounded.{operator_at, effect_at, rule_at}
-pub use Rattle.sas_core.specs.Names.{IsName}
+pub use Rattle.sas_core.specs.Names.{is_plain}
 pub use Rattle.sas_core.specs.Plain.{IsPlain}
 pub use Rattle.sas_core.specs.PlanParts.{PlanParts}
 pub use Rattle.sas_core.specs.Variables.{value_name}
@@ -53,7 +53,12 @@ pub use Rattle.sas_answers.specs.Ending.{Output, StopsAt, Ends, EndsCounting, Is
 pub use Rattle.sas_answers.specs.Facts.{fact_line, initial_lines}
 pub use Rattle.sas_answers.specs.GroupWords.{verdict_lines, groups_status}
 pub use Rattle.sas_answers.specs.Laws.{IsReasonLine, LinesAreReasons, RuleLinesDiffer}
-pub use Rattle.sas_answers.specs.Line.{line_bytes, words_of, named_effect, named_rule, rule_numbers, is_rule_line, is_same_rule_line}
+pub use Rattle.sas_answers.specs.Shown.{hex_digit_of, in_digits, is_plain_byte, shown_byte, shown_whole, shown, shown_name}
+pub use Rattle.sas_answers.specs.declared.shown.PlainBytes.{PlainBytes}
+pub use Rattle.sas_core.specs.LineNumbers.{operator_line, rule_line}
+pub use Rattle.std.proofs.Math.Seq.{drop-append_seam}
+pub use Rattle.std.specs.Cmp.Lexicographic.{pointwise, same_text, other_text}
+pub use Rattle.sas_answers.specs.Line.{line_bytes, words_of, named_effect, named_rule, named_words, named_operator, rule_words, rule_numbers, is_rule_line, is_same_rule_line}
 pub use Rattle.sas_answers.specs.Pieces.{Piece, Puts, Breaks, CountsOn, PutsOrBreaks}
 pub use Rattle.sas_answers.specs.Placing.{Places, PlacesOrLeaves}
 pub use Rattle.sas_answers.specs.Sink.{empty_piece, Pushed, PushedBy, Pushes}
@@ -64,7 +69,7 @@ pub use Rattle.sas_answers.specs.declared.ending.Status.TheVariants.{Yes, No}
 pub use Rattle.sas_answers.specs.declared.ending.ToolFault.{ToolFault}
 pub use Rattle.sas_answers.specs.declared.ending.ToolFault.TheVariants.{Memory, Read, TooLong, Write}
 pub use Rattle.sas_answers.specs.declared.line.Line.{Line}
-pub use Rattle.sas_answers.specs.declared.line.Line.TheVariants.{Step, SimilarOperator, NamedOperator, GoalFact, Requires, Actual, SinceInitialState, SinceStep, RuleDerives, NoRuleDerives, RuleRequires, ConflictingEffect, Metric, Steps, CostLines, CouldBe, EffectSets, Rule, ConditionRequires, OldValue, DefaultValue, OnLayer, Derived, Holds, MayRemain}
+pub use Rattle.sas_answers.specs.declared.line.Line.TheVariants.{Step, SimilarOperator, NamedOperator, GoalFact, Requires, Actual, SinceInitialState, SinceStep, RuleDerives, NoRuleDerives, RuleRequires, ConflictingEffect, Metric, Steps, CostLines, CouldBe, EffectSets, Rule, ConditionRequires, OldValue, DefaultValue, OnLayer, Derived, Holds, MayRemain, NamelessSteps, FailingGoalFacts, UnitCostHint, CostLineHint}
 pub use Rattle.sas_answers.specs.declared.sink.Sink.{Sink}
 pub use Rattle.sas_answers.specs.declared.words.Word.{Word}
 pub use Rattle.sas_answers.specs.declared.words.Word.TheVariants.{Text}

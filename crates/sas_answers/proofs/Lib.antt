@@ -4,6 +4,7 @@ pub mod Putting
 pub mod Sent
 pub mod Texts
 mod WordLines
+pub mod ShownTexts
 pub mod PlainLines
 pub mod RuleLines
 pub mod InitialLines

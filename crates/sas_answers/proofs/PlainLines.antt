@@ -1,5 +1,6 @@
 -- Each line begins with two spaces, and holds neither LF nor CR.
-use Rattle.sas_answers.proofs.Imports.{ℕ, zero, suc, ◌-◌, List, [], ◌∷◌, ◌++◌, get_or, refl, arith, if◌then◌else◌, codes, slice_get, AllByRecursion, unwrap_or, Fact, Operator, Variable, Parts, operator_at, effect_at, rule_at, IsPlain, plain_without, plain-append, plain-name, IsName, value_name, VariableFits, OperatorFits, WellRanged, joined, Without-decimal, Line, Step, SimilarOperator, NamedOperator, GoalFact, Requires, Actual, SinceInitialState, SinceStep, RuleDerives, NoRuleDerives, RuleRequires, ConflictingEffect, Metric, Steps, CostLines, CouldBe, EffectSets, Rule, ConditionRequires, OldValue, DefaultValue, OnLayer, Derived, Holds, MayRemain, change_of, fact_of, words_of, named_effect, named_rule, line_bytes, IsReasonLine, LinesAreReasons}
+use Rattle.sas_answers.proofs.Imports.{ℕ, ◌-◌, List, [], ◌∷◌, ◌++◌, get_or, refl, arith, if◌then◌else◌, codes, unwrap_or, Fact, Parts, operator_at, effect_at, rule_at, IsPlain, plain_without, plain-append, value_name, joined, Without-decimal, Line, Step, SimilarOperator, NamedOperator, GoalFact, Requires, Actual, SinceInitialState, SinceStep, RuleDerives, NoRuleDerives, RuleRequires, ConflictingEffect, Metric, Steps, CostLines, CouldBe, EffectSets, Rule, ConditionRequires, OldValue, DefaultValue, OnLayer, Derived, Holds, MayRemain, NamelessSteps, FailingGoalFacts, UnitCostHint, CostLineHint, change_of, fact_of, words_of, named_words, named_operator, rule_words, operator_line, rule_line, shown_name, named_effect, named_rule, line_bytes, IsReasonLine, LinesAreReasons}
+use Rattle.sas_answers.proofs.ShownTexts.{name_plain}
 use Rattle.std.specs.Prelude.{decimal}
 use Rattle.sas_answers.specs.declared.line.Line.TheVariants.{Operator as TheOperator}
 
@@ -9,39 +10,24 @@ number n = plain_without (decimal n) (Without-decimal 10 n (omega arith)) (Witho
 pub number_then : (n : ℕ) (rest : List ℕ) → IsPlain rest → IsPlain (decimal n ++ rest)
 number_then n rest h = plain-append (decimal n) rest (number n) h
 
-plain_value : (values : List (List ℕ)) (value : ℕ) → AllByRecursion IsName values → IsPlain (unwrap_or (slice_get values value) [])
-plain_value [] value names = refl
-plain_value (first ∷ values) zero names = plain-name first names.0
-plain_value (first ∷ values) (suc value) names = plain_value values value names.1
-
-plain_values : (variables : List Variable) (var value : ℕ) → AllByRecursion VariableFits variables → IsPlain (unwrap_or (value_name variables var value) [])
-plain_values [] var value fit = refl
-plain_values (v ∷ variables) zero value fit = let first = fit.0 in plain_value v.values value first.values.each
-plain_values (v ∷ variables) (suc var) value fit = plain_values variables var value fit.1
-
--- what holds of each item of a list, and of the one that stands for none
-at_each : {X : Type 0} (P Q : X → Type 0) (items : List X) (place : ℕ) (none : X) → ((x : X) → Q x → P x) → P none → AllByRecursion Q items → P (get_or items place none)
-at_each P Q [] place none to is fit = is
-at_each P Q (x ∷ items) zero none to is fit = to x fit.0
-at_each P Q (x ∷ items) (suc place) none to is fit = at_each P Q items place none to is fit.1
-
 -- ---- lines
 
 pub two : (behind : List ℕ) → IsPlain behind → IsReasonLine (32 ∷ 32 ∷ behind)
 two behind plain = record { behind = behind; spaces = refl; plain = plain }
 
-module _ (p : Parts) (steps : List (List ℕ)) (ranged : WellRanged p) (names : AllByRecursion IsName steps) where
-  step : (n : ℕ) → IsPlain (decimal n ++ 32 ∷ get_or steps (n - 1) [])
-  step n = number_then n (32 ∷ get_or steps (n - 1) []) (at_each (λ (name : List ℕ). IsPlain name) (λ (name : List ℕ). IsName name) steps (n - 1) [] plain-name refl names)
+named : (n : ℕ) (name : List ℕ) → IsPlain (joined (named_words n name))
+named n name = number_then n (32 ∷ shown_name name) (name_plain name)
 
-  operator : (n : ℕ) → IsPlain (decimal n ++ 32 ∷ (operator_at p n).name)
-  operator n = number_then n (32 ∷ (operator_at p n).name)
-      (at_each (λ (o : Operator). IsPlain o.name) (OperatorFits p.variables) p.operators n (record { name = []; prevail = []; effects = []; cost = 0 })
-      (λ (o : Operator) (fit : OperatorFits p.variables o). plain-name o.name fit.name) refl ranged.operators.each)
+module _ (p : Parts) (steps : List (List ℕ)) where
+  operator : (o : ℕ) → IsPlain (joined (named_operator p o))
+  operator o =
+      let name = shown_name (operator_at p o).name in
+      let line = operator_line p o in
+      number_then o (32 ∷ joined (codes "line" ∷ decimal line ∷ name ∷ [])) (number_then line (32 ∷ name) (name_plain (operator_at p o).name))
 
   of_fact : (f : Fact) → IsPlain (joined (words_of p f))
   of_fact f = let name = unwrap_or (value_name p.variables f.var f.value) [] in
-      number_then f.var (32 ∷ decimal f.value ++ 32 ∷ name) (number_then f.value (32 ∷ name) (plain_values p.variables f.var f.value ranged.variables.each))
+      number_then f.var (32 ∷ decimal f.value ++ 32 ∷ shown_name name) (number_then f.value (32 ∷ shown_name name) (name_plain name))
 
   part : (n : ℕ) (verb : List ℕ) (f : Fact) → IsPlain verb → IsPlain (joined (decimal n ∷ verb ∷ words_of p f))
   part n verb f plain = number_then n (32 ∷ joined (verb ∷ words_of p f)) (plain-append verb (32 ∷ joined (words_of p f)) plain (of_fact f))
@@ -52,16 +38,25 @@ module _ (p : Parts) (steps : List (List ℕ)) (ranged : WellRanged p) (names : 
   rule : (r : ℕ) → IsPlain (joined (named_rule p r))
   rule r = part r (codes "derives") (fact_of (change_of (rule_at p r))) refl
 
+  placed_rule : (r : ℕ) → IsPlain (joined (rule_words p r))
+  placed_rule r =
+      let f = fact_of (change_of (rule_at p r)) in
+      let line = rule_line p r in
+      number_then r (32 ∷ joined (codes "line" ∷ decimal line ∷ codes "derives" ∷ words_of p f)) (number_then line (32 ∷ joined (codes "derives" ∷ words_of p f)) (of_fact f))
+
+  k_of_n : (k n : ℕ) (what : List ℕ) → IsPlain what → IsPlain (joined (decimal k ∷ codes "of" ∷ decimal n ∷ what ∷ []))
+  k_of_n k n what plain = number_then k (32 ∷ codes "of" ++ 32 ∷ decimal n ++ 32 ∷ what) (number_then n (32 ∷ what) plain)
+
   is_reason_line : (l : Line) → IsReasonLine (line_bytes p steps l)
-  is_reason_line (Step n) = two _ (step n)
+  is_reason_line (Step n) = two _ (named n (get_or steps (n - 1) []))
   is_reason_line (SimilarOperator n) = two _ (operator n)
-  is_reason_line (TheOperator n) = two _ (number n)
+  is_reason_line (TheOperator o) = two _ (number_then o (32 ∷ joined (codes "line" ∷ decimal (operator_line p o) ∷ [])) (number (operator_line p o)))
   is_reason_line (NamedOperator n) = two _ (operator n)
   is_reason_line (GoalFact n) = two _ (number n)
   is_reason_line (Requires f) = two _ (of_fact f)
   is_reason_line (Actual f) = two _ (of_fact f)
   is_reason_line SinceInitialState = two _ refl
-  is_reason_line (SinceStep n) = two _ (step n)
+  is_reason_line (SinceStep n) = two _ (named n (get_or steps (n - 1) []))
   is_reason_line (RuleDerives r) = two _ (rule r)
   is_reason_line NoRuleDerives = two _ refl
   is_reason_line (RuleRequires r f) = two _ (part r (codes "requires") f refl)
@@ -71,7 +66,7 @@ module _ (p : Parts) (steps : List (List ℕ)) (ranged : WellRanged p) (names : 
   is_reason_line (CostLines n) = two _ (number n)
   is_reason_line (CouldBe n o) = two _ (number_then n (codes " could also be operator " ++ decimal o) (number o))
   is_reason_line (EffectSets o e) = two _ (effect o e)
-  is_reason_line (Rule r) = two _ (rule r)
+  is_reason_line (Rule r) = two _ (placed_rule r)
   is_reason_line (ConditionRequires c f) = two _ (part c (codes "requires") f refl)
   is_reason_line (OldValue f) = two _ (of_fact f)
   is_reason_line (DefaultValue f) = two _ (of_fact f)
@@ -79,6 +74,10 @@ module _ (p : Parts) (steps : List (List ℕ)) (ranged : WellRanged p) (names : 
   is_reason_line (Derived f) = two _ (of_fact f)
   is_reason_line (Holds f) = two _ (of_fact f)
   is_reason_line (MayRemain f) = two _ (of_fact f)
+  is_reason_line (NamelessSteps k n) = two _ (k_of_n k n (codes "steps name no operator") refl)
+  is_reason_line (FailingGoalFacts k n) = two _ (k_of_n k n (codes "goal facts fail") refl)
+  is_reason_line UnitCostHint = two _ refl
+  is_reason_line CostLineHint = two _ refl
 
 pub lines_are_reasons : LinesAreReasons
-lines_are_reasons p steps l ranged names = is_reason_line p steps ranged names l
+lines_are_reasons p steps l = is_reason_line p steps l

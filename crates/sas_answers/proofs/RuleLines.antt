@@ -1,5 +1,5 @@
 -- The bytes of a line of a rule are those of no other line.
-use Rattle.sas_answers.proofs.Imports.{◌≡◌, ◌⊎◌, inl, inr, ℕ, ◌<◌, ◌^◌, true, false, List, [], ◌∷◌, ◌++◌, length, drop, get_or, refl, sym, ap, subst, ◌∙◌, arith, ◌==◌, not, bytes_eq, codes, AllByRecursion, list_all, and_parts, and_from, eq-eqb, false≢true, bytes_eq-Decides, unwrap_or, Fact, Parts, rule_at, value_name, parts, joined, NoSpace, words-first, same_first, NoSpace-decimal, own_decimal, line, Line, RuleDerives, RuleRequires, Metric, change_of, fact_of, words_of, line_bytes, rule_numbers, is_rule_line, is_same_rule_line, RuleLinesDiffer}
+use Rattle.sas_answers.proofs.Imports.{◌≡◌, ◌⊎◌, inl, inr, ℕ, ◌<◌, ◌^◌, true, false, List, [], ◌∷◌, ◌++◌, length, drop, get_or, refl, sym, ap, subst, ◌∙◌, arith, ◌==◌, not, bytes_eq, codes, AllByRecursion, list_all, and_parts, and_from, eq-eqb, false≢true, bytes_eq-Decides, unwrap_or, Fact, Parts, rule_at, value_name, parts, joined, NoSpace, words-first, same_first, NoSpace-decimal, own_decimal, line, Line, RuleDerives, RuleRequires, Metric, NamelessSteps, FailingGoalFacts, Bool, ◌&&◌, ne_eqb, change_of, fact_of, words_of, shown_name, line_bytes, rule_numbers, is_rule_line, is_same_rule_line, RuleLinesDiffer}
 use Rattle.std.specs.Prelude.{decimal}
 
 -- ---- lines of rules
@@ -9,24 +9,31 @@ pub data IsOfRule : Line → Type 0 where
   Deriving : (rule : ℕ) → IsOfRule (RuleDerives rule)
   Requiring : (rule : ℕ) (fact : Fact) → IsOfRule (RuleRequires rule fact)
 
--- it differs from all others in its second letter, which is the sixth byte
-abbrev sixth : List ℕ → ℕ
-sixth bytes = get_or bytes 5 0
+-- it differs from all others by its four spaces, and in its second letter
+abbrev seems_of_rule : List ℕ → Bool
+seems_of_rule bytes = get_or bytes 2 0 == 32 && (get_or bytes 5 0 == 117)
 
 record IsOther (l : Line) : Type 0 where
   no_rule : is_rule_line l ≡ false
-  apart : (p : Parts) (steps : List (List ℕ)) → (sixth (line_bytes p steps l) == 117) ≡ false
+  apart : (p : Parts) (steps : List (List ℕ)) → seems_of_rule (line_bytes p steps l) ≡ false
+
+-- a line of a number is no such line, as no digit is a space
+number_apart : (digits behind : List ℕ) → NoSpace digits → seems_of_rule (32 ∷ 32 ∷ (digits ++ 32 ∷ (codes "of " ++ behind))) ≡ false
+number_apart [] behind no_space = refl
+number_apart (d ∷ digits) behind no_space = ap (λ b. b && (get_or (digits ++ 32 ∷ (codes "of " ++ behind)) 2 0 == 117)) (ne_eqb d 32 no_space.0)
 
 tells : (l : Line) → IsOfRule l ⊎ IsOther l
 tells (RuleDerives r) = inl (Deriving r)
 tells (RuleRequires r f) = inl (Requiring r f)
+tells (NamelessSteps k n) = inr (record { no_rule = refl; apart = λ p steps. number_apart (decimal k) (decimal n ++ codes " steps name no operator") (NoSpace-decimal k) })
+tells (FailingGoalFacts k n) = inr (record { no_rule = refl; apart = λ p steps. number_apart (decimal k) (decimal n ++ codes " goal facts fail") (NoSpace-decimal k) })
 tells _ = inr (record { no_rule = refl; apart = λ p steps. refl })
 
 pub rule_cases : (l : Line) → is_rule_line l ≡ true → IsOfRule l
 rule_cases l e = elim (tells l) [ inl is ↦ is | inr other ↦ absurd (false≢true (sym other.no_rule ∙ e)) ]
 
-by_sixth : (p : Parts) (steps : List (List ℕ)) (l : Line) → sixth (line_bytes p steps l) ≡ 117 → IsOfRule l
-by_sixth p steps l e = elim (tells l) [ inl is ↦ is | inr other ↦ absurd (false≢true (sym (other.apart p steps) ∙ eq-eqb _ 117 e)) ]
+by_bytes : (p : Parts) (steps : List (List ℕ)) (l : Line) → seems_of_rule (line_bytes p steps l) ≡ true → IsOfRule l
+by_bytes p steps l e = elim (tells l) [ inl is ↦ is | inr other ↦ absurd (false≢true (sym (other.apart p steps) ∙ e)) ]
 
 -- the line is given by its numbers
 abbrev line_of : List ℕ → Line
@@ -69,7 +76,7 @@ first_word w v a b h i e = let l : w ∷ parts 32 a ≡ v ∷ parts 32 b = sym (
 
 module _ (p : Parts) where
   abbrev rest_of : Fact → List ℕ
-  rest_of f = decimal f.value ++ 32 ∷ unwrap_or (value_name p.variables f.var f.value) []
+  rest_of f = decimal f.value ++ 32 ∷ shown_name (unwrap_or (value_name p.variables f.var f.value) [])
 
   same_fact : (f f' : Fact) → f.var < 2 ^ 64 → f.value < 2 ^ 64 → parts 32 (joined (words_of p f)) ≡ parts 32 (joined (words_of p f')) → f ≡ f'
   same_fact f f' var value e =
@@ -99,12 +106,11 @@ module _ (p : Parts) where
       let rules : r ≡ r' = own_decimal r r' small.0 behind.0 in
       ap (λ n. RuleRequires n f) rules ∙ ap (λ (g : Fact). RuleRequires r' g) (same_fact f f' small.1.0 small.1.1.0 first.1)
 
--- the sixth byte of a line of a rule
-is_sixth : (p : Parts) (steps : List (List ℕ)) (l : Line) → IsOfRule l → sixth (line_bytes p steps l) ≡ 117
-is_sixth p steps l (Deriving r) = refl
-is_sixth p steps l (Requiring r f) = refl
+does_seem : (p : Parts) (steps : List (List ℕ)) (l : Line) → IsOfRule l → seems_of_rule (line_bytes p steps l) ≡ true
+does_seem p steps l (Deriving r) = refl
+does_seem p steps l (Requiring r f) = refl
 
 pub rule_lines_differ : RuleLinesDiffer
 rule_lines_differ p steps l other is small e =
     let its = rule_cases l is in
-    both_rules p steps l other its (by_sixth p steps other (sym (ap sixth e) ∙ is_sixth p steps l its)) small e
+    both_rules p steps l other its (by_bytes p steps other (sym (ap seems_of_rule e) ∙ does_seem p steps l its)) small e

@@ -3,8 +3,6 @@ use Rattle.std.specs.Prelude.{◌≡◌, ℕ, ◌^◌, ◌<◌, List, ◌∷◌,
 use Rattle.std.specs.List.{AllByRecursion}
 use Rattle.sas_core.specs.Plain.{IsPlain}
 use Rattle.sas_core.specs.declared.parts.Parts.{Parts}
-use Rattle.sas_core.specs.Names.{IsName}
-use Rattle.sas_core.specs.WellRanged.{WellRanged}
 use Rattle.sas_answers.specs.declared.line.Line.{Line}
 use Rattle.sas_answers.specs.Line.{line_bytes, rule_numbers, is_rule_line}
 
@@ -14,10 +12,10 @@ pub record IsReasonLine (bytes : List ℕ) : Type 0 where
   pub spaces : bytes ≡ 32 ∷ 32 ∷ behind
   pub plain : IsPlain bytes
 
--- each line is so if names are names
+-- each line is so
 abbrev pub LinesAreReasons : Type 0
-LinesAreReasons = (p : Parts) (steps : List (List ℕ)) (l : Line) → WellRanged p
-    → AllByRecursion IsName steps → IsReasonLine (line_bytes p steps l)
+LinesAreReasons = (p : Parts) (steps : List (List ℕ)) (l : Line)
+    → IsReasonLine (line_bytes p steps l)
 
 -- the bytes of a line of a rule are those of no other line, as its numbers are below 2^64
 abbrev pub RuleLinesDiffer : Type 0

@@ -2,6 +2,7 @@ pub mod Ending
 pub mod Pieces
 pub mod Placing
 pub mod Sink
+pub mod Shown
 pub mod Words
 pub mod Facts
 pub mod Laws

@@ -13,7 +13,7 @@ use Rattle.sas_answers.specs.declared.wording.Part.{Part}
 use Rattle.sas_answers.specs.declared.wording.Part.TheVariants as part
 use Rattle.sas_answers.specs.declared.wording.LineRest.{LineRest}
 use Rattle.sas_answers.specs.declared.wording.LineRest.TheVariants as rest
-use Rattle.sas_answers.specs.Line.{words_of}
+use Rattle.sas_answers.specs.Line.{words_of, named_words, operator_words, named_operator, rule_words}
 
 -- the names of the plan's steps, if there is a plan
 abbrev pub steps_of : Option (Bor PlanParts) → List (List ℕ)
@@ -37,9 +37,9 @@ abbrev pub could_be_words : ℕ → ℕ → List (List ℕ)
 could_be_words step operator =
     decimal step ∷ codes "could also be operator" ∷ decimal operator ∷ []
 
--- a number, and a name
-abbrev pub named_words : ℕ → List ℕ → List (List ℕ)
-named_words number name = decimal number ∷ name ∷ []
+-- how many of all are such
+abbrev pub k_of_n_words : ℕ → ℕ → List ℕ → List (List ℕ)
+k_of_n_words count all what = decimal count ∷ codes "of" ∷ decimal all ∷ what ∷ []
 
 -- the words that follow the first ones
 abbrev pub rest_words : Parts → List (List ℕ) → LineRest → List (List ℕ)
@@ -48,10 +48,13 @@ rest_words p steps (rest.Number number) = decimal number ∷ []
 rest_words p steps (rest.Sum sum) = decimal sum ∷ []
 rest_words p steps rest.Metric = decimal (if p.metric then 1 else 0) ∷ []
 rest_words p steps (rest.Step step) = named_words step (slice_index_or steps (step - 1) [])
-rest_words p steps (rest.Operator operator) = named_words operator (operator_at p operator).name
+rest_words p steps (rest.OperatorLine operator) = operator_words p operator
+rest_words p steps (rest.Operator operator) = named_operator p operator
+rest_words p steps (rest.Rule rule) = rule_words p rule
 rest_words p steps (rest.CouldBe step operator) = could_be_words step operator
 rest_words p steps (rest.OfFact fact) = words_of p fact
 rest_words p steps (rest.OfPart its) = part_words p its
+rest_words p steps (rest.KOfN count all what) = k_of_n_words count all what.now
 
 -- the line that begins so, and continues with these words
 abbrev pub line_with : LineStart → List (List ℕ) → List ℕ

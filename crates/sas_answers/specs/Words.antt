@@ -2,7 +2,8 @@
 use Rattle.std.specs.Prelude.{ℕ, List, [], ◌∷◌, ◌++◌, map, replicate, decimal}
 use Rattle.sas_lines.specs.Spelling.{joined}
 use Rattle.sas_answers.specs.declared.words.Word.{Word}
-use Rattle.sas_answers.specs.declared.words.Word.TheVariants.{Text, Number}
+use Rattle.sas_answers.specs.declared.words.Word.TheVariants.{Text, Number, Large, Name}
+use Rattle.sas_answers.specs.Shown.{shown_name}
 use Rattle.sas_answers.specs.declared.words.Indent.{Indent}
 use Rattle.sas_answers.specs.declared.words.Indent.TheVariants as indent
 use Rattle.sas_answers.specs.declared.words.Words.{Words}
@@ -17,6 +18,8 @@ line spaces words = replicate spaces 32 ++ joined words
 abbrev pub word_bytes : Word → List ℕ
 word_bytes (Text bytes) = bytes.now
 word_bytes (Number n) = decimal n
+word_bytes (Large n) = decimal n
+word_bytes (Name bytes) = shown_name bytes.now
 
 -- a space, and the word
 abbrev pub behind_space : Word → List ℕ

@@ -2,16 +2,17 @@
 use sas_core::Fact;
 
 /// A line of reasons, as numbers. Its bytes follow from the task and the plan. Steps count from 1, all else from 0. A line
-/// begins with two spaces, unless four are said.
+/// begins with two spaces, unless four are said. L is the line of the task file at which the operator or the rule begins, and a NAME is shown
+/// as `shown_name` defines it.
 #[derive(Clone, Copy)]
 pub enum Line {
     /// `step S NAME`.
     Step { step: usize },
-    /// `similar operator I NAME`.
+    /// `similar operator I line L NAME`.
     SimilarOperator { operator: u32 },
-    /// `operator I`.
+    /// `operator I line L`.
     Operator { operator: u32 },
-    /// `operator I NAME`.
+    /// `operator I line L NAME`.
     NamedOperator { operator: u32 },
     /// `goal fact I`.
     GoalFact { index: u32 },
@@ -41,7 +42,7 @@ pub enum Line {
     CouldBe { step: usize, operator: u32 },
     /// `effect E sets VAR VALUE NAME`, of this operator.
     EffectSets { operator: u32, effect: u32 },
-    /// `rule R derives VAR VALUE NAME`.
+    /// `rule R line L derives VAR VALUE NAME`.
     Rule { rule: u32 },
     /// `condition C requires VAR VALUE NAME`.
     ConditionRequires { condition: u32, fact: Fact },
@@ -57,4 +58,12 @@ pub enum Line {
     Holds { fact: Fact },
     /// `may remain VAR VALUE NAME`.
     MayRemain { fact: Fact },
+    /// `K of N steps name no operator`.
+    NamelessSteps { count: usize, steps: usize },
+    /// `K of N goal facts fail`.
+    FailingGoalFacts { count: usize, facts: usize },
+    /// `hint with metric 0 each step costs 1`.
+    UnitCostHint,
+    /// `hint with metric 1 each step costs its operator's cost line`.
+    CostLineHint,
 }

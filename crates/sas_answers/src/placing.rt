@@ -2,8 +2,10 @@
 // so only a lack of room can end it early. It is compiled into its callers, which know the first word and how many words there are.
 ghost use Rattle.std.specs.Prelude.{◌≡◌, ◌<◌, ◌≤◌, ◌+◌, ◌/◌, ◌%◌, [], ◌∷◌, ◌++◌, decimal, flat_map, length, replicate};
 ghost use Rattle.sas_answers.specs.Placing.{PlacesOrLeaves};
+ghost use Rattle.sas_answers.specs.Shown.{shown_name};
 ghost use Rattle.sas_answers.specs.Words.{behind_space, numbered_line, spaces_of, words_line};
 
+use crate::shown::is_shown_whole;
 use crate::words::{Indent, NumberedLine, Word, Words};
 use itoa::Buffer;
 
@@ -161,6 +163,32 @@ fn place_word(piece: &mut [u8], at: usize, word: Word<'_>) -> Option<usize>
     match word {
         Word::Text(bytes) => place_behind_space(piece, at, bytes),
         Word::Number(number) => place_number(piece, at, number),
+        Word::Large(number) => place_large(piece, at, number),
+        Word::Name(name) => place_name(piece, at, name),
+    }
+}
+
+/// `place_long` for a number that may be larger than a `u64`.
+fn place_large(piece: &mut [u8], at: usize, number: u128) -> Option<usize>
+    requires { at ≤ length piece.old }
+    ensures length { length piece.new ≡ length piece.old }
+    ensures places { PlacesOrLeaves piece.old piece.new at (32 ∷ decimal number) result }
+{
+    let mut buffer = Buffer::new();
+    let digits = buffer.format(number).as_bytes();
+    place_behind_space(piece, at, digits)
+}
+
+/// Writes a space and a name at `at`. Returns its end, or `None` if there is no room, or if the name isn't shown as it is.
+fn place_name(piece: &mut [u8], at: usize, name: &[u8]) -> Option<usize>
+    requires { at ≤ length piece.old }
+    ensures length { length piece.new ≡ length piece.old }
+    ensures places { PlacesOrLeaves piece.old piece.new at (32 ∷ shown_name name.now) result }
+{
+    if is_shown_whole(name) {
+        place_behind_space(piece, at, name)
+    } else {
+        None
     }
 }
 

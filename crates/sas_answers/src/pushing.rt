@@ -3,8 +3,8 @@ ghost use Rattle.std.specs.Prelude.{◌≡◌, false, [], ◌∷◌, ◌++◌, m
 ghost use Rattle.sas_answers.specs.Ending.{EndsCounting, Writes};
 ghost use Rattle.sas_answers.specs.Sink.{Pushes};
 ghost use Rattle.sas_answers.specs.Words.{word_bytes};
-ghost use Rattle.sas_answers.specs.Line.{words_of, line_bytes, reasons_text};
-ghost use Rattle.sas_answers.specs.Wording.{steps_of, verb_words, part_words, could_be_words, rest_words, line_with};
+ghost use Rattle.sas_answers.specs.Line.{words_of, line_bytes, named_operator, named_words, operator_words, reasons_text, rule_words};
+ghost use Rattle.sas_answers.specs.Wording.{steps_of, verb_words, part_words, could_be_words, k_of_n_words, rest_words, line_with};
 
 use crate::answer::Answer;
 use crate::ending::{Status, ToolFault};
@@ -14,7 +14,6 @@ use crate::pieces::Pieces;
 use crate::sink::Sink;
 use crate::wording::{LineRest, LineStart, Part, wording};
 use crate::words::{Word, Words};
-use itoa::Buffer;
 use sas_core::{Fact, Grounded};
 use sas_flat::FlatTask;
 use sas_lines::Watched;
@@ -82,15 +81,15 @@ fn push_rest<W: Write>(
         LineRest::Sum(sum) => push_sum(sink, start, sum),
         LineRest::Metric => push_with_number(sink, start, u64::from(task.metric())),
         LineRest::Step(step) => push_named(sink, start, step as u64, named.step_name(step)),
-        LineRest::Operator(operator) => {
-            let name = operator_name(task, operator);
-            push_named(sink, start, u64::from(operator), name)
-        }
+        LineRest::OperatorLine(operator) => push_operator_line(sink, task, start, operator),
+        LineRest::Operator(operator) => push_operator(sink, task, start, operator),
+        LineRest::Rule(rule) => push_rule(sink, task, start, rule),
         LineRest::CouldBe(step, operator) => {
             push_could_be(sink, start, step as u64, operator as u64)
         }
         LineRest::OfFact(fact) => push_fact(sink, task, start, fact),
         LineRest::OfPart(part) => push_part(sink, task, start, part),
+        LineRest::KOfN(count, all, what) => push_k_of_n(sink, start, count, all, what),
     }
 }
 
@@ -120,8 +119,7 @@ fn push_sum<W: Write>(sink: &mut Sink<'_, W>, start: LineStart, sum: u128)
     ensures { Pushes W.contents sink.old sink.new
         (line_with start (decimal sum ∷ []) ++ 10 ∷ []) }
 {
-    let mut buffer = Buffer::new();
-    push_words(sink, start, &[Word::Text(buffer.format(sum).as_bytes())])
+    push_words(sink, start, &[Word::Large(sum)])
 }
 
 /// Adds the line of a step and an operator that it could also be, and its end.
@@ -134,12 +132,72 @@ fn push_could_be<W: Write>(sink: &mut Sink<'_, W>, start: LineStart, step: u64, 
     push_words(sink, start, &words)
 }
 
+/// Adds the line of how many of all are such, and its end.
+fn push_k_of_n<W: Write>(
+    sink: &mut Sink<'_, W>,
+    start: LineStart,
+    count: u64,
+    all: u64,
+    what: &[u8],
+)
+    ensures { Pushes W.contents sink.old sink.new
+        (line_with start (k_of_n_words count all what.now) ++ 10 ∷ []) }
+{
+    let of = Word::Text(b"of");
+    let words = [Word::Number(count), of, Word::Number(all), Word::Text(what)];
+    push_words(sink, start, &words)
+}
+
 /// Adds the line of a number and a name, and its end.
 fn push_named<W: Write>(sink: &mut Sink<'_, W>, start: LineStart, number: u64, name: &[u8])
     ensures { Pushes W.contents sink.old sink.new
-        (line_with start (decimal number ∷ name.now ∷ []) ++ 10 ∷ []) }
+        (line_with start (named_words number name.now) ++ 10 ∷ []) }
 {
-    let words = [Word::Number(number), Word::Text(name)];
+    let words = [Word::Number(number), Word::Name(name)];
+    push_words(sink, start, &words)
+}
+
+/// Adds the line of an operator and the line at which it begins, and its end.
+fn push_operator_line<W: Write>(
+    sink: &mut Sink<'_, W>,
+    task: &FlatTask,
+    start: LineStart,
+    operator: u32,
+)
+    ensures { Pushes W.contents sink.old sink.new
+        (line_with start (operator_words task.now operator) ++ 10 ∷ []) }
+{
+    let begins = Word::Large(task.operator_line(operator));
+    let number = Word::Number(u64::from(operator));
+    push_words(sink, start, &[number, Word::Text(b"line"), begins])
+}
+
+/// Adds the line of an operator, the line at which it begins, and its name, and its end.
+fn push_operator<W: Write>(sink: &mut Sink<'_, W>, task: &FlatTask, start: LineStart, operator: u32)
+    ensures { Pushes W.contents sink.old sink.new
+        (line_with start (named_operator task.now operator) ++ 10 ∷ []) }
+{
+    let begins = Word::Large(task.operator_line(operator));
+    let number = Word::Number(u64::from(operator));
+    let name = Word::Name(operator_name(task, operator));
+    push_words(sink, start, &[number, Word::Text(b"line"), begins, name])
+}
+
+/// Adds the line of a rule, the line at which it begins, and what it derives, and its end.
+fn push_rule<W: Write>(sink: &mut Sink<'_, W>, task: &FlatTask, start: LineStart, rule: u32)
+    ensures { Pushes W.contents sink.old sink.new
+        (line_with start (rule_words task.now rule) ++ 10 ∷ []) }
+{
+    let fact = given_by(task, rule);
+    let words = [
+        Word::Number(u64::from(rule)),
+        Word::Text(b"line"),
+        Word::Large(task.rule_line(rule)),
+        Word::Text(b"derives"),
+        Word::Number(u64::from(fact.var)),
+        Word::Number(u64::from(fact.value)),
+        Word::Name(value_name(task, fact)),
+    ];
     push_words(sink, start, &words)
 }
 
@@ -151,7 +209,7 @@ fn push_fact<W: Write>(sink: &mut Sink<'_, W>, task: &FlatTask, start: LineStart
     let var = Word::Number(u64::from(fact.var));
     let value = Word::Number(u64::from(fact.value));
     let name = value_name(task, fact);
-    push_words(sink, start, &[var, value, Word::Text(name)])
+    push_words(sink, start, &[var, value, Word::Name(name)])
 }
 
 /// Adds the line of what a part of the task does with a fact, and its end.
@@ -162,7 +220,7 @@ fn push_part<W: Write>(sink: &mut Sink<'_, W>, task: &FlatTask, start: LineStart
     let (number, verb, fact) = deed(task, part);
     let var = Word::Number(u64::from(fact.var));
     let value = Word::Number(u64::from(fact.value));
-    let name = Word::Text(value_name(task, fact));
+    let name = Word::Name(value_name(task, fact));
     let words = [Word::Number(number), Word::Text(verb), var, value, name];
     push_words(sink, start, &words)
 }

@@ -3,10 +3,12 @@ ghost use Rattle.std.specs.Prelude.{◌≡◌, ℕ, List, [], ◌∷◌, ◌++�
 ghost use Rattle.std.specs.Io.KnownBytes.{Appends};
 ghost use Rattle.sas_answers.specs.Ending.{EndsCounting, IsWrite};
 ghost use Rattle.sas_answers.specs.Sink.{empty_piece, Pushed, Pushes};
+ghost use Rattle.sas_answers.specs.Shown.{shown_name};
 ghost use Rattle.sas_answers.specs.Words.{behind_space, numbered_line, word_bytes, words_line};
 
 use crate::ending::{Status, ToolFault};
 use crate::pieces::Pieces;
+use crate::shown::{ROOM, show_name};
 use crate::words::{Indent, NumberedLine, Word, Words};
 use itoa::Buffer;
 use sas_lines::Watched;
@@ -93,7 +95,8 @@ impl<'w, W: Write> Sink<'w, W> {
         });
     }
 
-    /// Adds the line and its end, one word after another. This is the slow way, for a line at the end of a piece.
+    /// Adds the line and its end, one word after another. This is the slow way, for a line at the end of a piece, or with a name that
+    /// isn't shown as it is.
     fn push_words(&mut self, line: Words<'_>)
         ensures { Pushes W.contents self.old self.new (words_line line.entry ++ 10 ∷ []) }
     {
@@ -123,7 +126,21 @@ impl<'w, W: Write> Sink<'w, W> {
                 let mut buffer = Buffer::new();
                 self.push(buffer.format(number).as_bytes());
             }
+            Word::Large(number) => {
+                let mut buffer = Buffer::new();
+                self.push(buffer.format(number).as_bytes());
+            }
+            Word::Name(name) => self.push_name(name),
         }
+    }
+
+    /// Adds the name as it is shown.
+    fn push_name(&mut self, name: &[u8])
+        ensures { Pushes W.contents self.old self.new (shown_name name.now) }
+    {
+        let mut room = [0; ROOM];
+        let end = show_name(&mut room, name);
+        self.push(&room[..end]);
     }
 
     /// Writes what is held back, and returns the answer's status, or that a write failed.

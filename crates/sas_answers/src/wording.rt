@@ -28,14 +28,20 @@ pub enum LineRest {
     Metric,
     /// The number of a step, and its name.
     Step(usize),
-    /// The number of an operator, and its name.
+    /// The number of an operator, and the line at which it begins.
+    OperatorLine(u32),
+    /// This, and the operator's name.
     Operator(u32),
+    /// The number of a rule, the line at which it begins, and `derives VAR VALUE NAME`.
+    Rule(u32),
     /// The number of a step, and that of an operator that it could also be.
     CouldBe(usize, u32),
     /// `VAR VALUE NAME`.
     OfFact(Fact),
     /// `N VERB VAR VALUE NAME`.
     OfPart(Part),
+    /// `K of N WHAT`.
+    KOfN(u64, u64, &'static [u8]),
 }
 
 /// What a part of a task does with a fact.
@@ -61,11 +67,7 @@ pub fn wording(line: Line) -> (Indent, &'static [u8], LineRest)
             b"similar operator",
             LineRest::Operator(operator),
         ),
-        Line::Operator { operator } => (
-            Indent::Two,
-            b"operator",
-            LineRest::Number(operator as u64),
-        ),
+        Line::Operator { operator } => (Indent::Two, b"operator", LineRest::OperatorLine(operator)),
         Line::NamedOperator { operator } => (
             Indent::Two,
             b"operator",
@@ -105,7 +107,7 @@ pub fn wording(line: Line) -> (Indent, &'static [u8], LineRest)
             b"effect",
             LineRest::OfPart(Part::Sets(operator, effect)),
         ),
-        Line::Rule { rule } => (Indent::Two, b"rule", LineRest::OfPart(Part::Derives(rule))),
+        Line::Rule { rule } => (Indent::Two, b"rule", LineRest::Rule(rule)),
         Line::ConditionRequires { condition, fact } => (
             Indent::Two,
             b"condition",
@@ -117,5 +119,26 @@ pub fn wording(line: Line) -> (Indent, &'static [u8], LineRest)
         Line::Derived { fact } => (Indent::Two, b"derived", LineRest::OfFact(fact)),
         Line::Holds { fact } => (Indent::Two, b"holds", LineRest::OfFact(fact)),
         Line::MayRemain { fact } => (Indent::Two, b"may remain", LineRest::OfFact(fact)),
+        // The first words are one space. The number stands after the next one.
+        Line::NamelessSteps { count, steps } => (
+            Indent::None,
+            b" ",
+            LineRest::KOfN(count as u64, steps as u64, b"steps name no operator"),
+        ),
+        Line::FailingGoalFacts { count, facts } => (
+            Indent::None,
+            b" ",
+            LineRest::KOfN(count as u64, facts as u64, b"goal facts fail"),
+        ),
+        Line::UnitCostHint => (
+            Indent::Two,
+            b"hint with metric 0 each step costs 1",
+            LineRest::Nothing,
+        ),
+        Line::CostLineHint => (
+            Indent::Two,
+            b"hint with metric 1 each step costs its operator's cost line",
+            LineRest::Nothing,
+        ),
     }
 }

@@ -9,6 +9,10 @@ pub enum Word<'w> {
     Text(&'w [u8]),
     /// This number, in decimal.
     Number(u64),
+    /// This number, which may be larger than a `u64`, in decimal.
+    Large(u128),
+    /// This name, as it is shown.
+    Name(&'w [u8]),
 }
 
 /// How many spaces a line begins with.

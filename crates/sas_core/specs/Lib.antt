@@ -9,5 +9,6 @@ pub mod FirstFault
 pub mod Checks
 pub mod Tasks
 pub mod Grounded
+pub mod LineNumbers
 pub mod Changes
 pub mod Stepwise

@@ -1,5 +1,6 @@
 pub mod Tables
 pub mod Blocks
+mod Sums
 pub mod ByKey
 pub mod Kept
 mod Placing

@@ -1,6 +1,8 @@
 // Effects or rules in a few blocks of memory.
-ghost use Rattle.std.specs.Prelude.{◌≡◌, ◌<◌, ◌≤◌, [], ◌∷◌, ◌++◌, length, take, slice_range, IfSome, OnOk, OnErr};
+ghost use Rattle.std.specs.Prelude.{◌≡◌, ◌<◌, ◌≤◌, ◌+◌, ◌*◌, [], ◌∷◌, ◌++◌, length, take, slice_range, IfSome, OnOk, OnErr};
+ghost use Rattle.std.specs.List.{sum_by};
 ghost use Rattle.sas_core.specs.Changes.{change_of, plain_effects};
+ghost use Rattle.sas_core.specs.LineNumbers.{rule_height};
 ghost use Rattle.sas_flat.specs.Effects.{effect_with, effects_of, effect_in_list};
 
 use crate::lists::Lists;
@@ -87,6 +89,16 @@ impl Effects {
         } else {
             &[]
         }
+    }
+
+    /// Returns the number of conditions of the first `count` of these rules.
+    pub(crate) fn conditions_before(&self, count: usize) -> usize
+        requires { count ≤ length self.now }
+        ensures { 4 * count + result ≡ sum_by rule_height (take count self.now) }
+    {
+        let lists = self.conditions.len();
+        let with_conditions = if count < lists { count } else { lists };
+        self.conditions.items_before(with_conditions)
     }
 
     /// Returns the changes of the effects from `start` up to but not including `end`, if neither these effects nor later ones have

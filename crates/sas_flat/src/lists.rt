@@ -1,6 +1,6 @@
 // Lists that are stored one after another in one block of memory.
 ghost use Rattle.std.specs.Prelude.{◌≡◌, ◌<◌, ◌≤◌, ◌-◌, [], ◌∷◌, ◌++◌, length, take, replicate, OnOk, OnErr, slice_range};
-ghost use Rattle.std.specs.List.{slice_index_or};
+ghost use Rattle.std.specs.List.{slice_index_or, sum_by};
 ghost use Rattle.sas_flat.specs.Growing.{Hold};
 ghost use Rattle.sas_flat.specs.Lists.{items_after, lists_in, AreEnds, AreOpen, ListColumnsAlign};
 
@@ -138,6 +138,14 @@ impl<T> Lists<T> {
             start,
             self.columns.ends.end(index),
         )
+    }
+
+    /// Returns the number of items in the first `count` lists.
+    pub(crate) fn items_before(&self, count: usize) -> usize
+        requires { count ≤ length self.now }
+        ensures { result ≡ sum_by (λ list. length list) (take count self.now) }
+    {
+        self.columns.ends.start(count)
     }
 }
 

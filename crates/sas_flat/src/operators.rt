@@ -1,6 +1,8 @@
 // Operators in a few blocks of memory.
-ghost use Rattle.std.specs.Prelude.{◌≡◌, ◌<◌, ◌≤◌, [], ◌∷◌, ◌++◌, length, IfSome, OnOk, OnErr};
+ghost use Rattle.std.specs.Prelude.{◌≡◌, ◌<◌, ◌≤◌, ◌+◌, ◌*◌, [], ◌∷◌, ◌++◌, length, take, IfSome, OnOk, OnErr};
+ghost use Rattle.std.specs.List.{sum_by};
 ghost use Rattle.sas_core.specs.Changes.{change_of, plain_effects};
+ghost use Rattle.sas_core.specs.LineNumbers.{operator_height};
 ghost use Rattle.sas_flat.specs.Effects.{effect_in_list};
 ghost use Rattle.sas_flat.specs.Growing.{Hold};
 ghost use Rattle.sas_flat.specs.Lists.{start_of, AreEnds, AreOpen};
@@ -174,6 +176,16 @@ impl Operators {
         ensures { result ≡ length self.now }
     {
         self.columns.heads.len()
+    }
+
+    /// Returns the numbers of prevail conditions and of effects of the first `count` operators.
+    pub(crate) fn before(&self, count: usize) -> (usize, usize)
+        requires { count ≤ length self.now }
+        ensures { 6 * count + result.0 + result.1
+            ≡ sum_by operator_height (take count self.now) }
+    {
+        let end = self.columns.before(count);
+        (end.prevail, end.effects)
     }
 
     /// Returns the name of the operator.

@@ -1,5 +1,6 @@
 // Flat tasks.
-ghost use Rattle.std.specs.Prelude.{◌≡◌, option_map};
+ghost use Rattle.std.specs.Prelude.{◌≡◌, ◌≤◌, ◌<◌, ◌+◌, ◌^◌, length, option_map};
+ghost use Rattle.sas_core.specs.LineNumbers.{operator_line, rule_line};
 ghost use Rattle.sas_core.specs.Variables as spec;
 ghost use Rattle.sas_core.specs.WellRanged.{WellRanged};
 ghost use Rattle.sas_flat.specs.FlatTasks.{parts_in};
@@ -56,6 +57,52 @@ impl FlatTask {
     {
         let variables = &self.columns.variables;
         variables.value_name(fact.var as usize, fact.value as usize)
+    }
+
+    /// Returns the line of a task file at which the operator begins, counted from 1. Past the last operator, it is the line
+    /// behind all operators. Takes constant time, as `rule_line` does.
+    pub fn operator_line(&self, operator: u32) -> u128
+        ensures { result ≡ operator_line self.now operator }
+    {
+        let operators = self.columns.operators.len();
+        let operator = operator as usize;
+        let before = if operator < operators {
+            operator
+        } else {
+            operators
+        };
+        self.lines_before_operator(before) + 1
+    }
+
+    /// Returns the line of a task file at which the rule begins, counted from 1. Past the last rule, it is the line behind all
+    /// rules.
+    pub fn rule_line(&self, rule: u32) -> u128
+        ensures { result ≡ rule_line self.now rule }
+    {
+        let rules = self.columns.rules.len();
+        let rule = rule as usize;
+        let before = if rule < rules { rule } else { rules };
+        let conditions = self.columns.rules.conditions_before(before) as u128;
+        let operators = self.columns.operators.len();
+        self.lines_before_operator(operators) + 1 + 4 * before as u128 + conditions + 1
+    }
+
+    /// Returns how many lines of a task file stand before the operator, or behind the last one.
+    fn lines_before_operator(&self, operator: usize) -> u128
+        requires { operator ≤ length self.now.operators }
+        ensures lines { result + 1 ≡ operator_line self.now operator }
+        ensures small { result < 2 ^ 80 }
+    {
+        let columns = &self.columns;
+        let variables = columns.variables.len() as u128;
+        let values = columns.variables.values() as u128;
+        let groups = columns.groups.len();
+        let facts = columns.groups.items_before(groups) as u128;
+        let state = columns.init.as_slice().len() as u128;
+        let goal = columns.goal.as_slice().len() as u128;
+        let (prevail, effects) = columns.operators.before(operator);
+        let front = 14 + 5 * variables + values + 3 * groups as u128 + facts + state + goal;
+        front + 6 * operator as u128 + prevail as u128 + effects as u128
     }
 }
 

@@ -1,6 +1,8 @@
 // Variables in a few blocks of memory.
-ghost use Rattle.std.specs.Prelude.{◌≡◌, ◌<◌, [], ◌∷◌, ◌++◌, length, slice_get, option_map, OnOk, OnErr};
+ghost use Rattle.std.specs.Prelude.{◌≡◌, ◌<◌, ◌+◌, ◌*◌, [], ◌∷◌, ◌++◌, length, slice_get, option_map, OnOk, OnErr};
 ghost use Rattle.sas_core.specs.declared.parts.Variable.{Variable};
+ghost use Rattle.std.specs.List.{sum_by};
+ghost use Rattle.sas_core.specs.LineNumbers.{variable_height};
 ghost use Rattle.sas_core.specs.Variables as spec;
 ghost use Rattle.sas_flat.specs.Growing.{Hold};
 ghost use Rattle.sas_flat.specs.Lists.{items_after, AreEnds, AreOpen};
@@ -138,6 +140,13 @@ impl Variables {
         ensures { result ≡ spec.range_of self.now var }
     {
         self.columns.ends.end(var) - self.columns.ends.start(var)
+    }
+
+    /// Returns the number of values of all variables.
+    pub(crate) fn values(&self) -> usize
+        ensures { 5 * length self.now + result ≡ sum_by variable_height self.now }
+    {
+        self.columns.values.len()
     }
 
     /// Returns the name of the variable at this index (from 0), or `None` if there are fewer variables.
