@@ -8,4 +8,5 @@ pub mod PlanStanding
 pub mod PlanKeeping
 pub mod PlanLaws
 pub mod PlanAhead
+pub mod PlanEnds
 mod Imports

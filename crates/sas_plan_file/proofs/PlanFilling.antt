@@ -2,7 +2,7 @@
 use Rattle.sas_plan_file.proofs.Imports.{◌≡◌, ℕ, List, [], ◌∷◌, ◌++◌, map, refl, sym, ap, ◌∙◌, arith, ◌⊎◌, inl, inr, AllByRecursion, append-nil, CostKind, IsName, PlanParts, WellNamed, lines_of, step, cost, plan_line_bytes, plan_texts, PlanIsFilled, filling_cost_line}
 use Rattle.sas_core.specs.declared.plan.CostKind.TheVariants as costs
 
-abbrev step_lines : List (List ℕ) → List (List ℕ)
+abbrev pub step_lines : List (List ℕ) → List (List ℕ)
 step_lines steps = map plan_line_bytes (map step steps)
 
 -- first lines of some steps and a last line are all of them, or the lines of the first steps
@@ -11,11 +11,11 @@ record Front (steps begun : List (List ℕ)) : Type 0 where
   good : AllByRecursion IsName names
   are : step_lines names ≡ begun
 
-steps_line : (steps : List (List ℕ)) (n : ℕ) (k : CostKind) → map plan_line_bytes (map step steps ++ cost n k ∷ []) ≡ step_lines steps ++ plan_line_bytes (cost n k) ∷ []
+pub steps_line : (steps : List (List ℕ)) (n : ℕ) (k : CostKind) → map plan_line_bytes (map step steps ++ cost n k ∷ []) ≡ step_lines steps ++ plan_line_bytes (cost n k) ∷ []
 steps_line [] n k = refl
 steps_line (b ∷ steps) n k = ap (λ (l : List (List ℕ)). plan_line_bytes (step b) ∷ l) (steps_line steps n k)
 
-none : (a b : List (List ℕ)) → a ++ b ≡ [] → b ≡ []
+pub none : (a b : List (List ℕ)) → a ++ b ≡ [] → b ≡ []
 none [] b e = e
 none (x ∷ a) b e = absurd cc
 

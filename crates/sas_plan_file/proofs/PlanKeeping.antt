@@ -1,5 +1,5 @@
 -- The text of a plan, stored line by line.
-use Rattle.sas_plan_file.proofs.Imports.{◌≡◌, ℕ, true, List, [], ◌∷◌, ◌++◌, refl, sym, ap, ◌∙◌, IsTrue, ◌↔◌, flat_map-append, append-nil, CostKind, PlanParts, text, lines, Kind, lines_of, Reads, IsAllowed, IsRejected, Leads, Rejects, Follows, PlanText, PlanLine, step, cost, plan_line_bytes, plan_texts, plan_format, PlanLineFits, PlanState, going, closed, plan_node, plan_next, plan_start, plan_line_ok, HasCostLine, KeepsLines}
+use Rattle.sas_plan_file.proofs.Imports.{◌≡◌, ℕ, true, List, [], ◌∷◌, ◌++◌, refl, sym, ap, ◌∙◌, IsTrue, ◌↔◌, flat_map-append, append-nil, CostKind, PlanParts, text, lines, Kind, lines_of, Reads, IsAllowed, IsRejected, Leads, Rejects, Follows, PlanText, PlanLine, step, cost, plan_line_bytes, plan_texts, plan_format, PlanLineFits, PlanState, going, closed, plan_node, plan_next, plan_start, plan_line_ok, HasCostLine, KeepsLines, text_behavior}
 use Rattle.sas_plan_file.proofs.PlanStanding.{closed_value, closed_is}
 use Rattle.sas_plan_file.proofs.PlanSteps.{led_on}
 
@@ -29,17 +29,11 @@ keeps_cost ls m n amount kind line h going_on t e same_text now_closed = line_ke
 
 -- ---- it follows the grammar
 
-abbrev pub text_ended : PlanText → Type 0
-text_ended m = IsTrue m.closed
-
-abbrev pub text_rejects : PlanText → List ℕ → Kind → Type 0
-text_rejects m line k = IsRejected plan_format PlanLineFits tt plan_line_ok line k
-
 refused : (p : PlanState) (line : List ℕ) (k : Kind) → (HasCostLine p → ⊥) → IsRejected plan_format PlanLineFits tt plan_line_ok line k → Rejects plan_format PlanLineFits (plan_node p) line k
 refused (going steps) line k going_on j = j
 refused (closed p) line k going_on j = absurd (going_on tt)
 
-pub text_follows : Follows plan_format PlanLineFits plan_node plan_start KeepsLines text_ended text_rejects
+pub text_follows : Follows plan_format PlanLineFits plan_node plan_start text_behavior
 text_follows ls m h = record {
   state = h.state;
   leads = h.leads;

@@ -3,7 +3,7 @@ use Rattle.std.specs.Prelude.{◌≡◌, ℕ, Bool, true, List, [], ◌∷◌, �
 use Rattle.sas_core.specs.declared.plan.CostKind.{CostKind}
 use Rattle.sas_core.specs.Names.{is_name}
 use Rattle.sas_core.specs.PlanParts.{PlanParts}
-use Rattle.sas_reader.specs.declared.fault.Kind.{Kind}
+use Rattle.sas_reader.specs.Machine.{Behavior}
 use Rattle.sas_reader.specs.System.{Node, ended, before, Leads, Rejects}
 use Rattle.sas_plan_file.specs.PlanFormat.{PlanLine, PlanLineFits, step, cost, plan_format}
 
@@ -28,14 +28,6 @@ plan_node (closed p) = ended p
 abbrev pub plan_start : PlanState
 plan_start = going []
 
--- the lines lead from the start to this state
-abbrev pub plan_led : List (List ℕ) → PlanState → Type 0
-plan_led lines p = Leads plan_format PlanLineFits plan_node plan_start lines p
-
--- the line may not follow, and this is the kind of its fault
-abbrev pub plan_rejects : PlanState → List ℕ → Kind → Type 0
-plan_rejects p line k = Rejects plan_format PlanLineFits (plan_node p) line k
-
 -- the state with these steps, and the cost if it was read
 abbrev pub plan_state : List (List ℕ) → Option (ℕ × CostKind) → PlanState
 plan_state steps None = going steps
@@ -46,9 +38,14 @@ abbrev pub HasCostLine : PlanState → Type 0
 HasCostLine (going steps) = ⊥
 HasCostLine (closed p) = Unit {0}
 
--- a refused line doesn't change the state
-abbrev pub plan_stays : PlanState → List ℕ → Kind → PlanState → Type 0
-plan_stays old line k new = new ≡ old
+-- the lines lead from the start to the state, and a refused line doesn't change it
+abbrev pub plan_behavior : Behavior PlanState
+plan_behavior = record {
+  led_by = λ lines p. Leads plan_format PlanLineFits plan_node plan_start lines p;
+  ended = HasCostLine;
+  rejects = λ p line k. Rejects plan_format PlanLineFits (plan_node p) line k;
+  stopped = λ old line k new. new ≡ old;
+}
 
 -- the name is added as a step
 abbrev pub StepsOn : PlanState → List ℕ → PlanState → Type 0

@@ -3,9 +3,9 @@ use Rattle.std.specs.Prelude.{◌≡◌, ℕ, List, IsTrue, ◌↔◌}
 use Rattle.sas_lines.specs.Lines.{text}
 use Rattle.sas_plan_file.specs.declared.plan_text.PlanText.{PlanText}
 use Rattle.sas_plan_file.specs.PlanFormat.{plan_format, PlanLineFits}
-use Rattle.sas_plan_file.specs.PlanMachine.{PlanState, plan_node, plan_start, HasCostLine}
-use Rattle.sas_reader.specs.System.{Leads}
-use Rattle.sas_reader.specs.declared.fault.Kind.{Kind}
+use Rattle.sas_plan_file.specs.PlanMachine.{PlanState, plan_line_ok, plan_node, plan_start, HasCostLine}
+use Rattle.sas_reader.specs.Machine.{Behavior}
+use Rattle.sas_reader.specs.System.{IsRejected, Leads}
 
 -- a plan may begin with the lines; they are stored as a text, and `closed` is whether the cost is
 -- among them
@@ -16,5 +16,10 @@ pub record KeepsLines (lines : List (List ℕ)) (m : PlanText) : Type 0 where
   pub closed : IsTrue m.closed ↔ HasCostLine state
 
 -- a refused line doesn't change the text
-abbrev pub text_stays : PlanText → List ℕ → Kind → PlanText → Type 0
-text_stays old line k new = new ≡ old
+abbrev pub text_behavior : Behavior PlanText
+text_behavior = record {
+  led_by = KeepsLines;
+  ended = λ m. IsTrue m.closed;
+  rejects = λ m line k. IsRejected plan_format PlanLineFits tt plan_line_ok line k;
+  stopped = λ old line k new. new ≡ old;
+}

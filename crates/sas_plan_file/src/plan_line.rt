@@ -27,7 +27,7 @@ fn behind<'a>(line: &'a [u8], front: &[u8]) -> Option<&'a [u8]>
 
 /// Returns the line without `back` at its end, or `None` if the line doesn't end with `back`.
 #[tactic(auto, using(crate::proofs::Fronts::fronts))]
-fn before<'a>(line: &'a [u8], back: &[u8]) -> Option<&'a [u8]>
+pub(crate) fn before<'a>(line: &'a [u8], back: &[u8]) -> Option<&'a [u8]>
     ensures { MatchOption result
         ((rest : List ℕ) → line.now ≡ rest ++ back.now → ⊥)
         (λ rest. line.now ≡ rest.now ++ back.now) }

@@ -3,7 +3,7 @@ ghost use Rattle.std.specs.Prelude.{◌≤◌, ℕ, List};
 ghost use Rattle.sas_reader.specs.Limit.{most_bytes};
 ghost use Rattle.sas_reader.specs.Reader as reading;
 ghost use Rattle.sas_reader.specs.Reading.{Starts, Feeds, Finishes};
-ghost use Rattle.sas_plan_file.specs.PlanMachine.{HasCostLine, plan_led, plan_rejects, plan_stays};
+ghost use Rattle.sas_plan_file.specs.PlanMachine.{plan_behavior};
 
 use crate::plan_machine::PlanMachine;
 use sas_core::Plan;
@@ -16,7 +16,7 @@ pub struct PlanReader {
     reader: Reader<PlanMachine>,
     // It represents some bytes: those that it has read.
     ghost some: { ∥ ((bytes : List ℕ)
-        × reading.Stands plan_led HasCostLine plan_rejects plan_stays reader bytes) ∥₁ },
+        × reading.Stands plan_behavior reader bytes) ∥₁ },
 }
 
 impl PlanReader {

@@ -1,13 +1,59 @@
 // Why a plan is refused.
-ghost use Rattle.std.specs.Prelude.{◌≡◌};
+ghost use Rattle.std.specs.Prelude.{◌≡◌, ◌↔◌, List, ℕ, IsTrue};
+ghost use Rattle.sas_lines.specs.Lines.{without_return};
+ghost use Rattle.sas_reader.specs.Found.{IsFoundOf};
+ghost use Rattle.sas_plan_file.specs.PlanRefusal.{IsCostLine};
 
-use sas_reader::{Excerpt, Fault, Refusal};
+use crate::plan_line::{PlanLine, before, plan_line};
+use sas_reader::{Excerpt, Fault, Kind, Refusal};
 
-/// Why a plan is refused: its first fault, and the text at the fault.
+/// Why a plan is refused: its first fault, the text at the fault, and whether only the last line end is missing.
 #[derive(Clone, Copy, Debug, PartialEq, Eq)]
 pub struct PlanRefusal {
     pub fault: Fault,
     pub found: Excerpt,
+    /// The fault is `End`, and with one line end (LF) more the bytes are a plan.
+    pub lacks_line_end: bool,
+}
+
+/// Returns the line without a CR at its end.
+#[tactic(auto, using(crate::proofs::PlanEnds::without_returns))]
+fn without_return(line: &[u8]) -> &[u8]
+    ensures { result.now ≡ without_return line.now }
+{
+    match before(line, b"\r") {
+        Some(front) => front,
+        None => line,
+    }
+}
+
+/// Returns whether the line is the cost.
+fn is_cost_line(line: &[u8]) -> bool
+    ensures { IsTrue result ↔ IsCostLine line.now }
+{
+    match plan_line(line) {
+        Ok(PlanLine::Cost(..)) => true,
+        _ => false,
+    }
+}
+
+/// Returns whether the text is the cost, with or without a CR at its end. A text of more bytes than are kept isn't.
+fn is_cost(found: &Excerpt) -> bool
+    ensures { (text : List ℕ) → IsFoundOf text found.now
+        → IsTrue result ↔ IsCostLine (without_return text) }
+{
+    !found.has_more() && is_cost_line(without_return(found.bytes()))
+}
+
+/// Returns whether only a line end is missing after the text at a fault of this kind, if the cost is expected there.
+fn lacks_line_end(kind: Kind, found: &Excerpt) -> bool
+    ensures { (text : List ℕ) → IsFoundOf text found.now
+        → IsTrue result ↔ (kind ≡ Kind.End) × IsCostLine (without_return text) }
+{
+    match kind {
+        Kind::End => is_cost(found),
+        _ => false,
+    }
 }
 
 impl PlanRefusal {
@@ -15,8 +61,14 @@ impl PlanRefusal {
     pub(crate) fn of<M: Drop>(refused: Refusal<M>) -> PlanRefusal
         ensures fault { result.fault ≡ refused.fault }
         ensures found { result.found ≡ refused.found }
+        ensures lacks { (text : List ℕ) → IsFoundOf text refused.found → IsTrue result.lacks_line_end
+            ↔ (refused.fault.kind ≡ Kind.End) × IsCostLine (without_return text) }
     {
         let Refusal { fault, found, .. } = refused;
-        PlanRefusal { fault, found }
+        PlanRefusal {
+            fault,
+            found,
+            lacks_line_end: lacks_line_end(fault.kind, &found),
+        }
     }
 }

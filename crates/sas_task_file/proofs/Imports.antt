@@ -53,6 +53,7 @@ pub use Rattle.sas_reader.specs.declared.fault.Kind.{Kind}
 pub use Rattle.sas_reader.specs.declared.fault.Kind.TheVariants.{Keyword, Name, Shape, Value, Memory}
 pub use Rattle.sas_reader.specs.declared.reader.Front.{Front}
 pub use Rattle.sas_task_file.specs.Ahead.{LineAhead, NumberAhead, SignedAhead, FactAhead, ChangeAhead}
+pub use Rattle.sas_task_file.specs.Counts.{Counted, in_order, uncounted, before_items, list_counts, section_counts, variable_counts, group_counts, operator_counts, rule_counts, task_counts, IsCounted, OneCount, SomeCount}
 pub use Rattle.sas_task_file.specs.FirstWrong.{HasWrong, FirstWrong}
 pub use Rattle.sas_task_file.specs.LinesBefore.{LinesBefore, CountedBefore, AppendedBefore, EffectsBefore, FactsBefore, NamesBefore}
 pub use Rattle.sas_task_file.specs.Marks.{slot_of_due, IsDue, any_number, task_marks, OneDue, SomeDue, between_words, counted_dues, there, variable_dues, group_dues, operator_dues, rule_dues, numbered, positive_number}
@@ -65,11 +66,14 @@ pub use Rattle.sas_task_file.specs.TaskProcess.{TaskProcess, task_start, TaskPar
 pub use Rattle.sas_task_file.specs.TaskRanges.{fact_in_ranges, effect_in_ranges, change_in_ranges, ranges_of, range_in}
 pub use Rattle.sas_task_file.specs.TaskReasons.{first_wrong, line_bounds, OneTaskReason, OneWrongWord, Bounded, fact_bounds, change_bounds, IsTaskReason, SomeTaskReason, IsFirstWrong, SpeaksOfFacts, SomeWrongWord, WrongWordIsNamed, below}
 pub use Rattle.sas_task_file.specs.TaskWords.{Spells, TakesNumber, TakesFact, TakesFacts, TakesHead}
-pub use Rattle.sas_task_file.specs.Tracker.{tracker_start, track, mark_in, by_count, track_line, mark, row_at, IsRow, this_number}
+pub use Rattle.sas_task_file.specs.Tracker.{tracker_start, track, mark_in, by_count, track_line, mark, row_at, row_in, IsRow, this_number, counts_start, after_count, counts_after, count_at}
+pub use Rattle.sas_task_file.specs.declared.counts.Counts.{Counts}
+pub use Rattle.sas_task_file.specs.declared.counts.ListCount.{ListCount}
 pub use Rattle.sas_task_file.specs.declared.marks.Due.{Due}
 pub use Rattle.sas_task_file.specs.declared.marks.Location.{Location}
 pub use Rattle.sas_task_file.specs.declared.marks.Mark.{Mark}
 pub use Rattle.sas_task_file.specs.declared.marks.WrongWord.{WrongWord}
+pub use Rattle.sas_task_file.specs.declared.places.Move.{Move}
 pub use Rattle.sas_task_file.specs.declared.places.Place.{Place}
 pub use Rattle.sas_task_file.specs.declared.places.Row.{Row}
 pub use Rattle.sas_task_file.specs.declared.tracker.Tracker.{Tracker}

@@ -5,13 +5,16 @@ pub mod TaskPlain
 pub mod TaskGrammar
 pub mod TaskFilling
 pub mod TaskLaws
+mod Beginnings
 pub mod RowsOfPlaces
 pub mod Tracking
 pub mod TrackedSections
 pub mod TrackedTask
 pub mod DueBehind
+pub mod Counting
 pub mod WrongWords
 pub mod MarkLaws
+pub mod CountLaws
 pub mod SomeReason
 pub mod MayStand
 pub mod SomeWrongWord

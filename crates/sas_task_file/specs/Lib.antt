@@ -1,9 +1,11 @@
 pub mod Process
 pub mod TaskTexts
+pub mod Beginnings
 pub mod TaskFormat
 pub mod TaskProcess
 pub mod TaskLaws
 pub mod Marks
+pub mod Counts
 pub mod Tracker
 pub mod TaskReasons
 pub mod TaskLine

@@ -2,7 +2,7 @@
 -- expected there, what the line adds to the task, and how it moves the tracker. A tracker follows
 -- the lines of a task, one after another, by this table. Proofs use it. The definition of what is
 -- expected is in the marks of a task.
-use Rattle.std.specs.Prelude.{◌≡◌, ℕ, zero, suc, ◌-◌, List, [], ◌∷◌, ◌++◌, length, slice_index_or}
+use Rattle.std.specs.Prelude.{◌≡◌, ℕ, zero, suc, ◌+◌, ◌-◌, List, [], ◌∷◌, ◌++◌, length, slice_index_or, Option, Some, None}
 use Rattle.sas_task_file.specs.declared.places.Place.{Place}
 use Rattle.sas_task_file.specs.declared.places.Place.TheVariants as place
 use Rattle.sas_task_file.specs.declared.places.Event.{Event}
@@ -21,6 +21,8 @@ use Rattle.sas_task_file.specs.Marks.{any_number, positive_number}
 use Rattle.sas_task_file.specs.TaskFormat.{TaskLine}
 use Rattle.sas_task_file.specs.TaskProcess.{number_in}
 use Rattle.sas_task_file.specs.declared.tracker.Tracker.{Tracker}
+use Rattle.sas_task_file.specs.declared.counts.Counts.{Counts}
+use Rattle.sas_task_file.specs.declared.counts.ListCount.{ListCount}
 
 -- before the first line
 abbrev pub tracker_start : Tracker
@@ -176,3 +178,39 @@ mark where_it_stands what = record { at = where_it_stands; due = what }
 
 abbrev pub mark_in : Tracker → Mark
 mark_in t = mark (row_in t).at (row_in t).due
+
+-- ---- the numbers of items
+
+-- before the first line
+abbrev pub counts_start : Counts
+counts_start = record {
+  section = record { line = 0; number = 0 };
+  list = record { line = 0; number = 0 };
+}
+
+-- the counts after line k, which has this number
+abbrev pub after_count : Move → ℕ → ℕ → Counts → Counts
+after_count (moves.Count p) k n c = record c { section = record { line = k; number = n } }
+after_count (moves.List p) k n c = record c { list = record { line = k; number = n } }
+after_count (moves.Range p) k n c = record c { list = record { line = k; number = n } }
+after_count _ k n c = c
+
+-- the count of the list whose next item is due at the place, or whose last item is directly before
+abbrev pub count_at : Place → Counts → Option ListCount
+count_at place.Variables c = Some c.section
+count_at place.VariableValues c = Some c.list
+count_at place.Groups c = Some c.section
+count_at place.GroupFacts c = Some c.list
+count_at place.GoalFacts c = Some c.list
+count_at place.Operators c = Some c.section
+count_at place.Prevail c = Some c.list
+count_at place.Effects c = Some c.list
+count_at place.Rules c = Some c.section
+count_at place.RuleConditions c = Some c.list
+count_at _ c = None
+
+-- the counts after all of these lines, of which the first is line k
+abbrev pub counts_after : ℕ → Tracker → Counts → List TaskLine → Counts
+counts_after k t c [] = c
+counts_after k t c (i ∷ items) =
+    counts_after (k + 1) (track_line t i) (after_count (row_in t).moves k (number_in i) c) items

@@ -4,8 +4,10 @@ ghost use Rattle.sas_reader.specs.About.{AboutLaws};
 ghost use Rattle.sas_reader.specs.Laws.{Laws};
 ghost use Rattle.sas_reader.specs.System.{Grammar};
 ghost use Rattle.sas_task_file.specs.Process.{process_node};
+ghost use Rattle.sas_task_file.specs.Beginnings.{OperatorsBegin, RulesBegin};
 ghost use Rattle.sas_task_file.specs.TaskFormat.{TaskSlot, task_format, TaskLineFits};
 ghost use Rattle.sas_task_file.specs.Marks.{OneDue, SomeDue};
+ghost use Rattle.sas_task_file.specs.Counts.{OneCount, SomeCount};
 ghost use Rattle.sas_task_file.specs.TaskLaws.{TaskIsFilled, OneCompletion, FillingsInBytes};
 ghost use Rattle.sas_task_file.specs.TaskReasons.{OneTaskReason, OneWrongWord, SomeTaskReason, SomeWrongWord, WrongWordIsNamed};
 ghost use Rattle.sas_task_file.specs.TaskProcess.{task_start};
@@ -24,6 +26,7 @@ pub fn task_laws()
 
 /// Ensures the laws about what is expected in task files, and about why a file is refused.
 /// - After the same first lines, one thing is expected, at one location. Something is expected wherever a task has a line.
+/// - After the same first lines, one count applies, or none. Of the first lines of each task, it is known which.
 /// - A line has at most one first wrong word. It has one if a fact, a head or an effect is expected, the line has this shape, and no task
 ///   may have the line there.
 /// - A fault is about at most one text and one list of accepted lines. It is about at least one text, unless a read failed, the bytes are
@@ -33,10 +36,18 @@ pub fn task_laws()
 pub fn mark_laws()
     ensures one_due { OneDue }
     ensures some_due { SomeDue }
+    ensures one_count { OneCount }
+    ensures some_count { SomeCount }
     ensures one_wrong_word { OneWrongWord }
     ensures some_wrong_word { SomeWrongWord }
     ensures about { AboutLaws task_format }
     ensures one_reason { OneTaskReason }
     ensures some_reason { SomeTaskReason }
     ensures word_is_named { WrongWordIsNamed }
+{}
+
+/// Ensures where operators and rules begin: at their lines in the layout of the task.
+pub fn line_number_laws()
+    ensures operators { OperatorsBegin }
+    ensures rules { RulesBegin }
 {}

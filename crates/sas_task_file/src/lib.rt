@@ -3,6 +3,7 @@
 #![tactic(auto)]
 
 mod ahead;
+mod counts;
 mod laws;
 mod marks;
 mod places;
@@ -16,7 +17,8 @@ mod variables_and_groups;
 mod wrong_word;
 
 pub use ahead::{read_effect, read_fact, read_name, read_number_line};
-pub use laws::{mark_laws, task_laws};
+pub use counts::{Counts, ListCount};
+pub use laws::{line_number_laws, mark_laws, task_laws};
 pub use marks::{Due, FixedWord, Location, Mark, WrongWord};
 pub use places::{Event, Move, Place, Row};
 pub use sections::{ParsedOperator, ParsedRule, read_operator, read_rule};

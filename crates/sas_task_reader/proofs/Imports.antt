@@ -1,9 +1,10 @@
 -- What the proofs use of other crates, and of the definitions of this one.
-pub use Rattle.std.proofs.Common.{◌≡◌, ℕ, List, Option, Some, None, Result, refl, sym, ap, subst, ◌∙◌, IfOk, ◌≢◌, [], ◌∷◌, ◌++◌, Bool, length, append_assoc, IsTrue, codes, suc, ◌<◌, ◌-◌, arith, Ok, ◌≤◌, ◌+◌, true, false, nat_lt, zero, drop, Err, take, ◌&&◌, rules, inr, inl, length-append, ◌==◌, ◌↔◌, slice_index_or, ◌^◌, min}
+pub use Rattle.std.proofs.Common.{◌≡◌, ℕ, List, Option, Some, None, Result, refl, sym, ap, subst, ◌∙◌, IfOk, ◌≢◌, [], ◌∷◌, ◌++◌, Bool, length, append_assoc, IsTrue, codes, suc, ◌<◌, ◌-◌, arith, Ok, ◌≤◌, ◌+◌, true, false, nat_lt, zero, drop, Err, take, ◌&&◌, rules, inr, inl, length-append, ◌==◌, ◌↔◌, slice_index_or, ◌^◌, min, map, get_or, IsSomeAnd, IfSome, IfNone, ◌⊎◌}
 pub use Rattle.std.proofs.Math.Logic.{∥∥₁_elim, ∥∥₁_map}
 pub use Rattle.std.proofs.Props.{props}
-pub use Rattle.std.proofs.lemmas.Bool.{eqb-true, and_from, and_parts}
-pub use Rattle.std.proofs.lemmas.List.{append-nil, take_at}
+pub use Rattle.std.proofs.lemmas.Fmt.{decimal_digit}
+pub use Rattle.std.proofs.lemmas.Bool.{eqb-true, and_from, and_parts, eq-eqb, ne_eqb}
+pub use Rattle.std.proofs.lemmas.List.{append-nil, take_at, take_all, length-take, length-map}
 pub use Rattle.std.proofs.lemmas.Option.{none-some}
 pub use Rattle.std.proofs.lemmas.Result.{on_ok_weaker, IfOk-weaker}
 pub use Rattle.std.specs.List.{AllByRecursion, flat_map, list_all}
@@ -28,23 +29,32 @@ pub use Rattle.sas_flat.specs.Operators.{operator}
 pub use Rattle.sas_flat.specs.Outlines.{outline_of}
 pub use Rattle.sas_flat.specs.Variables.{variable}
 pub use Rattle.sas_lines.proofs.Splitting.{lines-one, unfinished-one, Plain}
-pub use Rattle.sas_lines.specs.Lines.{text}
+pub use Rattle.sas_lines.specs.Lines.{text, without_return}
 pub use Rattle.sas_reader.proofs.AcceptedLines.{LinesAccepted, none_accepted, one_more, accepted}
 pub use Rattle.sas_reader.proofs.Conversion.{Follows, reads_of_format}
-pub use Rattle.sas_reader.proofs.Paths.{cut_at, after_ends, map-append, after_append}
+pub use Rattle.sas_reader.proofs.Paths.{cut_at, after_ends, map-append, after_append, ends_split, same_path}
 pub use Rattle.sas_reader.proofs.Plain.{plain}
 pub use Rattle.sas_reader.proofs.Reading.{reads_all, refuses_all, feeds, end_fault}
 pub use Rattle.sas_reader.proofs.Refusals.{reads_explained, refuses_explained}
+pub use Rattle.sas_reader.specs.About.{EndsUnended}
+pub use Rattle.sas_reader.specs.Found.{IsFoundOf, kept_bytes}
+pub use Rattle.sas_reader.specs.declared.found.Excerpt.{Excerpt}
 pub use Rattle.sas_reader.specs.Devices.{ValueOf, ReadsAll}
-pub use Rattle.sas_reader.specs.Format.{IsBegun, ReadsAs}
+pub use Rattle.sas_reader.specs.Format.{IsBegun, ReadsAs, AreAllLines}
 pub use Rattle.sas_reader.specs.Machine.{IsFront, AcceptsAhead}
 pub use Rattle.sas_reader.specs.Reading.{Finishes}
-pub use Rattle.sas_reader.specs.Refusals.{behind_line, behind_text, at_end}
+pub use Rattle.sas_reader.specs.Refusals.{StandsBehind, behind_line, behind_text, at_end}
 pub use Rattle.sas_reader.specs.System.{Grammar, LeadsToEnd, After, before, ended, IsAllowed, OneLine, IsRejected, Rejects, Node}
-pub use Rattle.sas_reader.specs.Texts.{Reads}
+pub use Rattle.sas_reader.specs.Texts.{Reads, lines_of}
 pub use Rattle.sas_reader.specs.declared.fault.Fault.{Fault}
 pub use Rattle.sas_reader.specs.declared.fault.Kind.{Kind}
 pub use Rattle.sas_reader.specs.declared.reader.Front.{Front}
+pub use Rattle.sas_task_file.proofs.CountLaws.{count_after, is_counted}
+pub use Rattle.sas_task_file.proofs.Counting.{Block, after-append, variable_told, group_told, operator_told, rule_told}
+pub use Rattle.sas_task_file.specs.Counts.{IsCounted}
+pub use Rattle.sas_task_file.specs.declared.counts.Counts.{Counts}
+pub use Rattle.sas_task_file.specs.declared.counts.ListCount.{ListCount}
+pub use Rattle.sas_task_reader.specs.declared.task_refusal.TaskRefusal.{TaskRefusal}
 pub use Rattle.sas_task_file.proofs.DueBehind.{HasFacts, end_mark, ranges_behind, is_due, speaks_behind_variables}
 pub use Rattle.sas_task_file.proofs.FirstWrongWords.{first_back, range_is, ranges_many}
 pub use Rattle.sas_task_file.proofs.MarkLaws.{same_items}
@@ -64,7 +74,7 @@ pub use Rattle.sas_task_file.specs.TaskLine.{ParsesDue, test_of_due, line_of_due
 pub use Rattle.sas_task_file.specs.TaskProcess.{TaskProcess, name_in, fact_in, effect_in, effect_may_stand, a_name, a_fact, an_effect, a_variable, a_group, an_operator, a_rule, a_word, a_number, number_in, is_from, any, positive, may_change, head_may_stand, head_in, a_signed, a_head, a_value}
 pub use Rattle.sas_task_file.specs.TaskRanges.{ranges_of, fact_in_ranges, effect_in_ranges, change_in_ranges, head_in_ranges, value_in}
 pub use Rattle.sas_task_file.specs.TaskReasons.{first_wrong, line_bounds, IsFirstWrong, IsTaskReason}
-pub use Rattle.sas_task_file.specs.Tracker.{IsRow, value_due, tracker_start, track, mark_in, row_at, row_in, after_move}
+pub use Rattle.sas_task_file.specs.Tracker.{IsRow, value_due, tracker_start, track, mark_in, row_at, row_in, after_move, track_line, counts_start, after_count, counts_after, count_at}
 pub use Rattle.sas_task_file.specs.declared.marks.Due.{Due}
 pub use Rattle.sas_task_file.specs.declared.marks.Mark.{Mark}
 pub use Rattle.sas_task_file.specs.declared.marks.WrongWord.{WrongWord}
@@ -75,13 +85,13 @@ pub use Rattle.sas_task_file.specs.declared.places.Row.{Row}
 pub use Rattle.sas_task_file.specs.declared.so_far.SoFar.{SoFar}
 pub use Rattle.sas_task_file.specs.declared.task_events.LineValues.{LineValues}
 pub use Rattle.sas_task_file.specs.declared.tracker.Tracker.{Tracker}
-pub use Rattle.sas_task_reader.specs.Marks.{due_slot, mark_of, WrongWordIn}
+pub use Rattle.sas_task_reader.specs.Marks.{due_slot, mark_of, WrongWordIn, count_of, IsLastLine}
 pub use Rattle.sas_task_reader.specs.Sections.{KeepsGroup, KeepsOperator, KeepsRule, behind_variable, behind_group, behind_operator, behind_rule}
-pub use Rattle.sas_task_reader.specs.TaskJudge.{state_of, row_of, HasEnded, SectionDue, past_section, past_variable, RejectsLine, JudgesLine, MovesAhead, HasRow}
-pub use Rattle.sas_task_reader.specs.TaskMachine.{LedBy, MachineStopped, LedTo, EndedAt, RejectsAt}
+pub use Rattle.sas_task_reader.specs.TaskJudge.{state_of, row_of, HasEnded, SectionDue, past_section, past_variable, RejectsLine, JudgesLine, MovesAhead, HasRow, NotesLine}
+pub use Rattle.sas_task_reader.specs.TaskMachine.{LedBy, MachineStopped, task_behavior, reader_behavior, counts_behind, HasNoted}
 pub use Rattle.sas_task_reader.specs.TaskOutline.{outline_in, kept_of}
 pub use Rattle.sas_task_reader.specs.TaskReader.{task_view}
-pub use Rattle.sas_task_reader.specs.TaskRefusal.{StandsRefused, fault_in, found_in, HasReason}
+pub use Rattle.sas_task_reader.specs.TaskRefusal.{fault_in, found_in, HasReason}
 pub use Rattle.sas_task_reader.specs.TaskStates.{TaskState, table_start, numbers_of, state_after, node_of_due, table_node}
 pub use Rattle.sas_task_reader.specs.contracts.flat_so_far.FlatSoFar.{the_view}
 pub use Rattle.sas_task_reader.specs.declared.task_judge.TaskJudge.{TaskJudge}

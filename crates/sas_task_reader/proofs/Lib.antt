@@ -6,6 +6,8 @@ pub mod TaskEnds
 pub mod TableGrammar
 pub mod TaskMoves
 pub mod TaskSteps
+pub mod Noting
+pub mod LastLines
 pub mod SectionLines
 pub mod SectionSteps
 pub mod Marking

@@ -1,6 +1,7 @@
 -- A task file is refused for the reason that its machine knows.
-use Rattle.sas_task_reader.proofs.Imports.{◌≡◌, ◌≢◌, ℕ, List, Option, None, sym, subst, ◌∙◌, Parts, Kind, Node, ended, before, Rejects, behind_line, behind_text, at_end, Mark, WrongWord, table_node, TaskLine, TaskSlot, word_slot, name_slot, number_slot, signed_slot, fact_slot, effect_slot, head_slot, HasShape, NumbersKind, no_shape, no_value, TaskKind, task_format, TaskLineFits, StandsRefused, TaskState, node_of_due, Due, row_in, slot_of_due, IsTaskReason, shape_of_value, SoFar, FirstWrong, TaskMachine, mark_of, due_slot, WrongWordIn, state_of}
-use Rattle.sas_task_reader.proofs.RefusedLines.{task_reason, trailing_reason, led_still, ended_still, shape_still, wrong_still}
+use Rattle.sas_task_reader.proofs.Imports.{◌≡◌, ◌≢◌, ℕ, List, Option, None, sym, subst, ◌∙◌, Parts, Kind, Node, ended, before, Rejects, behind_line, behind_text, at_end, Mark, WrongWord, table_node, TaskLine, TaskSlot, word_slot, name_slot, number_slot, signed_slot, fact_slot, effect_slot, head_slot, HasShape, NumbersKind, no_shape, no_value, TaskKind, task_format, TaskLineFits, StandsBehind, task_behavior, TaskState, node_of_due, Due, row_in, slot_of_due, IsTaskReason, shape_of_value, SoFar, FirstWrong, TaskMachine, mark_of, due_slot, WrongWordIn, state_of, ◌↔◌, IsTrue, IfSome, IfNone, IsSomeAnd, ListCount, Excerpt, IsFoundOf, kept_bytes, without_return, EndsUnended, LedBy, count_of, IsLastLine, IsCounted, HasReason, TaskRefusal}
+use Rattle.sas_task_reader.proofs.LastLines.{unended}
+use Rattle.sas_task_reader.proofs.RefusedLines.{count_there, task_reason, trailing_reason, led_still, ended_still, shape_still, wrong_still}
 use Rattle.sas_reader.specs.declared.fault.Kind.TheVariants as kinds
 use Rattle.sas_task_file.specs.declared.marks.Due.TheVariants as due
 
@@ -36,7 +37,7 @@ module _ {K : Type 0} (keeps : List (List ℕ) → SoFar → K → Type 0) (line
   with_mark : IsTaskReason kind lines text (mark_of m.judge) word → IsTaskReason kind lines text mark word
   with_mark h = subst (λ (k : Mark). IsTaskReason kind lines text k word) (sym marks) h
 
-  pub reported_reason : StandsRefused keeps lines text kind m → IsTaskReason kind lines text mark word
+  pub reported_reason : StandsBehind (task_behavior keeps) lines text kind m → IsTaskReason kind lines text mark word
   reported_reason (behind_line old led going_on rejects stopped) =
       let still = led_still keeps lines old m text kind stopped led in
       let known = wrong_still keeps lines old m text kind stopped in
@@ -54,3 +55,23 @@ module _ {K : Type 0} (keeps : List (List ℕ) → SoFar → K → Type 0) (line
       let apart : kind ≢ kinds.Value = λ v. let other : kinds.End ≡ kinds.Value = sym is_end ∙ v in cc in
       let is : WrongWordIn m.judge text kind word = record { of_value = λ v. absurd (apart v); of_another = of_another } in
       with_mark (task_reason keeps lines m led goes_on text kind word (λ t. let other : kinds.End ≡ kinds.Trailing = sym is_end ∙ t in cc) (λ v. absurd (apart v)) is)
+
+  -- the machine is still led by the lines
+  stands_led : StandsBehind (task_behavior keeps) lines text kind m → LedBy keeps lines m
+  stands_led (behind_line old led going_on rejects stopped) = led_still keeps lines old m text kind stopped led
+  stands_led (behind_text led ends trailing) = led
+  stands_led (at_end led goes_on is_end) = led
+
+  -- the refusal has the reason, the count, and whether only a line end is missing
+  pub reported : {L : Type 0} (now : L → List ℕ) (last : Option L) (found : Excerpt) (r : TaskRefusal) → r.fault.kind ≡ kind → r.mark ≡ mark → r.word ≡ word → r.count ≡ count_of m.judge
+      → IfSome last (λ l. IsLastLine m.judge (now l)) → IfNone last ((line : List ℕ) → IsLastLine m.judge line → ⊥) → (IsTrue r.lacks_line_end ↔ (kind ≡ kinds.End) × IsSomeAnd last (λ l. without_return (kept_bytes found) ≡ now l))
+      → StandsBehind (task_behavior keeps) lines text kind m → IsFoundOf text found → HasReason lines text r
+  reported now last found r same is_mark is_word counts some none lacks stands kept =
+      let led = stands_led stands in
+      let why : IsTaskReason r.fault.kind lines text r.mark r.word = rw (same, is_mark, is_word) (reported_reason stands) in
+      let ends : IsTrue r.lacks_line_end ↔ EndsUnended task_format r.fault.kind lines text = rw same (unended keeps lines m led text found kept now kind (IsTrue r.lacks_line_end) last some none lacks) in
+      record {
+        reason = why;
+        counted = subst (IsCounted lines) (sym counts) (count_there keeps lines m led);
+        unended = ends;
+      }

@@ -1,6 +1,8 @@
 -- The machine moves past a section that is stored at once.
-use Rattle.sas_task_reader.proofs.Imports.{◌≡◌, ℕ, ◌<◌, List, ◌++◌, ap, ◌∙◌, arith, Ok, Front, IsFront, AcceptsAhead, map-append, after_append, TaskLine, task_line_bytes, task_format, TaskLineFits, group_lines, operator_lines, rule_lines, spelled, TaskJudge, TaskMachine, table_node, table_start, state_of, behind_group, behind_operator, behind_rule, past_section, SectionDue, LedBy, KeepsGroup, KeepsOperator, KeepsRule, SoFar, Tracker, Option, WrongWord}
+use Rattle.sas_task_reader.proofs.Imports.{◌≡◌, ℕ, ◌<◌, List, ◌++◌, ap, ◌∙◌, arith, Ok, Front, IsFront, AcceptsAhead, map-append, after_append, TaskLine, task_line_bytes, task_format, TaskLineFits, group_lines, operator_lines, rule_lines, spelled, TaskJudge, TaskMachine, table_node, table_start, state_of, behind_group, behind_operator, behind_rule, past_section, SectionDue, LedBy, KeepsGroup, KeepsOperator, KeepsRule, SoFar, Tracker, Option, Some, WrongWord, Place, Counts, count_at}
 use Rattle.sas_task_reader.specs.declared.task_judge.sections.Section.TheVariants as section
+use Rattle.sas_task_reader.proofs.TableGrammar.{tracked}
+use Rattle.sas_task_reader.proofs.Noting.{KeepsCount, noted_past, group_keeps, operator_keeps, rule_keeps}
 use Rattle.sas_task_reader.proofs.SectionLines.{GoesOn, group_on, operator_on, rule_on}
 
 -- the judge with another tracker
@@ -15,6 +17,8 @@ module _ {K : Type 0} (keeps : List (List ℕ) → SoFar → K → Type 0) (m : 
     pub leads : (s : SoFar) → GoesOn (state_of m.judge s) items (record { tracker = next; so_far = behind s })
     pub keeps_on : (lines : List (List ℕ)) (s : SoFar) → keeps lines s m.kept → keeps (lines ++ spelled items) (behind s) kept
     pub stands : IsFront (spelled items) bytes front
+    pub in_section : (c : Counts) → count_at next.place c ≡ Some c.section
+    pub counts : KeepsCount m.judge.tracker items
 
   module _ (k : SectionKept) where
     -- its lines lead the machine as well
@@ -28,6 +32,7 @@ module _ {K : Type 0} (keeps : List (List ℕ) → SoFar → K → Type 0) (m : 
             spells = map-append task_line_bytes h.leads.items k.items ∙ ap (λ (l : List (List ℕ)). l ++ spelled k.items) h.leads.spells;
           };
           kept = k.keeps_on before h.so_far h.kept;
+          counts = noted_past h.leads.items k.items m.judge next (tracked h.leads.items table_start (state_of m.judge h.so_far) h.leads.after) h.counts k.in_section k.counts;
         }
 
     -- and the machine accepts it
@@ -46,14 +51,14 @@ module _ {K : Type 0} (keeps : List (List ℕ) → SoFar → K → Type 0) (m : 
   pub group_kept : SectionDue m.judge section.Group → KeepsGroup keeps ranges bytes m.kept kept (Ok front) → Kept
   group_kept due h =
       let t = (rw same at h).took some in
-      record { items = group_lines t.0; behind = λ s. behind_group s t.0; leads = λ s. group_on m.judge.tracker s t.0 due.0 due.1 t.1.0 t.1.1.fits; keeps_on = t.2; stands = t.1.1.stands }
+      record { items = group_lines t.0; behind = λ s. behind_group s t.0; leads = λ s. group_on m.judge.tracker s t.0 due.0 due.1 t.1.0 t.1.1.fits; keeps_on = t.2; stands = t.1.1.stands; in_section = λ c. ap (λ (p : Place). count_at p c) due.0; counts = group_keeps m.judge.tracker due.1 due.0 t.0 }
 
   pub operator_kept : SectionDue m.judge section.Operator → KeepsOperator keeps ranges bytes m.kept kept (Ok front) → Kept
   operator_kept due h =
       let t = (rw same at h).took some in
-      record { items = operator_lines t.0; behind = λ s. behind_operator s t.0; leads = λ s. operator_on m.judge.tracker s t.0 due.0 due.1 t.1.0 t.1.1.fits; keeps_on = t.2; stands = t.1.1.stands }
+      record { items = operator_lines t.0; behind = λ s. behind_operator s t.0; leads = λ s. operator_on m.judge.tracker s t.0 due.0 due.1 t.1.0 t.1.1.fits; keeps_on = t.2; stands = t.1.1.stands; in_section = λ c. ap (λ (p : Place). count_at p c) due.0; counts = operator_keeps m.judge.tracker due.1 due.0 t.0 }
 
   pub rule_kept : SectionDue m.judge section.Rule → KeepsRule keeps ranges bytes m.kept kept (Ok front) → Kept
   rule_kept due h =
       let t = (rw same at h).took some in
-      record { items = rule_lines t.0; behind = λ s. behind_rule s t.0; leads = λ s. rule_on m.judge.tracker s t.0 due.0 due.1 t.1.0 t.1.1.fits; keeps_on = t.2; stands = t.1.1.stands }
+      record { items = rule_lines t.0; behind = λ s. behind_rule s t.0; leads = λ s. rule_on m.judge.tracker s t.0 due.0 due.1 t.1.0 t.1.1.fits; keeps_on = t.2; stands = t.1.1.stands; in_section = λ c. ap (λ (p : Place). count_at p c) due.0; counts = rule_keeps m.judge.tracker due.1 due.0 t.0 }

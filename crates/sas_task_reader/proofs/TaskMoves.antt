@@ -1,5 +1,5 @@
 -- One line of a task moves the judge, as the table of places says.
-use Rattle.sas_task_reader.proofs.Imports.{IsTrue, ◌≡◌, ℕ, zero, suc, ◌-◌, length, List, ◌∷◌, ◌++◌, refl, sym, ap, subst, ◌∙◌, arith, Result, Ok, Err, Option, Some, None, result_err, none-some, take, take_at, length-append, Plain, plain, inl, inr, Kind, IsAllowed, IsRejected, Rejects, TaskLine, task_slot, slot_of_due, task_line_bytes, task_format, TaskLineFits, name_in, number_in, Due, Row, Move, row_at, row_in, after_move, Tracker, TaskJudge, TaskState, numbers_of, state_after, state_of, row_of, RejectsLine, JudgesLine, MovesAhead, HasEnded, IsRow, HasRow, ParsesDue, test_of_due, line_of_due, Event, LineValues, SoFar, Place, after, LineAhead}
+use Rattle.sas_task_reader.proofs.Imports.{IsTrue, ◌≡◌, ℕ, zero, suc, ◌-◌, length, List, ◌∷◌, ◌++◌, refl, sym, ap, subst, ◌∙◌, arith, Result, Ok, Err, Option, Some, None, result_err, none-some, take, take_at, length-append, Plain, plain, inl, inr, Kind, IsAllowed, IsRejected, Rejects, TaskLine, task_slot, slot_of_due, task_line_bytes, task_format, TaskLineFits, name_in, number_in, Due, Row, Move, row_at, row_in, after_move, after_count, Counts, NotesLine, Tracker, TaskJudge, TaskState, numbers_of, state_after, state_of, row_of, RejectsLine, JudgesLine, MovesAhead, HasEnded, IsRow, HasRow, ParsesDue, test_of_due, line_of_due, Event, LineValues, SoFar, Place, after, LineAhead}
 use Rattle.sas_reader.specs.declared.fault.Kind.TheVariants as kinds
 use Rattle.sas_task_file.specs.declared.places.Place.TheVariants as at
 use Rattle.sas_task_file.specs.declared.marks.Due.TheVariants as due
@@ -50,11 +50,16 @@ module _ (j : TaskJudge) (going_on : HasEnded j → ⊥) (line : List ℕ) where
   -- ---- the judge
 
   module _ (r : Row) (is : IsRow j.tracker r) where
-    pub took : (said : LineValues) (t : Tracker) → ParsesDue j.tracker.ranges r.due line said (Ok tt) → t ≡ after_move r.moves said.number j.tracker
-        → JudgesLine j line (record { tracker = t; said = said }) (Ok r.adds)
-    took said t =
-        subst (λ (x : Row). ParsesDue j.tracker.ranges x.due line said (Ok tt) → t ≡ after_move x.moves said.number j.tracker → JudgesLine j line (record { tracker = t; said = said }) (Ok x.adds)) (sym is.is)
-        (λ parsed moved. judged (record { tracker = t; said = said }) parsed.0 parsed.1 moved)
+    pub took : (said : LineValues) (t : Tracker) (n : Counts) → ParsesDue j.tracker.ranges r.due line said (Ok tt) → t ≡ after_move r.moves said.number j.tracker
+        → JudgesLine j line (record { tracker = t; said = said; counts = n }) (Ok r.adds)
+    took said t n =
+        subst (λ (x : Row). ParsesDue j.tracker.ranges x.due line said (Ok tt) → t ≡ after_move x.moves said.number j.tracker → JudgesLine j line (record { tracker = t; said = said; counts = n }) (Ok x.adds)) (sym is.is)
+        (λ parsed moved. judged (record { tracker = t; said = said; counts = n }) parsed.0 parsed.1 moved)
+
+    pub noted : (said : LineValues) (t : Tracker) (n : Counts) (number : ℕ) → t ≡ after_move r.moves said.number j.tracker → n ≡ after_count r.moves number said.number j.counts → NotesLine j number (record { tracker = t; said = said; counts = n })
+    noted said t n number =
+        subst (λ (x : Row). t ≡ after_move x.moves said.number j.tracker → n ≡ after_count x.moves number said.number j.counts → NotesLine j number (record { tracker = t; said = said; counts = n })) (sym is.is)
+        (λ moved counts. (moved, counts))
 
     pub refused : (said : LineValues) (kind : Kind) → ParsesDue j.tracker.ranges r.due line said (Err kind) → JudgesLine j line (record j { said = said }) (Err kind)
     refused said kind =
@@ -77,9 +82,9 @@ refused_as j k line (Err other) kind e h = subst (λ (x : Kind). JudgesLine j li
 
 module _ (j k : TaskJudge) (bytes rest : List ℕ) where
   -- the first line has this content, which is what is expected
-  pub moves_ahead : (d : Due) (e : Event) (m : Move) (i : TaskLine) → HasRow j.tracker d e m → (d ≡ due.Nothing → ⊥) → LineAhead i bytes rest → line_of_due d k.said (task_line_bytes i) ≡ i → task_slot i ≡ slot_of_due d → IsTrue (test_of_due j.tracker.ranges d i)
-      → k.tracker ≡ after_move m k.said.number j.tracker → MovesAhead j bytes k e rest
-  moves_ahead d e m i says some ahead is slot good moved = record {
+  pub moves_ahead : (d : Due) (e : Event) (i : TaskLine) → HasRow j.tracker d e moves.Item → (d ≡ due.Nothing → ⊥) → LineAhead i bytes rest → line_of_due d k.said (task_line_bytes i) ≡ i → task_slot i ≡ slot_of_due d → IsTrue (test_of_due j.tracker.ranges d i)
+      → k.tracker ≡ after_move moves.Item k.said.number j.tracker → k.counts ≡ j.counts → MovesAhead j bytes k e rest
+  moves_ahead d e i says some ahead is slot good moved same = record {
     line = task_line_bytes i;
     plain = ahead.plain;
     before = ahead.before;
@@ -93,11 +98,13 @@ module _ (j k : TaskJudge) (bytes rest : List ℕ) where
         (subst (λ (x : TaskLine). IsAllowed task_format TaskLineFits (slot_of_due (row_of j).due) (test_of_due j.tracker.ranges (row_of j).due) x) (sym same) allowed)
         (ap task_line_bytes same)
         (moved ∙ ap (λ (x : Move). after_move x k.said.number j.tracker) (sym says.moves)));
+    item = says.moves;
+    counts = same;
   }
 
   -- the line is the bytes before the last byte that was taken
-  pub taken_line : (event : Event) → MovesAhead j bytes k event rest → (let line : List ℕ = take (length bytes - length rest - 1) bytes in Plain line × (bytes ≡ line ++ 10 ∷ rest) × JudgesLine j line k (Ok event))
+  pub taken_line : (event : Event) → MovesAhead j bytes k event rest → (let line : List ℕ = take (length bytes - length rest - 1) bytes in Plain line × (bytes ≡ line ++ 10 ∷ rest) × JudgesLine j line k (Ok event) × ((row_of j).moves ≡ moves.Item) × (k.counts ≡ j.counts))
   taken_line event h =
       let n = length bytes - length rest - 1 in
       let is : h.line ≡ take n bytes = sym (ap (take n) h.before ∙ take_at h.line (10 ∷ rest) n (omega (arith, ap length h.before, length-append h.line (10 ∷ rest)))) in
-      subst (λ (l : List ℕ). Plain l × (bytes ≡ l ++ 10 ∷ rest) × JudgesLine j l k (Ok event)) is (plain h.line h.plain, h.before, h.moves)
+      subst (λ (l : List ℕ). Plain l × (bytes ≡ l ++ 10 ∷ rest) × JudgesLine j l k (Ok event) × ((row_of j).moves ≡ moves.Item) × (k.counts ≡ j.counts)) is (plain h.line h.plain, h.before, h.moves, h.item, h.counts)

@@ -17,7 +17,7 @@ use Rattle.sas_task_reader.specs.declared.task_judge.sections.Section.TheVariant
 use Rattle.sas_task_reader.specs.declared.task_judge.TaskJudge.{TaskJudge}
 use Rattle.sas_reader.specs.Faults.{IsOfBytes}
 use Rattle.sas_reader.specs.System.{OneLine, Rejects}
-use Rattle.sas_task_file.specs.Tracker.{row_in}
+use Rattle.sas_task_file.specs.Tracker.{row_in, after_move, after_count}
 use Rattle.sas_task_file.specs.declared.tracker.Tracker.{Tracker}
 use Rattle.sas_task_file.specs.TaskEvents.{after}
 use Rattle.sas_task_file.specs.TaskFormat.{TaskLine, task_line_bytes, task_format, TaskLineFits}
@@ -92,10 +92,18 @@ JudgesLine j line k (Err kind) =
     × (kind ≢ kinds.Memory → RejectsLine j line kind)
     × (kind ≢ kinds.Memory → StandsAsBefore j k)
 
--- The bytes are a line, then LF, then the rest. The line leads to the content with what it adds.
+-- the judge k has noted the number on this line, which moved it from j
+abbrev pub NotesLine : TaskJudge → ℕ → TaskJudge → Type 0
+NotesLine j number k = (k.tracker ≡ after_move (row_of j).moves k.said.number j.tracker)
+    × (k.counts ≡ after_count (row_of j).moves number k.said.number j.counts)
+
+-- The bytes are a line, then LF, then the rest. The line leads to the content with what it adds,
+-- and is an item of a list.
 pub record MovesAhead (j : TaskJudge) (bytes : List ℕ) (k : TaskJudge) (event : Event)
     (rest : List ℕ) : Type 0 where
   pub line : List ℕ
   pub plain : IsPlain line
   pub before : bytes ≡ line ++ 10 ∷ rest
+  pub item : (row_of j).moves ≡ moves.Item
   pub moves : JudgesLine j line k (Ok event)
+  pub counts : k.counts ≡ j.counts

@@ -1,14 +1,14 @@
 // Judges the lines of a task file, one after another, by the table of places.
-ghost use Rattle.std.specs.Prelude.{◌≡◌, ◌↔◌, IsTrue};
-ghost use Rattle.sas_task_file.specs.Tracker.{tracker_start};
-ghost use Rattle.sas_task_reader.specs.TaskJudge.{JudgesLine, HasEnded};
+ghost use Rattle.std.specs.Prelude.{◌≡◌, ◌↔◌, IsTrue, OnOk};
+ghost use Rattle.sas_task_file.specs.Tracker.{tracker_start, counts_start};
+ghost use Rattle.sas_task_reader.specs.TaskJudge.{JudgesLine, NotesLine, HasEnded};
 
 mod ahead;
 mod marks;
 mod sections;
 
 use sas_reader::Kind;
-use sas_task_file::{Event, LineValues, Place, Tracker};
+use sas_task_file::{Counts, Event, LineValues, Place, Tracker};
 pub use sections::Section;
 use std::alloc::Global;
 
@@ -18,16 +18,20 @@ pub struct TaskJudge {
     tracker: Tracker,
     /// The values of the last line of each kind.
     pub said: LineValues,
+    /// The last numbers of items. That of a list may be older if no list has begun.
+    counts: Counts,
 }
 
 impl TaskJudge {
     /// Returns a judge that has accepted no line.
     pub fn new(alloc: Global) -> Self
-        ensures { result.tracker ≡ tracker_start }
+        ensures tracker { result.tracker ≡ tracker_start }
+        ensures counts { result.counts ≡ counts_start }
     {
         TaskJudge {
             tracker: Tracker::new(alloc),
             said: LineValues::new(alloc),
+            counts: Counts::new(),
         }
     }
 
@@ -38,14 +42,16 @@ impl TaskJudge {
         self.tracker.left == 0 && self.tracker.place == Place::Rules
     }
 
-    /// Judges the next line. Returns what it adds, or the kind of its fault.
-    pub fn take(&mut self, line: &[u8]) -> Result<Event, Kind>
+    /// Judges the next line. Returns what it adds, or the kind of its fault. `number` is that of the line, counted from 1.
+    pub fn take(&mut self, line: &[u8], number: u64) -> Result<Event, Kind>
         requires { HasEnded self.old → ⊥ }
-        ensures { JudgesLine self.old line.now self.new result }
+        ensures judges { JudgesLine self.old line.now self.new result }
+        ensures notes { OnOk result (NotesLine self.old number self.new) }
     {
         let row = self.tracker.row();
         self.said.parse(&self.tracker.ranges, row.due, line)?;
         self.tracker.move_on(row.moves, self.said.number)?;
+        self.counts.note(row.moves, number, self.said.number);
         Ok(row.adds)
     }
 }

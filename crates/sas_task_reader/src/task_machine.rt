@@ -112,28 +112,22 @@ impl<K: Keeper> TaskMachine<K> {
 }
 
 impl<K: Keeper> Machine for TaskMachine<K> {
-    ghost use Rattle.sas_task_reader.specs.TaskJudge.{HasEnded, RejectsLine};
-    ghost use Rattle.sas_task_reader.specs.TaskMachine.{LedBy, MachineStopped};
+    ghost use Rattle.sas_task_reader.specs.TaskMachine.{task_behavior};
 
-    ghost led_by = { LedBy K.keeps };
-
-    ghost ended = { λ m. HasEnded m.judge };
-
-    ghost rejects = { λ m line k. RejectsLine m.judge line k };
-
-    ghost stopped = { MachineStopped };
+    ghost behavior = { task_behavior K.keeps };
 
     fn has_ended(&self) -> bool {
         self.judge.has_ended()
     }
 
-    fn accept(&mut self, line: &[u8]) -> Result<(), Kind> {
-        match self.judge.take(line) {
+    fn accept(&mut self, line: &[u8], number: u64) -> Result<(), Kind> {
+        match self.judge.take(line, number) {
             Ok(event) => self.kept.keep(line, event, &mut self.judge.said),
             Err(kind) => Err(self.refuse(line, kind)),
         }
     }
 
+    #[inline(always)]
     fn accept_ahead(&mut self, bytes: &[u8]) -> Result<Front, Kind> {
         let section = self.section_ahead(bytes)?;
         if section.bytes > 0 {

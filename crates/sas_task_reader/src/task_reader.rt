@@ -3,7 +3,7 @@ ghost use Rattle.std.specs.Prelude.{◌≤◌, ℕ, List};
 ghost use Rattle.sas_reader.specs.Limit.{most_bytes};
 ghost use Rattle.sas_reader.specs.Reader as reading;
 ghost use Rattle.sas_reader.specs.Reading.{Starts, Feeds, Finishes};
-ghost use Rattle.sas_task_reader.specs.TaskMachine.{LedTo, EndedAt, RejectsAt, MachineStopped};
+ghost use Rattle.sas_task_reader.specs.TaskMachine.{reader_behavior};
 
 use crate::TaskMachine;
 use sas_core::Task;
@@ -17,7 +17,7 @@ pub struct TaskReader {
     reader: Reader<TaskMachine<SoFar>>,
     // It represents some bytes: those that it has read.
     ghost some: { ∥ ((bytes : List ℕ)
-        × reading.Stands LedTo EndedAt RejectsAt MachineStopped reader bytes) ∥₁ },
+        × reading.Stands reader_behavior reader bytes) ∥₁ },
 }
 
 impl TaskReader {

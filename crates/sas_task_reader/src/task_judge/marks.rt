@@ -1,11 +1,13 @@
 // The location of the next line, and what is expected there. It is needed only if a line is refused.
-ghost use Rattle.std.specs.Prelude.{◌≡◌, IfOk};
+ghost use Rattle.std.specs.Prelude.{◌≡◌, IfOk, IfSome, IfNone, ℕ, List};
 ghost use Rattle.sas_task_file.specs.FirstWrong.{FirstWrong};
 ghost use Rattle.sas_task_reader.specs.TaskJudge.{StandsAsBefore};
-ghost use Rattle.sas_task_reader.specs.Marks.{mark_of, due_slot};
+ghost use Rattle.sas_task_reader.specs.Marks.{mark_of, due_slot, count_of, IsLastLine};
 
 use super::TaskJudge;
-use sas_task_file::{Due, Mark, WrongWord, wrong_in_effect, wrong_in_fact, wrong_in_head};
+use sas_task_file::{
+    Due, ListCount, Mark, Place, WrongWord, wrong_in_effect, wrong_in_fact, wrong_in_head,
+};
 use std::alloc::AllocError;
 
 impl TaskJudge {
@@ -18,6 +20,27 @@ impl TaskJudge {
         Mark {
             at: row.at,
             due: row.due,
+        }
+    }
+
+    /// Returns the count of the list whose next item is expected, or whose last item is directly before, if any.
+    #[cold]
+    pub fn count(&self) -> Option<ListCount>
+        ensures { result ≡ count_of self.now }
+    {
+        self.counts.at(self.tracker.place)
+    }
+
+    /// Returns the line after which all lines have been read, or `None` if no next line is the last one.
+    #[cold]
+    pub fn last_line(&self) -> Option<&'static [u8]>
+        ensures some { IfSome result (λ line. IsLastLine self.now line.now) }
+        ensures none { IfNone result ((line : List ℕ) → IsLastLine self.now line → ⊥) }
+    {
+        match self.tracker.place {
+            Place::Operators if self.tracker.left == 0 => Some(b"0"),
+            Place::RuleEnd if self.tracker.left == 0 => Some(b"end_rule"),
+            _ => None,
         }
     }
 

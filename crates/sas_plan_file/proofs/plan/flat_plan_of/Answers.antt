@@ -1,5 +1,6 @@
 -- All bytes were fed to the reader.
-use Rattle.sas_plan_file.proofs.Imports.{[], Ok, Err, sym, ap, subst, ◌∙◌, Fault, ConcernsText, ReadsAs, most_bytes, IsRefused, end_fault, reported_by, explains, plan_format, PlanLineFits, plan_node, plan_start, HasCostLine, plan_stays, plan_led, plan_rejects, fault_of, found_of, nothing_else}
+use Rattle.sas_plan_file.proofs.Imports.{[], Ok, Err, sym, ap, subst, ◌∙◌, Fault, ConcernsText, ReadsAs, most_bytes, IsRefused, end_fault, reported_by, explains, plan_format, PlanLineFits, plan_node, plan_start, plan_behavior, fault_of, found_of, TellsLineEnd}
+use Rattle.sas_plan_file.proofs.PlanEnds.{tells_line_end}
 use Rattle.sas_plan_file.proofs.PlanGrammar.{plan_grammar}
 use Rattle.sas_plan_file.proofs.PlanStanding.{plan_follows, read_plan_parts}
 use Rattle.sas_plan_file.proofs.plan.flat_plan_of.Goals as goal
@@ -21,7 +22,7 @@ returns-in-Err-clause-fault c =
     let same = c.of.ensures.fault in
     λ ne. subst (λ (f : Fault). ReadsAs plan_format most_bytes bytes (Err f)) (sym same)
     (subst (λ n. ReadsAs plan_format n bytes (Err r.fault)) limit
-    (end_fault plan_format PlanLineFits plan_node plan_start plan_grammar plan_led HasCostLine plan_rejects plan_stays plan_follows c.feed.new.self r c.in-Err.ensures.refused (λ e. ne (ap (λ (f : Fault). f.kind) same ∙ e)) bytes stands))
+    (end_fault plan_format PlanLineFits plan_node plan_start plan_grammar plan_behavior plan_follows c.feed.new.self r c.in-Err.ensures.refused (λ e. ne (ap (λ (f : Fault). f.kind) same ∙ e)) bytes stands))
 
 pub returns-in-Err-clause-explained : goal.returns-in-Err-clause-explained
 returns-in-Err-clause-explained c =
@@ -32,6 +33,6 @@ returns-in-Err-clause-explained c =
     let same = c.of.ensures.fault in
     λ is_reported.
     let reported = subst (λ (f : Fault). ConcernsText f.kind) same is_reported in
-    explains plan_format PlanLineFits plan_node plan_start plan_grammar plan_led HasCostLine plan_rejects plan_stays plan_follows fault_of found_of nothing_else r _ same c.of.ensures.found (λ a t s. tt) bytes
-    (reported_by plan_format PlanLineFits plan_node plan_start plan_grammar plan_led HasCostLine plan_rejects plan_stays plan_follows most_bytes bytes r reported
-    (subst (λ n. IsRefused plan_led HasCostLine plan_rejects plan_stays n bytes r) limit (c.in-Err.ensures.refused.fault reported.2 bytes stands)))
+    explains plan_format PlanLineFits plan_node plan_start plan_grammar plan_behavior plan_follows fault_of found_of TellsLineEnd r _ same c.of.ensures.found (λ a t s f. tells_line_end plan_behavior plan_follows r.fault.kind r.machine c.of.result (ap (λ (f : Fault). f.kind) same) a t (c.of.ensures.lacks t f) s) bytes
+    (reported_by plan_format PlanLineFits plan_node plan_start plan_grammar plan_behavior plan_follows most_bytes bytes r reported
+    (subst (λ n. IsRefused plan_behavior n bytes r) limit (c.in-Err.ensures.refused.fault reported.2 bytes stands)))

@@ -1,4 +1,5 @@
 use Rattle.sas_task_file.proofs.Imports.{about_laws_of, process_node, TaskLineFits, task_format, task_start}
+use Rattle.sas_task_file.proofs.CountLaws.{one_count, some_count}
 use Rattle.sas_task_file.proofs.MarkLaws.{one_due, some_due, one_wrong_word, one_task_reason}
 use Rattle.sas_task_file.proofs.SomeReason.{some_task_reason}
 use Rattle.sas_task_file.proofs.SomeWrongWord.{some_wrong_word, wrong_word_is_named}
@@ -10,6 +11,12 @@ returns-clause-one_due c = one_due
 
 pub returns-clause-some_due : goal.returns-clause-some_due
 returns-clause-some_due c = some_due
+
+pub returns-clause-one_count : goal.returns-clause-one_count
+returns-clause-one_count c = one_count
+
+pub returns-clause-some_count : goal.returns-clause-some_count
+returns-clause-some_count c = some_count
 
 pub returns-clause-one_wrong_word : goal.returns-clause-one_wrong_word
 returns-clause-one_wrong_word c = one_wrong_word

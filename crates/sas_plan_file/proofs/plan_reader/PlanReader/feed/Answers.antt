@@ -1,11 +1,11 @@
 use Rattle.sas_plan_file.proofs.PlanGrammar.{plan_grammar}
 use Rattle.sas_plan_file.proofs.PlanStanding.{plan_follows}
-use Rattle.sas_plan_file.proofs.Imports.{◌++◌, ∥∥₁_map, feeds, plan_format, PlanLineFits, plan_node, plan_start, HasCostLine, plan_stays, plan_led, plan_rejects}
+use Rattle.sas_plan_file.proofs.Imports.{◌++◌, ∥∥₁_map, feeds, plan_format, PlanLineFits, plan_node, plan_start, plan_behavior}
 use Rattle.sas_plan_file.proofs.plan_reader.PlanReader.feed.Goals as goal
 
 pub returns : goal.returns
 returns c =
-    let f = feeds plan_format PlanLineFits plan_node plan_start plan_grammar plan_led HasCostLine plan_rejects plan_stays plan_follows _ _ _ _ c.feed.ensures in
+    let f = feeds plan_format PlanLineFits plan_node plan_start plan_grammar plan_behavior plan_follows _ _ _ _ c.feed.ensures in
     record { stands = f.stands; live = f.live; fault = f.fault; answer = f.answer; kept = f.kept; kind = f.kind; memory = f.memory; limit = f.limit }
 
 pub invariant_of-self : goal.invariant_of-self

@@ -1,4 +1,4 @@
-use Rattle.sas_plan_file.proofs.Imports.{sym, ap, subst, Err, Fault, Finishes, end_fault, plan_format, PlanLineFits, plan_node, plan_start, HasCostLine, plan_stays, plan_led, plan_rejects, plan_view}
+use Rattle.sas_plan_file.proofs.Imports.{sym, ap, subst, Err, Fault, Finishes, end_fault, plan_format, PlanLineFits, plan_node, plan_start, plan_behavior, plan_view}
 use Rattle.sas_plan_file.proofs.PlanGrammar.{plan_grammar}
 use Rattle.sas_plan_file.proofs.PlanStanding.{plan_follows, read_plan_parts}
 use Rattle.sas_plan_file.proofs.plan_reader.PlanReader.finish.Goals as goal
@@ -18,7 +18,7 @@ returns-in-Err c =
     let end = c.in-Err.ensures in
     subst (λ (f : Fault). Finishes plan_view c.args.self (Err f)) (sym c.into_fault.ensures) (record {
       read = tt;
-      fault = end_fault plan_format PlanLineFits plan_node plan_start plan_grammar plan_led HasCostLine plan_rejects plan_stays plan_follows c.args.self.reader c.in-Err.refused end.refused;
+      fault = end_fault plan_format PlanLineFits plan_node plan_start plan_grammar plan_behavior plan_follows c.args.self.reader c.in-Err.refused end.refused;
       memory = end.refused.memory;
       kept = λ f e. ap (λ (x : Fault). Err x) (end.kept f e);
     })

@@ -4,7 +4,7 @@ use Rattle.sas_plan_file.proofs.plan_text.PlanTextMachine.accept.Goals as goal
 use Rattle.sas_plan_file.proofs.plan_text.PlanTextMachine.accept.Goals.{in-Cost, in_default}
 
 pub returns-clause-led : goal.returns-clause-led
-returns-clause-led c = λ before h.
+returns-clause-led c = λ before _ h.
     elim c.match-matches.branch [
       | in-Cost w ↦
           let said = rw w.in-Cost.is at c.in_ok-plan_line.ensures in
