@@ -2,8 +2,8 @@
 use Rattle.sas_plan_reasons.proofs.Imports.{◌≡◌, ℕ, ◌-◌, List, [], ◌∷◌, ◌++◌, length, take, Option, None, Some, refl, sym, ◌∙◌, ap, subst, inl, inr, arith, append-nil, take-append_seam, Parts, PlanParts, operator_at, IsState, IsLayered, IsSettled, Agree, Conflict, LeadsTo, ComesTo, IsFaultOf, leads_one_way, Line, Run, last_state, StepsSucceed, leads_to_last, OtherOperator, PlanHistory, IsOtherIfAny, Retraces, IsBehind, ReportsOnce, last_rests, AreCouldBeLines, AreFaultLines, IsWhy}
 use Rattle.sas_answers.specs.declared.line.Line.TheVariants as line
 
-module _ (p : Parts) (plan : PlanParts) (noted : PlanHistory) (run : Run) (r : Retraces p plan noted run) where
-  pub behind : IsBehind p noted run
+module _ (p : Parts) (plan : PlanParts) (history : PlanHistory) (run : Run) (r : Retraces p plan history run) where
+  pub behind : IsBehind p history run
   behind =
       let rests = last_rests p run r.through in
       record {
@@ -14,10 +14,10 @@ module _ (p : Parts) (plan : PlanParts) (noted : PlanHistory) (run : Run) (r : R
         since = r.since;
       }
 
-  pub last_is : noted.last ≡ last_state run
+  pub last_is : history.last ≡ last_state run
   last_is = r.last
 
-  pub operators_are : noted.operators.items ≡ run.operators
+  pub operators_are : history.operators.items ≡ run.operators
   operators_are = r.operators
 
   pub operators_as_many : length run.operators ≡ length run.steps
@@ -25,13 +25,13 @@ module _ (p : Parts) (plan : PlanParts) (noted : PlanHistory) (run : Run) (r : R
 
   -- ---- why
 
-  pub is_why : (lines : List Line) → ReportsOnce lines (AreFaultLines p plan run noted.fault) → (new : List Line)
-      → ((other : OtherOperator) → noted.other ≡ Some other → new ≡ lines ++ line.CouldBe other.step other.operator ∷ [])
-      → (noted.other ≡ None → new ≡ lines)
-      → IsWhy p plan noted.fault new
-  is_why lines reported new some none = at noted.other refl
+  pub is_why : (lines : List Line) → ReportsOnce lines (AreFaultLines p plan run history.fault) → (new : List Line)
+      → ((other : OtherOperator) → history.other ≡ Some other → new ≡ lines ++ line.CouldBe other.step other.operator ∷ [])
+      → (history.other ≡ None → new ≡ lines)
+      → IsWhy p plan history.fault new
+  is_why lines reported new some none = at history.other refl
     where
-      why : (others : List Line) → AreCouldBeLines p run others → new ≡ lines ++ others → IsWhy p plan noted.fault new
+      why : (others : List Line) → AreCouldBeLines p run others → new ≡ lines ++ others → IsWhy p plan history.fault new
       why others may is = record {
         run = run;
         went = r.ends.1;
@@ -43,7 +43,7 @@ module _ (p : Parts) (plan : PlanParts) (noted : PlanHistory) (run : Run) (r : R
         whole = is ∙ ap (λ (l : List Line). l ++ others) reported.2;
       }
 
-      at : (other : Option OtherOperator) → noted.other ≡ other → IsWhy p plan noted.fault new
+      at : (other : Option OtherOperator) → history.other ≡ other → IsWhy p plan history.fault new
       at None e = why [] (inr (subst (IsOtherIfAny p run) e r.other, refl)) (none e ∙ sym (append-nil lines))
       at (Some other) e = why (line.CouldBe other.step other.operator ∷ [])
           (inl (other.step, other.operator, subst (IsOtherIfAny p run) e r.other, refl)) (some other e)

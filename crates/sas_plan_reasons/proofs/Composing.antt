@@ -10,7 +10,7 @@ use Rattle.sas_plan_reasons.proofs.Adding.{plain_added, derivation_once, derivat
 abbrev pub actual_fact : List ℕ → ℕ → Fact
 actual_fact s var = record { var = var; value = slice_index s var }
 
-module _ (p : Parts) (noted : PlanHistory) where
+module _ (p : Parts) (history : PlanHistory) where
   -- ---- lines of no rule
 
   plain_then : (report : Report) (new more rest : List Line) → AllByRecursion IsPlain more → new ≡ report.lines ++ more
@@ -19,39 +19,39 @@ module _ (p : Parts) (noted : PlanHistory) where
       ap (λ (l : List Line). with_lines l rest) (add ∙ sym (plain_lines report.lines more plain)) ∙ sym (lines_append report.lines more rest)
 
   pub plain_is_report : (report : Report) (new more : List Line) → AllByRecursion IsPlain more → new ≡ report.lines ++ more
-      → IsReportOf p noted report → IsReportOf p noted (record report { lines = new })
-  plain_is_report report new more plain add can = (can.0, can.1, plain_added p noted.last report new more plain add can.2)
+      → IsReportOf p history report → IsReportOf p history (record report { lines = new })
+  plain_is_report report new more plain add can = (can.0, can.1, plain_added p history.last report new more plain add can.2)
 
-  pub more_is_report : (Are : Run → List Line → Type 0) (old new : Report) → AddsLines p noted old new Are → IsReportOf p noted old → IsReportOf p noted new
+  pub more_is_report : (Are : Run → List Line → Type 0) (old new : Report) → AddsLines p history old new Are → IsReportOf p history old → IsReportOf p history new
   more_is_report Are old new adds can = let w = adds can.0 can.1 can.2 in (can.0, can.1, w.3)
 
   pub line_and_more : (report after : Report) (new : List Line) (l : Line) (Are : Run → List Line → Type 0) → IsPlain l → new ≡ report.lines ++ l ∷ []
-      → AddsLines p noted (record report { lines = new }) after Are → AddsLines p noted report after (λ run. LineThen l (Are run))
+      → AddsLines p history (record report { lines = new }) after Are → AddsLines p history report after (λ run. LineThen l (Are run))
   line_and_more report after new l Are plain add adds run behind is =
-      let w = adds run behind (plain_added p noted.last report new (l ∷ []) (plain, tt) add is) in
+      let w = adds run behind (plain_added p history.last report new (l ∷ []) (plain, tt) add is) in
       (l ∷ w.0, (w.0, w.1, refl), w.2 ∙ plain_then report new (l ∷ []) w.0 (plain, tt) add, w.3)
 
   -- ---- causes
 
   -- the lines that a cause begins with
   abbrev pub first_lines : Fact → List Line
-  first_lines fact = line.Requires fact ∷ line.Actual (actual_fact noted.last fact.var) ∷ since_line (slice_index noted.since.items fact.var) ∷ []
+  first_lines fact = line.Requires fact ∷ line.Actual (actual_fact history.last fact.var) ∷ since_line (slice_index history.since.items fact.var) ∷ []
 
   since_plain : (since : ℕ) → IsPlain (since_line since)
   since_plain zero = refl
   since_plain (suc before) = refl
 
   pub first_plain : (fact : Fact) → AllByRecursion IsPlain (first_lines fact)
-  first_plain fact = (refl, (refl, (since_plain (slice_index noted.since.items fact.var), tt)))
+  first_plain fact = (refl, (refl, (since_plain (slice_index history.since.items fact.var), tt)))
 
   pub cause_added : (report : Report) (new : List Line) (between after : Report) (fact : Fact) → fact.var < length p.variables
       → new ≡ report.lines ++ first_lines fact
-      → AddsLines p noted (record report { lines = new }) between (λ run. AreDerivationLines (is_given p (last_state run) fact.var) p (last_state run) fact.var)
-      → AddsLines p noted between after (λ run lines. lines ≡ missing_lines p (last_state run) fact)
-      → AddsLines p noted report after (λ run. IsCause p run fact)
+      → AddsLines p history (record report { lines = new }) between (λ run. AreDerivationLines (is_given p (last_state run) fact.var) p (last_state run) fact.var)
+      → AddsLines p history between after (λ run lines. lines ≡ missing_lines p (last_state run) fact)
+      → AddsLines p history report after (λ run. IsCause p run fact)
   cause_added report new between after fact lt add givers missing run behind is =
-      let since = slice_index noted.since.items fact.var in
-      let g = givers run behind (plain_added p noted.last report new (first_lines fact) (first_plain fact) add is) in
+      let since = slice_index history.since.items fact.var in
+      let g = givers run behind (plain_added p history.last report new (first_lines fact) (first_plain fact) add is) in
       let m = missing run behind g.3 in (
         first_lines fact ++ (g.0 ++ m.0),
         record {
@@ -70,56 +70,56 @@ module _ (p : Parts) (noted : PlanHistory) where
 
   -- ---- rules that derive values
 
-  pub some_givers : (report : Report) (new : List Line) (origins : Origins) (next : Vec ℕ Global) (var : ℕ) → is_given p noted.last var ≡ true
+  pub some_givers : (report : Report) (new : List Line) (origins : Origins) (next : Vec ℕ Global) (var : ℕ) → is_given p history.last var ≡ true
       → ((s : List ℕ) → AreOrigins p s report.origins → ReportsDerivation p s var report.origins origins [] next.items)
       → new ≡ report.lines ++ map line.RuleDerives next.items
-      → AddsLines p noted report (record report { lines = new; origins = origins; next = next })
+      → AddsLines p history report (record report { lines = new; origins = origins; next = next })
       (λ run. AreDerivationLines (is_given p (last_state run) var) p (last_state run) var)
   some_givers report new origins next var so decides add run behind is =
-      let t = decides noted.last is.origins in (
+      let t = decides history.last is.origins in (
         map line.RuleDerives t.derivation,
         subst (λ b. AreDerivationLines b p (last_state run) var (map line.RuleDerives t.derivation)) (sym (ap (λ s. is_given p s var) (sym behind.last) ∙ so))
             (t.derivation, subst (λ s. IsDerivation p s var t.derivation) behind.last t.is, refl),
-        derivation_once p noted.last report new origins next var t add is,
-        derivation_added p noted.last report new origins next var t add is,
+        derivation_once p history.last report new origins next var t add is,
+        derivation_added p history.last report new origins next var t add is,
       )
 
   -- ---- rules that don't fire
 
-  keepers_of_last : (run : Run) → IsBehind p noted run → (fact : Fact) → can_be_given p fact ≡ true
-      → lines_of_keepers p noted.last fact.var ≡ keeping_lines p (last_state run) fact
+  keepers_of_last : (run : Run) → IsBehind p history run → (fact : Fact) → can_be_given p fact ≡ true
+      → lines_of_keepers p history.last fact.var ≡ keeping_lines p (last_state run) fact
   keepers_of_last run behind fact so = ap (λ s. lines_of_keepers p s fact.var) behind.last
       ∙ sym (ap (λ b. if b then lines_of_keepers p (last_state run) fact.var else line.NoRuleDerives ∷ []) so)
 
   pub no_rule : (report : Report) (new : List Line) (fact : Fact) → can_be_given p fact ≡ false → new ≡ report.lines ++ line.NoRuleDerives ∷ []
-      → AddsLines p noted report (record report { lines = new }) (λ run lines. lines ≡ keeping_lines p (last_state run) fact)
+      → AddsLines p history report (record report { lines = new }) (λ run lines. lines ≡ keeping_lines p (last_state run) fact)
   no_rule report new fact not_so add run behind is = (
     line.NoRuleDerives ∷ [],
     sym (ap (λ b. if b then lines_of_keepers p (last_state run) fact.var else line.NoRuleDerives ∷ []) not_so),
     add ∙ sym (plain_lines report.lines (line.NoRuleDerives ∷ []) (refl, tt)),
-    plain_added p noted.last report new (line.NoRuleDerives ∷ []) (refl, tt) add is,
+    plain_added p history.last report new (line.NoRuleDerives ∷ []) (refl, tt) add is,
   )
 
   pub reported_before : (report : Report) (fact : Fact) → can_be_given p fact ≡ true → is_kept report fact.var ≡ true
-      → AddsLines p noted report report (λ run lines. lines ≡ keeping_lines p (last_state run) fact)
+      → AddsLines p history report report (λ run lines. lines ≡ keeping_lines p (last_state run) fact)
   reported_before report fact so kept run behind is =
-      (lines_of_keepers p noted.last fact.var, keepers_of_last run behind fact so, keepers_again p noted.last report fact.var is kept, is)
+      (lines_of_keepers p history.last fact.var, keepers_of_last run behind fact so, keepers_again p history.last report fact.var is kept, is)
 
   pub reported_now : (report : Report) (new : List Line) (fact : Fact) → fact.var < length p.variables → can_be_given p fact ≡ true
-      → is_kept report fact.var ≡ false → new ≡ report.lines ++ lines_of_keepers p noted.last fact.var
-      → AddsLines p noted report (record report { lines = new; kept = set report.kept fact.var true }) (λ run lines. lines ≡ keeping_lines p (last_state run) fact)
+      → is_kept report fact.var ≡ false → new ≡ report.lines ++ lines_of_keepers p history.last fact.var
+      → AddsLines p history report (record report { lines = new; kept = set report.kept fact.var true }) (λ run lines. lines ≡ keeping_lines p (last_state run) fact)
   reported_now report new fact lt so not_kept add run behind is = (
-    lines_of_keepers p noted.last fact.var,
+    lines_of_keepers p history.last fact.var,
     keepers_of_last run behind fact so,
-    keepers_once p noted.last report fact.var is new lt not_kept add,
-    keepers_added p noted.last report fact.var is new lt not_kept add,
+    keepers_once p history.last report fact.var is new lt not_kept add,
+    keepers_added p history.last report fact.var is new lt not_kept add,
   )
 
-  pub nothing_missing : (report : Report) (fact : Fact) → needs_rules p fact ≡ false → AddsLines p noted report report (λ run lines. lines ≡ missing_lines p (last_state run) fact)
+  pub nothing_missing : (report : Report) (fact : Fact) → needs_rules p fact ≡ false → AddsLines p history report report (λ run lines. lines ≡ missing_lines p (last_state run) fact)
   nothing_missing report fact not_so run behind is = ([], sym (ap (λ b. if b then keeping_lines p (last_state run) fact else []) not_so), refl, is)
 
-  pub missing_reported : (report after : Report) (fact : Fact) → needs_rules p fact ≡ true → AddsLines p noted report after (λ run lines. lines ≡ keeping_lines p (last_state run) fact)
-      → AddsLines p noted report after (λ run lines. lines ≡ missing_lines p (last_state run) fact)
+  pub missing_reported : (report after : Report) (fact : Fact) → needs_rules p fact ≡ true → AddsLines p history report after (λ run lines. lines ≡ keeping_lines p (last_state run) fact)
+      → AddsLines p history report after (λ run lines. lines ≡ missing_lines p (last_state run) fact)
   missing_reported report after fact so adds run behind is = grind (arith, common_steps)
 
 -- ---- each of some items
@@ -129,12 +129,12 @@ each_more : {A : Type 0} (Are : A → List Line → Type 0) (items : List A) (it
 each_more Are [] item lines its none decides = (its, [], decides, refl, ap (λ (l : List Line). l ++ its) none ∙ sym (append-nil its))
 each_more Are (first ∷ items) item lines its each decides = grind (arith, common_steps, each_more Are items item each.1 its each.3 decides, append_assoc)
 
-module _ (p : Parts) (noted : PlanHistory) {A : Type 0} (Are : Run → A → List Line → Type 0) where
-  pub none_yet : (report : Report) → AddsLines p noted report report (λ run. LinesOfEach (Are run) [])
+module _ (p : Parts) (history : PlanHistory) {A : Type 0} (Are : Run → A → List Line → Type 0) where
+  pub none_yet : (report : Report) → AddsLines p history report report (λ run. LinesOfEach (Are run) [])
   none_yet report run behind is = ([], refl, refl, is)
 
-  pub one_more : (first old new : Report) (items : List A) (item : A) → AddsLines p noted first old (λ run. LinesOfEach (Are run) items)
-      → AddsLines p noted old new (λ run. Are run item) → AddsLines p noted first new (λ run. LinesOfEach (Are run) (items ++ item ∷ []))
+  pub one_more : (first old new : Report) (items : List A) (item : A) → AddsLines p history first old (λ run. LinesOfEach (Are run) items)
+      → AddsLines p history old new (λ run. Are run item) → AddsLines p history first new (λ run. LinesOfEach (Are run) (items ++ item ∷ []))
   one_more first old new items item before adds run behind is =
       let b = before run behind is in
       let a = adds run behind b.3 in

@@ -1,15 +1,46 @@
 -- What is reported of each fault.
 use Rattle.std.proofs.Common.{arith}
 use Rattle.std.proofs.lemmas.Grind.{common_steps}
-use Rattle.sas_plan_reasons.proofs.Imports.{◌≡◌, ℕ, ◌+◌, ◌<◌, Bool, true, false, not, List, [], ◌∷◌, ◌++◌, length, get_or, Option, ◌∙◌, ap, if◌then◌else◌, filter, slice_index, option_map_or, ne_eqb, eq-eqb, append-nil, filter-append, Fact, Parts, places_to, places_one_more, Line, LinesOfEach, Run, last_state, fails, similar_operator, similar_name_lines, PlanHistory, Report, IsBehind, IsReport, AddsLines, ReportsOnce}
+use Rattle.sas_plan_reasons.proofs.Imports.{◌≡◌, ℕ, ◌+◌, ◌<◌, ◌==◌, Bool, true, false, not, List, [], ◌∷◌, ◌++◌, length, get_or, Option, None, Some, refl, sym, ◌∙◌, ap, subst, inl, inr, if◌then◌else◌, filter, slice_index, option_map_or, ne_eqb, eq-eqb, append-nil, filter-append, AllByRecursion, cases_Bool, Fact, Parts, PlanParts, nameless_steps, nameless_lines, cost_hint, cost_lines, cost_lines_sum, places_to, places_one_more, Line, Run, last_state, fails, similar_operator, similar_name_lines, PlanHistory, Report, IsBehind, IsReport, AddsLines, ReportsOnce}
 use Rattle.sas_answers.specs.declared.line.Line.TheVariants as line
+use Rattle.sas_plan_reasons.proofs.Once.{IsPlain, plain_lines}
 
 -- ---- no operator of the name
 
-pub unknown_reported : (p : Parts) (step : ℕ) (name : List ℕ) (like : Option ℕ) (lines : List Line) → like ≡ similar_operator p name
-    → lines ≡ line.Step step ∷ option_map_or (λ operator. line.SimilarOperator operator ∷ []) like []
-    → ReportsOnce lines (λ its. its ≡ line.Step step ∷ similar_name_lines p name)
-unknown_reported p step name like lines is are = grind (arith, common_steps)
+nameless_plain : (step : ℕ) (like : Option ℕ) (k n : ℕ)
+    → AllByRecursion IsPlain (line.Step step ∷ option_map_or (λ operator. line.SimilarOperator operator ∷ []) like [] ++ line.NamelessSteps k n ∷ [])
+nameless_plain step None k n = (refl, (refl, tt))
+nameless_plain step (Some operator) k n = (refl, (refl, (refl, tt)))
+
+pub nameless_reported : (p : Parts) (plan : PlanParts) (step : ℕ) (name : List ℕ) (like : Option ℕ) (k n : ℕ) (lines : List Line) → like ≡ similar_operator p name
+    → k ≡ nameless_steps p plan.steps → n ≡ length plan.steps
+    → lines ≡ line.Step step ∷ option_map_or (λ operator. line.SimilarOperator operator ∷ []) like [] ++ line.NamelessSteps k n ∷ []
+    → ReportsOnce lines (λ its. its ≡ nameless_lines p plan step name)
+nameless_reported p plan step name like k n lines alike count all are = (
+  nameless_lines p plan step name,
+  refl,
+  are
+      ∙ (ap (λ (l : Option ℕ). line.Step step ∷ option_map_or (λ operator. line.SimilarOperator operator ∷ []) l [] ++ line.NamelessSteps k n ∷ []) alike
+      ∙ (ap (λ j. line.Step step ∷ similar_name_lines p name ++ line.NamelessSteps j n ∷ []) count
+      ∙ (ap (λ j. line.Step step ∷ similar_name_lines p name ++ line.NamelessSteps (nameless_steps p plan.steps) j ∷ []) all
+      ∙ sym (plain_lines [] (nameless_lines p plan step name) (nameless_plain step (similar_operator p name) (nameless_steps p plan.steps) (length plan.steps)))))),
+)
+
+-- ---- another cost
+
+hint_plain : (metric : Bool) (cost steps sum : ℕ) → AllByRecursion IsPlain (cost_hint metric cost steps sum)
+hint_plain true cost steps sum = elim (cases_Bool (cost == steps)) [
+  | inl is ↦ subst (λ b. AllByRecursion IsPlain (if b then line.CostLineHint ∷ [] else [])) (sym is) (refl, tt)
+  | inr other ↦ subst (λ b. AllByRecursion IsPlain (if b then line.CostLineHint ∷ [] else [])) (sym other) tt
+]
+hint_plain false cost steps sum = elim (cases_Bool (cost == sum)) [
+  | inl is ↦ subst (λ b. AllByRecursion IsPlain (if b then line.UnitCostHint ∷ [] else [])) (sym is) (refl, tt)
+  | inr other ↦ subst (λ b. AllByRecursion IsPlain (if b then line.UnitCostHint ∷ [] else [])) (sym other) tt
+]
+
+pub costs_reported : (p : Parts) (cost : ℕ) (run : Run) (lines : List Line) → lines ≡ cost_lines p cost run → ReportsOnce lines (λ its. its ≡ cost_lines p cost run)
+costs_reported p cost run lines are =
+    (cost_lines p cost run, refl, are ∙ sym (plain_lines [] (cost_lines p cost run) (refl, (refl, (refl, hint_plain p.metric cost (length run.steps) (cost_lines_sum p run.operators))))))
 
 -- ---- items that fail, one more
 
@@ -35,12 +66,12 @@ module _ {A : Type 0} (test : A → Bool) (k : ℕ) (items : List A) (d : A) (lt
 
 -- ---- what is reported of the last state
 
-module _ (p : Parts) (noted : PlanHistory) where
-  pub at_last : {A : Type 0} (Are : Run → A → List Line → Type 0) (items_of : List ℕ → List A) (old new : Report)
-      → AddsLines p noted old new (λ run. LinesOfEach (Are run) (items_of noted.last)) → AddsLines p noted old new (λ run. LinesOfEach (Are run) (items_of (last_state run)))
-  at_last Are items_of old new adds run behind is = grind (arith, common_steps)
+module _ (p : Parts) (history : PlanHistory) where
+  pub at_last : (Are : Run → List ℕ → List Line → Type 0) (old new : Report)
+      → AddsLines p history old new (λ run. Are run history.last) → AddsLines p history old new (λ run. Are run (last_state run))
+  at_last Are old new adds run behind is = let w = adds run behind is in (w.0, subst (λ s. Are run s w.0) behind.last w.1, w.2, w.3)
 
   -- from a report without a line
-  pub all_reported : (Are : Run → List Line → Type 0) (first last : Report) → IsReport p noted.last first → first.lines ≡ [] → AddsLines p noted first last Are
-      → (run : Run) → IsBehind p noted run → ReportsOnce last.lines (Are run)
+  pub all_reported : (Are : Run → List Line → Type 0) (first last : Report) → IsReport p history.last first → first.lines ≡ [] → AddsLines p history first last Are
+      → (run : Run) → IsBehind p history run → ReportsOnce last.lines (Are run)
   all_reported Are first last is none adds run behind = grind (arith, common_steps)

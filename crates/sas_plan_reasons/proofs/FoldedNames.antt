@@ -1,54 +1,45 @@
 -- Folded names, and the operator with a similar name.
 use Rattle.std.proofs.lemmas.Grind.{common_steps}
-use Rattle.sas_plan_reasons.proofs.Imports.{◌≡◌, ℕ, ◌<◌, Bool, List, [], ◌∷◌, ◌++◌, map, bytes_eq, refl, sym, ◌∙◌, ap, arith, Option, ◌==◌, ◌&&◌, to_ascii_lowercase, list_all, position_or_len, true≢false, lt-ltb, ltb-true, cases_lt, cases_Bool, Decides, fails_before_first, passes_at_first, bytes_eq-Decides, trimmed, folded, similar_operator, SpaceFolds, FoldsOnce, IsAlike, IsLowestIfAny, Operator, Parts, operator_at}
+use Rattle.sas_plan_reasons.proofs.Imports.{◌≡◌, ℕ, ◌<◌, Bool, List, [], ◌∷◌, ◌++◌, bytes_eq, refl, sym, ◌∙◌, arith, Option, ◌==◌, to_ascii_lowercase, position_or_len, true≢false, lt-ltb, ltb-true, cases_lt, cases_Bool, Decides, fails_before_first, passes_at_first, bytes_eq-Decides, squeezed, folded, similar_operator, SpaceFolds, DoubleFolds, FoldsOnce, IsAlike, IsLowestIfAny, Operator, Parts, operator_at}
 use Rattle.sas_plan_reasons.proofs.Lowest.{lowest_if_any_is_one}
 
--- ---- folded names
+-- ---- a space more
 
--- whether all bytes are spaces
-abbrev pub is_blank : List ℕ → Bool
-is_blank bytes = list_all (λ byte. byte == 32) bytes
-
-abbrev small : ℕ → ℕ
-small byte = to_ascii_lowercase byte
-
-space_is_blank : (bytes : List ℕ) → is_blank (bytes ++ 32 ∷ []) ≡ is_blank bytes
-space_is_blank [] = refl
-space_is_blank (b ∷ bs) = ap (λ x. (b == 32) && x) (space_is_blank bs)
-
-pub space_is_trimmed : (name : List ℕ) → trimmed (name ++ 32 ∷ []) ≡ trimmed name
-space_is_trimmed [] = refl
-space_is_trimmed (b ∷ bs) = grind (arith, common_steps, space_is_trimmed bs, space_is_blank)
+space_is_squeezed : (name : List ℕ) → squeezed (name ++ 32 ∷ []) ≡ squeezed name
+space_is_squeezed [] = refl
+space_is_squeezed (a ∷ []) = grind (arith, common_steps)
+space_is_squeezed (a ∷ b ∷ name) = grind (arith, common_steps, space_is_squeezed (b ∷ name))
 
 pub space_folds : SpaceFolds
-space_folds name = ap (map small) (space_is_trimmed name)
+space_folds [] = refl
+space_folds (a ∷ name) = grind (arith, common_steps, space_folds name, space_is_squeezed (a ∷ name))
+
+double_is_squeezed : (front behind : List ℕ) → squeezed (front ++ 32 ∷ 32 ∷ behind) ≡ squeezed (front ++ 32 ∷ behind)
+double_is_squeezed [] behind = refl
+double_is_squeezed (a ∷ []) behind = grind (arith, common_steps)
+double_is_squeezed (a ∷ b ∷ front) behind = grind (arith, common_steps, double_is_squeezed (b ∷ front) behind)
+
+pub double_folds : DoubleFolds
+double_folds [] behind = refl
+double_folds (a ∷ front) behind = grind (arith, common_steps, double_folds front behind, double_is_squeezed (a ∷ front) behind)
+
+-- ---- folded twice
 
 -- a lower-case letter is unchanged, and a byte is a space exactly if it is one in lower case
-small_twice : (b : ℕ) → small (small b) ≡ small b
+small_twice : (b : ℕ) → to_ascii_lowercase (to_ascii_lowercase b) ≡ to_ascii_lowercase b
 small_twice b = grind (arith, common_steps)
 
-small_space : (b : ℕ) → (small b == 32) ≡ (b == 32)
+small_space : (b : ℕ) → (to_ascii_lowercase b == 32) ≡ (b == 32)
 small_space b = grind (arith, common_steps)
 
-small_blank : (bytes : List ℕ) → is_blank (map small bytes) ≡ is_blank bytes
-small_blank [] = refl
-small_blank (b ∷ bs) = ap (λ x. x && is_blank (map small bs)) (small_space b) ∙ ap (λ x. (b == 32) && x) (small_blank bs)
-
--- a trimmed name is blank exactly if the name is
-trimmed_blank : (name : List ℕ) → is_blank (trimmed name) ≡ is_blank name
-trimmed_blank [] = refl
-trimmed_blank (b ∷ bs) = grind (arith, common_steps, trimmed_blank bs, cases_Bool)
-
-trimmed_once : (name : List ℕ) → trimmed (map small (trimmed name)) ≡ map small (trimmed name)
-trimmed_once [] = refl
-trimmed_once (b ∷ bs) = grind (arith, common_steps, trimmed_once bs, cases_Bool, small_blank, trimmed_blank)
-
-all_small : (bytes : List ℕ) → map small (map small bytes) ≡ map small bytes
-all_small [] = refl
-all_small (b ∷ bs) = ap (λ x. x ∷ map small (map small bs)) (small_twice b) ∙ ap (λ x. small b ∷ x) (all_small bs)
+squeezed_once : (name : List ℕ) → squeezed (squeezed name) ≡ squeezed name
+squeezed_once [] = refl
+squeezed_once (a ∷ []) = grind (arith, common_steps, small_twice, small_space)
+squeezed_once (a ∷ b ∷ name) = grind (arith, common_steps, cases_Bool, small_twice, small_space, squeezed_once (b ∷ name))
 
 pub folds_once : FoldsOnce
-folds_once name = ap (map small) (trimmed_once name) ∙ all_small (trimmed name)
+folds_once [] = refl
+folds_once (a ∷ name) = grind (arith, common_steps, cases_Bool, folds_once name, squeezed_once (a ∷ name), small_space)
 
 -- ---- the operator with a similar name
 

@@ -25,7 +25,7 @@ pub use Rattle.std.proofs.lemmas.Slice.Eq.{bytes_eq-Decides}
 pub use Rattle.std.specs.Bool.{Decides}
 pub use Rattle.std.specs.Char.{to_ascii_lowercase}
 pub use Rattle.std.specs.Cmp.{IsTotalOrder}
-pub use Rattle.std.specs.List.{All, list_all, position_or_len, Contains, AllPairs, list_any, HoldsAt, AllByRecursion, range_with_len}
+pub use Rattle.std.specs.List.{All, list_all, position_or_len, Contains, AllPairs, list_any, HoldsAt, AllByRecursion, range_with_len, count_by}
 pub use Rattle.std.specs.List.Sorted.{IsPermutation, IsNonDecreasing}
 pub use Rattle.std.specs.Option.{option_map_or, option_eq, unwrap_or}
 pub use Rattle.std.specs.Ordering.{nat_cmp, is_lt}
@@ -47,7 +47,7 @@ pub use Rattle.sas_answers.specs.declared.answer.Answer.{Answer}
 pub use Rattle.sas_answers.specs.declared.ending.Status.{Status}
 pub use Rattle.sas_answers.specs.declared.ending.Status.TheVariants.{Yes, No}
 pub use Rattle.sas_answers.specs.declared.line.Line.{Line}
-pub use Rattle.sas_answers.specs.declared.line.Line.TheVariants.{RuleDerives, RuleRequires, Requires, Actual, SinceStep, Step, ConflictingEffect, CouldBe, GoalFact}
+pub use Rattle.sas_answers.specs.declared.line.Line.TheVariants.{RuleDerives, RuleRequires, Requires, Actual, SinceStep, Step, ConflictingEffect, CouldBe, GoalFact, FailingGoalFacts}
 pub use Rattle.sas_axioms.proofs.RuleChanges.{same_option}
 pub use Rattle.sas_axioms.proofs.RulesOf.{of_variable, can_of}
 pub use Rattle.sas_axioms.specs.Conditions.{IsFullIndex, IsOfRule, waiting_at, asking, occurrences, released}
@@ -91,7 +91,7 @@ pub use Rattle.sas_run.proofs.PlanVerdicts.{some_verdict, valid_has_no_fault, fa
 pub use Rattle.sas_run.proofs.Ranges.{preconditions_within, effect_within}
 pub use Rattle.sas_run.proofs.Runs.{some_run, one_run, leads_to_last, last_rests, operators_exist, to_fault, state_fits}
 pub use Rattle.sas_run.specs.Executions.{Executed, next_name, next_operator, Executes, Advances}
-pub use Rattle.sas_run.specs.Named.{IsNamed}
+pub use Rattle.sas_run.specs.Named.{IsNamed, nameless_steps}
 pub use Rattle.sas_run.specs.Plans.{LeadTo, LeadsTo, IsValid}
 pub use Rattle.sas_run.specs.Running.{IsLater, IsLaterIfAny}
 pub use Rattle.sas_run.specs.Runs.{Run, last_state, state_at, StepsSucceed, steps_before, RunEndsWith}
@@ -106,11 +106,11 @@ pub use Rattle.sas_plan_reasons.specs.Derivation.{fires_with, reached, IsRank, H
 pub use Rattle.sas_plan_reasons.specs.Explained.{MakeAnswer, IsExplained}
 pub use Rattle.sas_plan_reasons.specs.Lines.{with_line, with_lines, LineThen, LinesOfEach}
 pub use Rattle.sas_plan_reasons.specs.Lowest.{IsLowest, AreLowest}
-pub use Rattle.sas_plan_reasons.specs.MayMean.{trimmed, folded, similar_operator, IsOther, MayMean}
+pub use Rattle.sas_plan_reasons.specs.MayMean.{after_spaces, squeezed, folded, similar_operator, IsOther, MayMean}
 pub use Rattle.sas_plan_reasons.specs.Noting.{HavePlaces, NotedAt, LeftAt, NotesSome, NotesChanges, looked_at, CoverChanges, AreFirstChanges, AddsOther, NotesStep}
 pub use Rattle.sas_plan_reasons.specs.OriginRounds.{origin_at, origin_now, origin_with_rule, unreached, HaveOrigins, IsReached, OriginsUpToRound, value_in_round, HasOrigin, IsOrigin, HavePassed, ReachesNow, InRound, ContinuesRound, AreAllRules, AreBefore, IsFirstOpen, HasLower, waiting_rules, requiring_at, AreAwaited, added, Reaches, HoldFrom}
 pub use Rattle.sas_plan_reasons.specs.Origins.{needs_rules, is_reported, AreOrigins, ReportsDerivation, nowhere, place_cmp, place_at, ArePlaces, AreInOrder, AddsDerivation, OriginsMatchState, HasRule, HasRuleBelow, IsReportedOf, AreReportedBelow, SameOrigins, unreported, AddsRules}
-pub use Rattle.sas_plan_reasons.specs.ReasonLaws.{DefaultIfNotGiven, EachRuleFails, SomeConflict, OneConflict, RankIfDiffers, OneRank, SomeGiver, OneGiver, GiverFires, RequiresLower, RequiresEarlier, GiverLooksDown, ItselfIsLast, NoCircle, AllDiffer, SpaceFolds, FoldsOnce, IsAlike, IsLowestIfAny, SomeDerivation, SomeMayMean, OneMayMean, SomePreconditionFails, OperatorsHaveName, FirstGoalFact, NoneIsLost, RulesStandOnce, SomeSince, OneSince, SameSince, OneDerivation, OwnRuleIsLast, SomeWhy, OneWhy}
+pub use Rattle.sas_plan_reasons.specs.ReasonLaws.{DefaultIfNotGiven, EachRuleFails, SomeConflict, OneConflict, RankIfDiffers, OneRank, SomeGiver, OneGiver, GiverFires, RequiresLower, RequiresEarlier, GiverLooksDown, ItselfIsLast, NoCircle, AllDiffer, SpaceFolds, DoubleFolds, FoldsOnce, IsAlike, IsLowestIfAny, SomeDerivation, SomeMayMean, OneMayMean, SomePreconditionFails, OperatorsHaveName, FirstGoalFact, NoneIsLost, RulesStandOnce, SomeSince, OneSince, SameSince, OneDerivation, OwnRuleIsLast, SomeWhy, OneWhy}
 pub use Rattle.sas_plan_reasons.specs.Report.{lines_of_keepers, is_kept, IsReport, IsBehind, ReportsOnce, IsReportOf, AddsLines}
 pub use Rattle.sas_plan_reasons.specs.Retracing.{IsOtherIfAny, Retraces, first_steps, HaveSince, AreNotes}
 pub use Rattle.sas_plan_reasons.specs.Trace.{run_lines, variables_of, is_changed, change_line, change_lines, step_lines, step_line}
@@ -118,7 +118,7 @@ pub use Rattle.sas_plan_reasons.specs.TraceLaws.{EndsWithVerdict, CostsAddUp, So
 pub use Rattle.sas_plan_reasons.specs.Traced.{EndsWith, TraceVerdict, IsTraced}
 pub use Rattle.sas_plan_reasons.specs.Tracing.{HasTraced, HasVerdict}
 pub use Rattle.sas_plan_reasons.specs.Verdict.{WhyVerdict}
-pub use Rattle.sas_plan_reasons.specs.WhyPlan.{ConflictsWith, AreFailedPreconditionLines, AreConflictLines, goal_fact_at, AreGoalFactLines, cost_lines, AreCouldBeLines, AreFaultLines, IsWhy, similar_name_lines, AreOperatorLines, cost_lines_sum}
+pub use Rattle.sas_plan_reasons.specs.WhyPlan.{ConflictsWith, AreFailedPreconditionLines, AreConflictLines, goal_fact_at, AreGoalFactLines, cost_hint, cost_lines, nameless_lines, AreCouldBeLines, AreFaultLines, IsWhy, similar_name_lines, AreOperatorLines, cost_lines_sum}
 pub use Rattle.sas_plan_reasons.specs.declared.changes.Changes.{Changes}
 pub use Rattle.sas_plan_reasons.specs.declared.origin_rounds.Origin.{Origin}
 pub use Rattle.sas_plan_reasons.specs.declared.origin_rounds.OriginRounds.{OriginRounds}

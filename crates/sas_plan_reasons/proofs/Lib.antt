@@ -14,7 +14,6 @@ pub mod WhyPlan
 pub mod Looking
 pub mod LongerRuns
 pub mod Noted
-pub mod Folding
 pub mod Firsts
 pub mod Once
 pub mod RulesOf

@@ -1,6 +1,6 @@
 -- The fault of a plan has exactly one list of reasons.
 use Rattle.std.proofs.lemmas.Grind.{common_steps}
-use Rattle.sas_plan_reasons.proofs.Imports.{◌≡◌, ℕ, ◌-◌, ◌<◌, List, [], ◌∷◌, ◌++◌, length, take, refl, sym, ◌∙◌, ap, subst, inl, inr, arith, take-append_seam, filter, bytes_eq, Operator, Parts, PlanParts, step_at, operator_at, IsLayered, IsSettled, preconditions, places, PlanFault, Memory, NoOperator, NotApplicable, Conflict, GoalMissed, CostDiffers, LeadTo, LeadsTo, ComesTo, IsFaultOf, Line, Run, with_lines, LineThen, LinesOfEach, fails, IsCause, AreFailedPreconditionLines, AreConflictLines, goal_fact_at, AreGoalFactLines, cost_lines, AreCouldBeLines, AreFaultLines, IsWhy, SomeWhy, OneWhy, last_state, StepsSucceed, steps_before, some_run, one_run}
+use Rattle.sas_plan_reasons.proofs.Imports.{◌≡◌, ℕ, ◌-◌, ◌<◌, List, [], ◌∷◌, ◌++◌, length, take, refl, sym, ◌∙◌, ap, subst, inl, inr, arith, take-append_seam, filter, count_by, bytes_eq, Operator, Parts, PlanParts, step_at, operator_at, IsLayered, IsSettled, preconditions, places, PlanFault, Memory, NoOperator, NotApplicable, Conflict, GoalMissed, CostDiffers, LeadTo, LeadsTo, ComesTo, IsFaultOf, Line, Run, with_lines, LineThen, LinesOfEach, fails, IsCause, AreFailedPreconditionLines, AreConflictLines, goal_fact_at, AreGoalFactLines, cost_lines, AreCouldBeLines, AreFaultLines, IsWhy, SomeWhy, OneWhy, last_state, StepsSucceed, steps_before, some_run, one_run}
 use Rattle.sas_answers.specs.declared.line.Line.TheVariants as line
 use Rattle.sas_plan_reasons.proofs.MayMean.{some_may_mean, one_may_mean}
 use Rattle.sas_plan_reasons.proofs.CauseLines.{some_cause, one_cause}
@@ -49,13 +49,17 @@ conflict_one p s operator a b x y =
     x.3 ∙ (ap (λ e. line.Operator operator ∷ line.ConflictingEffect operator x.1 ∷ line.ConflictingEffect operator e ∷ []) same.0
     ∙ (ap (λ d. line.Operator operator ∷ line.ConflictingEffect operator d ∷ line.ConflictingEffect operator y.0 ∷ []) same.1 ∙ sym y.3))
 
+-- the line of how many goal facts fail
+abbrev goal_line : Parts → Run → Line
+goal_line p run = line.FailingGoalFacts (count_by (fails (last_state run)) p.goal) (length p.goal)
+
 fault_lines_one : (p : Parts) (plan : PlanParts) (run : Run) (fault : PlanFault) (a b : List Line)
     → AreFaultLines p plan run fault a → AreFaultLines p plan run fault b → a ≡ b
 fault_lines_one p plan run (NoOperator step) a b x y = x ∙ sym y
 fault_lines_one p plan run (NotApplicable step) a b x y =
     behind_one (line.Step step) _ (each_one (AreFailedPreconditionLines p run) (inapplicable_one p run) (places (λ (o : Operator). bytes_eq o.name (step_at plan (step - 1))) p.operators)) a b x y
 fault_lines_one p plan run (Conflict step operator) a b x y = behind_one (line.Step step) _ (conflict_one p (last_state run) operator) a b x y
-fault_lines_one p plan run (GoalMissed index) a b x y = each_one (AreGoalFactLines p run) (goal_fact_one p run) (places (fails (last_state run)) p.goal) a b x y
+fault_lines_one p plan run (GoalMissed index) a b x y = behind_one (goal_line p run) _ (each_one (AreGoalFactLines p run) (goal_fact_one p run) (places (fails (last_state run)) p.goal)) a b x y
 fault_lines_one p plan run (CostDiffers sum) a b x y = x ∙ sym y
 fault_lines_one p plan run Memory a b x y = absurd x
 
@@ -152,11 +156,11 @@ module _ (p : Parts) (plan : PlanParts) (layered : IsLayered p) where
       from_run (Conflict step operator) l.run l.went l.through (_, (_, (w.0, w.1, w.2, refl), refl))
   some_why_of (GoalMissed index) f =
       let l = led plan.steps f.0 f.1 f.2 in
-      from_run (GoalMissed index) l.run l.went l.through
-      (some_each (AreGoalFactLines p l.run) (some_goal_fact l.run l.settled l.some) (places (fails (last_state l.run)) p.goal))
+      let w = some_each (AreGoalFactLines p l.run) (some_goal_fact l.run l.settled l.some) (places (fails (last_state l.run)) p.goal) in
+      from_run (GoalMissed index) l.run l.went l.through (goal_line p l.run ∷ w.0, (w.0, w.1, refl))
   some_why_of (CostDiffers sum) f =
       let l = led plan.steps f.0 f.1 f.2 in
-      from_run (CostDiffers sum) l.run l.went l.through (cost_lines p l.run, refl)
+      from_run (CostDiffers sum) l.run l.went l.through (cost_lines p plan.cost l.run, refl)
 
 pub some_why : SomeWhy
 some_why p plan fault layered f = some_why_of p plan layered fault f

@@ -1,7 +1,6 @@
 -- What else a step may mean: an operator with a similar name, or another one of its name.
-use Rattle.std.specs.Prelude.{◌≡◌, ℕ, ◌+◌, ◌<◌, ◌==◌, if◌then◌else◌, List, [], ◌∷◌, length, map, position}
+use Rattle.std.specs.Prelude.{◌≡◌, ℕ, ◌+◌, ◌<◌, ◌==◌, ◌&&◌, if◌then◌else◌, List, [], ◌∷◌, length, position}
 use Rattle.std.specs.Prelude.{bytes_eq, slice_index, slice_index_or, Option}
-use Rattle.std.specs.List.{list_all}
 use Rattle.std.specs.Char.{to_ascii_lowercase}
 use Rattle.sas_core.specs.declared.parts.Operator.{Operator}
 use Rattle.sas_core.specs.declared.parts.Parts.{Parts}
@@ -11,15 +10,22 @@ use Rattle.sas_run.specs.Plans.{IsApplicable}
 use Rattle.sas_run.specs.Runs.{Run, state_at}
 use Rattle.sas_plan_reasons.specs.Lowest.{AreLowest}
 
--- a name without the spaces at its end
-abbrev pub trimmed : List ℕ → List ℕ
-trimmed [] = []
-trimmed (byte ∷ bytes) =
-    if list_all (λ b. b == 32) (byte ∷ bytes) then [] else byte ∷ trimmed bytes
+-- a name without the spaces at its front
+abbrev pub after_spaces : List ℕ → List ℕ
+after_spaces [] = []
+after_spaces (byte ∷ bytes) = if byte == 32 then after_spaces bytes else byte ∷ bytes
 
--- the folded name: without the spaces at its end, and with letters from A to Z in lower case
+-- a name without each space that another space follows, or nothing; with A to Z in lower case
+abbrev pub squeezed : List ℕ → List ℕ
+squeezed [] = []
+squeezed (byte ∷ bytes) = if byte == 32 && (slice_index_or bytes 0 32 == 32)
+    then squeezed bytes
+    else to_ascii_lowercase byte ∷ squeezed bytes
+
+-- the folded name: without spaces at its front and end, with one space for each other run of
+-- spaces, and with letters from A to Z in lower case
 abbrev pub folded : List ℕ → List ℕ
-folded name = map to_ascii_lowercase (trimmed name)
+folded name = squeezed (after_spaces name)
 
 -- the lowest operator whose folded name is that of this name, if there is one
 abbrev pub similar_operator : Parts → List ℕ → Option ℕ

@@ -43,10 +43,18 @@ SameSince = (run : Run) (var since : ℕ) → IsSince run var since → (later :
 
 -- ---- similar names
 
--- folding ignores a space at the end of a name, and folding a folded name changes nothing
+-- folding ignores a space at the front of a name, one at its end, and one behind another space
+abbrev pub FrontFolds : Type 0
+FrontFolds = (name : List ℕ) → folded (32 ∷ name) ≡ folded name
+
 abbrev pub SpaceFolds : Type 0
 SpaceFolds = (name : List ℕ) → folded (name ++ 32 ∷ []) ≡ folded name
 
+abbrev pub DoubleFolds : Type 0
+DoubleFolds = (front behind : List ℕ)
+    → folded (front ++ 32 ∷ 32 ∷ behind) ≡ folded (front ++ 32 ∷ behind)
+
+-- folding a folded name changes nothing
 abbrev pub FoldsOnce : Type 0
 FoldsOnce = (name : List ℕ) → folded (folded name) ≡ folded name
 

@@ -18,12 +18,12 @@ use Rattle.sas_plan_reasons.specs.Origins.{is_reported, AreOrigins}
 use Rattle.sas_plan_reasons.specs.Retracing.{HaveSince}
 
 -- the run's last state is noted, and since when its values hold
-pub record IsBehind (p : Parts) (noted : PlanHistory) (run : Run) : Type 0 where
+pub record IsBehind (p : Parts) (history : PlanHistory) (run : Run) : Type 0 where
   pub through : StepsSucceed p run
-  pub last : noted.last ≡ last_state run
-  pub state : IsState p.variables noted.last
-  pub settled : IsSettled p noted.last
-  pub since : HaveSince p run noted.since.items
+  pub last : history.last ≡ last_state run
+  pub state : IsState p.variables history.last
+  pub settled : IsSettled p history.last
+  pub since : HaveSince p run history.since.items
 
 -- a line for each rule of the variable that can fire, with its first condition that fails
 abbrev pub lines_of_keepers : Parts → List ℕ → ℕ → List Line
@@ -49,15 +49,15 @@ pub record IsReport (p : Parts) (s : List ℕ) (report : Report) : Type 0 where
 
 -- it is a report of the last state of a run
 abbrev pub IsReportOf : Parts → PlanHistory → Report → Type 0
-IsReportOf p noted report = (run : Run) × IsBehind p noted run × IsReport p noted.last report
+IsReportOf p history report = (run : Run) × IsBehind p history run × IsReport p history.last report
 
 -- such lines of a run are added, each line of a rule once
 abbrev pub AddsLines : Parts → PlanHistory → Report → Report → (Run → List Line → Type 0) → Type 0
-AddsLines p noted old new Are = (run : Run) → IsBehind p noted run → IsReport p noted.last old
+AddsLines p history old new Are = (run : Run) → IsBehind p history run → IsReport p history.last old
     → (more : List Line)
     × Are run more
     × (new.lines ≡ with_lines old.lines more)
-    × IsReport p noted.last new
+    × IsReport p history.last new
 
 -- such lines, each line of a rule once
 abbrev pub ReportsOnce : List Line → (List Line → Type 0) → Type 0

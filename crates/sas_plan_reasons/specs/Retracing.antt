@@ -22,17 +22,18 @@ pub record HaveSince (p : Parts) (run : Run) (since : List ℕ) : Type 0 where
   pub each : (var : ℕ) → var < length p.variables → IsSince run var (slice_index since var)
 
 -- this is noted of the run of a plan, up to its fault
-pub record Retraces (p : Parts) (plan : PlanParts) (noted : PlanHistory) (run : Run) : Type 0 where
+pub record Retraces (p : Parts) (plan : PlanParts) (history : PlanHistory) (run : Run)
+    : Type 0 where
   pub through : StepsSucceed p run
-  pub ends : RunEndsWith p plan run (Some noted.fault)
-  pub operators : noted.operators.items ≡ run.operators
-  pub last : noted.last ≡ last_state run
-  pub since : HaveSince p run noted.since.items
-  pub other : IsOtherIfAny p run noted.other
+  pub ends : RunEndsWith p plan run (Some history.fault)
+  pub operators : history.operators.items ≡ run.operators
+  pub last : history.last ≡ last_state run
+  pub since : HaveSince p run history.since.items
+  pub other : IsOtherIfAny p run history.other
 
 -- so it is of some run
 abbrev pub IsRetraced : Parts → PlanParts → PlanHistory → Type 0
-IsRetraced p plan noted = (run : Run) × Retraces p plan noted run
+IsRetraced p plan history = (run : Run) × Retraces p plan history run
 
 -- the run of its first k steps
 abbrev pub first_steps : Run → ℕ → Run

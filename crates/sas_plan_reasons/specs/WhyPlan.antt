@@ -1,5 +1,6 @@
 -- Why a plan isn't valid: the lines of reasons after its verdict.
-use Rattle.std.specs.Prelude.{◌≡◌, ◌≢◌, ◌⊎◌, ℕ, ◌-◌, ◌<◌, List, [], ◌∷◌, ◌++◌, length, filter, sum_by, slice_index_or, bytes_eq}
+use Rattle.std.specs.Prelude.{◌≡◌, ◌≢◌, ◌⊎◌, ℕ, ◌-◌, ◌<◌, ◌==◌, Bool, true, false, if◌then◌else◌, List, [], ◌∷◌, ◌++◌, length, filter, sum_by, slice_index_or, bytes_eq}
+use Rattle.std.specs.List.{count_by}
 use Rattle.std.specs.Option.{option_map_or}
 use Rattle.sas_core.specs.declared.parts.Fact.{Fact}
 use Rattle.sas_core.specs.declared.parts.Operator.{Operator}
@@ -14,6 +15,7 @@ use Rattle.sas_run.specs.declared.plan_check.PlanFault.TheVariants.{Memory, NoOp
 use Rattle.sas_answers.specs.declared.line.Line.{Line}
 use Rattle.sas_answers.specs.declared.line.Line.TheVariants as line
 use Rattle.sas_plan_reasons.specs.Lines.{with_lines, LineThen, LinesOfEach}
+use Rattle.sas_run.specs.Named.{nameless_steps}
 use Rattle.sas_run.specs.Runs.{Run, last_state, StepsSucceed, steps_before}
 use Rattle.sas_plan_reasons.specs.Lowest.{AreLowest}
 use Rattle.sas_plan_reasons.specs.MayMean.{similar_operator, IsOther, MayMean}
@@ -25,6 +27,12 @@ use Rattle.sas_plan_reasons.specs.Cause.{fails, IsCause}
 abbrev pub similar_name_lines : Parts → List ℕ → List Line
 similar_name_lines p name =
     option_map_or (λ operator. line.SimilarOperator operator ∷ []) (similar_operator p name) []
+
+-- the step, such an operator if any, and how many of the plan's steps name no operator
+abbrev pub nameless_lines : Parts → PlanParts → ℕ → List ℕ → List Line
+nameless_lines p plan step name =
+    line.Step step ∷ similar_name_lines p name
+    ++ line.NamelessSteps (nameless_steps p plan.steps) (length plan.steps) ∷ []
 
 -- ---- not applicable
 
@@ -70,10 +78,11 @@ abbrev pub AreGoalFactLines : Parts → Run → ℕ → List Line → Type 0
 AreGoalFactLines p run index lines =
     LineThen (line.GoalFact index) (IsCause p run (goal_fact_at p index)) lines
 
--- these lines for each goal fact that doesn't hold
+-- how many facts of the goal don't hold, and these lines for each of them
 abbrev pub AreGoalLines : Parts → Run → List Line → Type 0
-AreGoalLines p run lines =
-    LinesOfEach (AreGoalFactLines p run) (places (fails (last_state run)) p.goal) lines
+AreGoalLines p run lines = LineThen
+    (line.FailingGoalFacts (count_by (fails (last_state run)) p.goal) (length p.goal))
+    (LinesOfEach (AreGoalFactLines p run) (places (fails (last_state run)) p.goal)) lines
 
 -- ---- cost differs
 
@@ -81,11 +90,18 @@ AreGoalLines p run lines =
 abbrev pub cost_lines_sum : Parts → List ℕ → ℕ
 cost_lines_sum p operators = sum_by (λ operator. (operator_at p operator).cost) operators
 
--- the task's metric, the number of steps, and this sum
-abbrev pub cost_lines : Parts → Run → List Line
-cost_lines p run =
+-- a hint if the plan has the cost of its steps under the other metric: the sum of their cost lines
+-- where the metric is 0 (`false`), their number where it is 1
+abbrev pub cost_hint : (metric : Bool) (cost steps sum : ℕ) → List Line
+cost_hint false cost steps sum = if cost == sum then line.UnitCostHint ∷ [] else []
+cost_hint true cost steps sum = if cost == steps then line.CostLineHint ∷ [] else []
+
+-- the task's metric, the number of steps, this sum, and a hint if there is one
+abbrev pub cost_lines : Parts → ℕ → Run → List Line
+cost_lines p cost run =
     line.Metric ∷ line.Steps (length run.steps)
-    ∷ line.CostLines (cost_lines_sum p run.operators) ∷ []
+    ∷ line.CostLines (cost_lines_sum p run.operators)
+    ∷ cost_hint p.metric cost (length run.steps) (cost_lines_sum p run.operators)
 
 -- ---- after each of these
 
@@ -100,13 +116,13 @@ AreCouldBeLines p run lines =
 -- the lines for this fault, after a run of the steps before it (`Memory` is no fault of a plan)
 abbrev pub AreFaultLines : Parts → PlanParts → Run → PlanFault → List Line → Type 0
 AreFaultLines p plan run (NoOperator step) lines =
-    lines ≡ line.Step step ∷ similar_name_lines p (step_at plan (step - 1))
+    lines ≡ nameless_lines p plan step (step_at plan (step - 1))
 AreFaultLines p plan run (NotApplicable step) lines =
     LineThen (line.Step step) (AreOperatorLines p run (step_at plan (step - 1))) lines
 AreFaultLines p plan run (Conflict step operator) lines =
     LineThen (line.Step step) (AreConflictLines p (last_state run) operator) lines
 AreFaultLines p plan run (GoalMissed index) lines = AreGoalLines p run lines
-AreFaultLines p plan run (CostDiffers sum) lines = lines ≡ cost_lines p run
+AreFaultLines p plan run (CostDiffers sum) lines = lines ≡ cost_lines p plan.cost run
 AreFaultLines p plan run Memory lines = ⊥
 
 -- the lines of reasons after the verdict on a plan with this fault

@@ -19,36 +19,40 @@ use std::alloc::AllocError;
 /// Reports the cause of a fact that fails in the last state.
 pub fn report_cause<T: Grounded>(
     task: &Layered<T>,
-    noted: &PlanHistory,
+    history: &PlanHistory,
     fact: Fact,
     report: &mut Report,
 ) -> Result<(), AllocError>
     requires fact { fact.var < length task.now.variables }
-    requires report { IsReportOf task.now noted.now report.old }
-    ensures { OnOk result (AddsLines task.now noted.now report.old report.new
+    requires report { IsReportOf task.now history.now report.old }
+    ensures { OnOk result (AddsLines task.now history.now report.old report.new
         (λ run. IsCause task.now run fact)) }
 {
-    report_values(noted, fact, &mut report.lines)?;
-    report_givers(task, noted, fact.var, report)?;
+    report_values(history, fact, &mut report.lines)?;
+    report_givers(task, history, fact.var, report)?;
     if requires_rules(task, fact) {
-        report_keepers(task, noted, fact, report)
+        report_keepers(task, history, fact, report)
     } else {
         Ok(())
     }
 }
 
 /// Reports the required fact, the actual one, and since when it holds.
-fn report_values(noted: &PlanHistory, fact: Fact, lines: &mut Items<Line>) -> Result<(), AllocError>
-    requires state { fact.var < length noted.now.last }
-    requires since { fact.var < length noted.now.since.items }
+fn report_values(
+    history: &PlanHistory,
+    fact: Fact,
+    lines: &mut Items<Line>,
+) -> Result<(), AllocError>
+    requires state { fact.var < length history.now.last }
+    requires since { fact.var < length history.now.since.items }
     ensures { OnOk result (lines.new ≡ lines.old
         ++ (Line.Requires fact
-        ∷ Line.Actual (record { var = fact.var; value = slice_index noted.now.last fact.var })
-        ∷ since_line (slice_index noted.now.since.items fact.var) ∷ [])) }
+        ∷ Line.Actual (record { var = fact.var; value = slice_index history.now.last fact.var })
+        ∷ since_line (slice_index history.now.since.items fact.var) ∷ [])) }
 {
     let var = fact.var;
-    let value = noted.last.value(var);
-    let step = noted.since[var as usize];
+    let value = history.last.value(var);
+    let step = history.since[var as usize];
     let since = if step == 0 {
         Line::SinceInitialState
     } else {
@@ -66,19 +70,19 @@ fn report_values(noted: &PlanHistory, fact: Fact, lines: &mut Items<Line>) -> Re
 /// Reports which rules derive a variable's value, if it isn't its default.
 fn report_givers<T: Grounded>(
     task: &Layered<T>,
-    noted: &PlanHistory,
+    history: &PlanHistory,
     var: u32,
     report: &mut Report,
 ) -> Result<(), AllocError>
     requires var { var < length task.now.variables }
-    requires report { IsReportOf task.now noted.now report.old }
-    ensures { OnOk result (AddsLines task.now noted.now report.old report.new
+    requires report { IsReportOf task.now history.now report.old }
+    ensures { OnOk result (AddsLines task.now history.now report.old report.new
         (λ run. AreDerivationLines
         (is_given task.now (last_state run) var) task.now (last_state run) var)) }
 {
     // By its contract the task is well ranged and layered.
     let _ = task.task();
-    let value = noted.last.value(var);
+    let value = history.last.value(var);
     if !requires_rules(task, Fact { var, value }) {
         return Ok(());
     }
@@ -103,13 +107,13 @@ fn push_givers(rules: &[u32], lines: &mut Items<Line>) -> Result<(), AllocError>
 /// Reports what the rules of the fact's variable require that fails, or that none of them derives the fact's value.
 fn report_keepers<T: Grounded>(
     task: &Layered<T>,
-    noted: &PlanHistory,
+    history: &PlanHistory,
     fact: Fact,
     report: &mut Report,
 ) -> Result<(), AllocError>
     requires fact { fact.var < length task.now.variables }
-    requires report { IsReportOf task.now noted.now report.old }
-    ensures { OnOk result (AddsLines task.now noted.now report.old report.new
+    requires report { IsReportOf task.now history.now report.old }
+    ensures { OnOk result (AddsLines task.now history.now report.old report.new
         (λ run lines. lines ≡ keeping_lines task.now (last_state run) fact)) }
 {
     // By its contract the task is well ranged and layered.
@@ -123,38 +127,34 @@ fn report_keepers<T: Grounded>(
         return Ok(());
     }
     report.kept.set(var, true);
-    push_keepers(task, &noted.last, rules, &mut report.lines)
+    push_keepers(task, &history.last, rules, &mut report.lines)
 }
 
 /// Returns whether the rules of the fact's variable that can fire derive the fact's value. All of them derive the same.
-fn give_value<T: Grounded>(task: &Layered<T>, rules: &[u32], fact: Fact) -> bool
-    requires { rules.now ≡ places (can_give task.now fact.var) task.now.rules }
-    ensures { result ≡ can_be_given task.now fact }
+fn give_value<T: Grounded>(layered: &Layered<T>, rules: &[u32], fact: Fact) -> bool
+    requires { rules.now ≡ places (can_give layered.now fact.var) layered.now.rules }
+    ensures { result ≡ can_be_given layered.now fact }
 {
-    // By its contract the task is well ranged and layered.
-    let _ = task.task();
     match rules.first() {
-        Some(rule) => task.rule_change(*rule).new == fact.value,
+        Some(rule) => layered.task().rule_change(*rule).new == fact.value,
         None => false,
     }
 }
 
 /// Adds, for each of the rules, a line for its first condition that fails.
 fn push_keepers<T: Grounded>(
-    task: &Layered<T>,
+    layered: &Layered<T>,
     state: &State,
     rules: &[u32],
     lines: &mut Items<Line>,
 ) -> Result<(), AllocError>
-    requires state { IsState task.now.variables state.now }
-    requires rules { All (λ (rule : ℕ). rule < length task.now.rules) rules.now }
+    requires state { IsState layered.now.variables state.now }
+    requires rules { All (λ (rule : ℕ). rule < length layered.now.rules) rules.now }
     ensures { OnOk result (lines.new
-        ≡ lines.old ++ flat_map (failing_lines task.now state.now) rules.now) }
+        ≡ lines.old ++ flat_map (failing_lines layered.now state.now) rules.now) }
 {
-    // By its contract the task is well ranged and layered.
-    let _ = task.task();
     for rule in rules {
-        if let Some(fact) = first_failing(state, task.rule_conditions(*rule)) {
+        if let Some(fact) = first_failing(state, layered.task().rule_conditions(*rule)) {
             lines.push(Line::RuleRequires { rule: *rule, fact })?;
         }
     }

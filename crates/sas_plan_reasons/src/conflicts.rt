@@ -45,25 +45,24 @@ pub fn conflict<T: Grounded>(
 /// Returns the lowest effect that contradicts this one, if there is one. `firsts` has, for each variable, the first
 /// effect before this one that fires on it. If no effect contradicts this one, it is noted there too.
 fn contradicting<T: Grounded>(
-    task: &Layered<T>,
+    layered: &Layered<T>,
     operator: u32,
     effect: u32,
     state: &State,
     firsts: &mut Items<Option<u32>>,
 ) -> Option<u32>
-    requires operator { operator < length task.now.operators }
-    requires effect { effect < length (operator_at task.now operator).effects }
-    requires state { IsState task.now.variables state.now }
-    requires firsts { AreFirstEffects task.now state.now (operator_at task.now operator)
+    requires operator { operator < length layered.now.operators }
+    requires effect { effect < length (operator_at layered.now operator).effects }
+    requires state { IsState layered.now.variables state.now }
+    requires firsts { AreFirstEffects layered.now state.now (operator_at layered.now operator)
         effect firsts.old }
     ensures some { IfSome result
-        (IsLowest (ConflictsWith state.now (operator_at task.now operator) effect)) }
+        (IsLowest (ConflictsWith state.now (operator_at layered.now operator) effect)) }
     ensures none { IfNone result
-        (AreFirstEffects task.now state.now
-        (operator_at task.now operator) (effect + 1) firsts.new) }
+        (AreFirstEffects layered.now state.now
+        (operator_at layered.now operator) (effect + 1) firsts.new) }
 {
-    // By its contract the task is well ranged and layered.
-    let _ = task.task();
+    let task = layered.task();
     if !state.holds_all(task.effect_conditions(operator, effect)) {
         return None;
     }

@@ -1,12 +1,15 @@
 // Why a plan isn't valid.
-ghost use Rattle.std.specs.Prelude.{◌≡◌, ◌<◌, ◌-◌, ◌∷◌, ℕ, length, All, IfOk, OnOk};
+ghost use Rattle.std.specs.Prelude.{◌≡◌, ◌<◌, ◌-◌, ◌∷◌, ◌++◌, ℕ, length, All, IfOk, OnOk};
+ghost use Rattle.std.specs.List.{count_by};
+ghost use Rattle.sas_core.specs.declared.parts.Fact.{Fact};
 ghost use Rattle.sas_core.specs.Grounded.{operator_at};
 ghost use Rattle.sas_core.specs.Variables.{IsState};
 ghost use Rattle.sas_meaning.specs.Steps.{Agree};
+ghost use Rattle.sas_plan_reasons.specs.Cause.{fails};
 ghost use Rattle.sas_plan_reasons.specs.Lines.{LineThen};
 ghost use Rattle.sas_run.specs.Runs.{Run};
-ghost use Rattle.sas_plan_reasons.specs.WhyPlan.{similar_name_lines, AreFailedPreconditionLines, AreOperatorLines, AreConflictLines};
-ghost use Rattle.sas_plan_reasons.specs.WhyPlan.{AreGoalLines, AreFaultLines, IsWhy, cost_lines, cost_lines_sum};
+ghost use Rattle.sas_plan_reasons.specs.WhyPlan.{nameless_lines, AreFailedPreconditionLines, AreOperatorLines, AreConflictLines};
+ghost use Rattle.sas_plan_reasons.specs.WhyPlan.{AreGoalLines, AreFaultLines, IsWhy, cost_hint, cost_lines, cost_lines_sum};
 ghost use Rattle.sas_plan_reasons.specs.Retracing.{Retraces, IsRetraced};
 ghost use Rattle.sas_plan_reasons.specs.Report.{IsBehind, IsReportOf, AddsLines, ReportsOnce};
 
@@ -16,24 +19,25 @@ use crate::likeness::like;
 use crate::plan_history::PlanHistory;
 use crate::report::Report;
 use sas_answers::Line;
-use sas_core::{Grounded, Items, Stepwise};
+use sas_core::{Fact, Grounded, Items, Stepwise};
+use sas_flat::FlatTask;
 use sas_meaning::{Layered, Preconditions, State};
-use sas_run::PlanFault;
+use sas_run::{PlanFault, count_nameless};
 use std::alloc::{AllocError, Global};
 
 /// Returns why the plan isn't valid: the lines of reasons that follow its verdict.
-pub fn reasons<T: Grounded, P: Stepwise>(
+pub fn reasons<P: Stepwise>(
     alloc: Global,
-    layered: &Layered<T>,
+    layered: &Layered<FlatTask>,
     plan: &P,
-    noted: &PlanHistory,
+    history: &PlanHistory,
 ) -> Result<Vec<Line>, AllocError>
-    requires { IsRetraced layered.now (P.says plan.now) noted.now }
+    requires { IsRetraced layered.now (P.says plan.now) history.now }
     ensures { IfOk result (λ lines.
-        IsWhy layered.now (P.says plan.now) noted.now.fault lines.items) }
+        IsWhy layered.now (P.says plan.now) history.now.fault lines.items) }
 {
-    let mut lines = lines_of_fault(alloc, layered, plan, noted)?;
-    if let Some(other) = noted.other {
+    let mut lines = lines_of_fault(alloc, layered, plan, history)?;
+    if let Some(other) = history.other {
         lines.push(Line::CouldBe {
             step: other.step,
             operator: other.operator,
@@ -43,49 +47,58 @@ pub fn reasons<T: Grounded, P: Stepwise>(
 }
 
 /// Returns the lines of the fault.
-fn lines_of_fault<T: Grounded, P: Stepwise>(
+fn lines_of_fault<P: Stepwise>(
     alloc: Global,
-    layered: &Layered<T>,
+    layered: &Layered<FlatTask>,
     plan: &P,
-    noted: &PlanHistory,
+    history: &PlanHistory,
 ) -> Result<Items<Line>, AllocError>
-    requires { IsRetraced layered.now (P.says plan.now) noted.now }
+    requires { IsRetraced layered.now (P.says plan.now) history.now }
     ensures { IfOk result (λ lines. (run : Run)
-        → Retraces layered.now (P.says plan.now) noted.now run
-        → ReportsOnce lines (AreFaultLines layered.now (P.says plan.now) run noted.now.fault)) }
+        → Retraces layered.now (P.says plan.now) history.now run
+        → ReportsOnce lines (AreFaultLines layered.now (P.says plan.now) run history.now.fault)) }
 {
     // By its contract the task is well ranged and layered.
     let _ = layered.task();
-    match noted.fault {
+    match history.fault {
         PlanFault::Memory => unreachable!(),
-        PlanFault::NoOperator { step } => unknown(alloc, layered, plan.step(step - 1), step),
+        PlanFault::NoOperator { step } => unknown(alloc, layered, plan, plan.step(step - 1), step),
         PlanFault::NotApplicable { step } => {
-            blocked(alloc, layered, noted, plan.step(step - 1), step)
+            blocked(alloc, layered, history, plan.step(step - 1), step)
         }
         PlanFault::Conflict { step, operator } => {
-            conflicting(alloc, layered, &noted.last, step, operator)
+            conflicting(alloc, layered, &history.last, step, operator)
         }
-        PlanFault::GoalMissed { .. } => missed(alloc, layered, noted),
-        PlanFault::CostDiffers { .. } => costs(alloc, layered, noted.operators.as_slice()),
+        PlanFault::GoalMissed { .. } => missed(alloc, layered, history),
+        PlanFault::CostDiffers { .. } => {
+            costs(alloc, layered, history.operators.as_slice(), plan.cost())
+        }
     }
 }
 
-/// Returns the lines for a step whose name no operator has: the step, and an operator of nearly that name.
-#[tactic(auto, using(crate::proofs::Faulty::unknown_reported))]
-fn unknown<T: Grounded>(
+/// Returns the lines for a step whose name no operator has: the step, an operator of a similar name, and how many steps name no operator.
+#[tactic(auto, using(crate::proofs::Faulty::nameless_reported))]
+fn unknown<T: Grounded, P: Stepwise>(
     alloc: Global,
     task: &Layered<T>,
+    plan: &P,
     name: &[u8],
     step: usize,
 ) -> Result<Items<Line>, AllocError>
-    ensures { IfOk result (λ lines.
-        ReportsOnce lines (λ its.
-        its ≡ Line.Step step ∷ similar_name_lines task.now name.now)) }
+    ensures { IfOk result (λ lines. ReportsOnce lines (λ its.
+        its ≡ nameless_lines task.now (P.says plan.now) step name.now)) }
 {
+    let first = Line::Step { step };
+    let all = Line::NamelessSteps {
+        count: count_nameless(alloc, task, plan)?,
+        steps: plan.steps(),
+    };
     let mut lines = Items::new(alloc);
-    lines.push(Line::Step { step })?;
-    if let Some(operator) = like(task, name) {
-        lines.push(Line::SimilarOperator { operator })?;
+    match like(task, name) {
+        Some(operator) => {
+            lines.extend_from_slice(&[first, Line::SimilarOperator { operator }, all])?
+        }
+        None => lines.extend_from_slice(&[first, all])?,
     }
     Ok(lines)
 }
@@ -95,35 +108,35 @@ fn unknown<T: Grounded>(
 fn blocked<T: Grounded>(
     alloc: Global,
     task: &Layered<T>,
-    noted: &PlanHistory,
+    history: &PlanHistory,
     name: &[u8],
     step: usize,
 ) -> Result<Items<Line>, AllocError>
-    requires { (run : Run) × IsBehind task.now noted.now run }
-    ensures { IfOk result (λ lines. (run : Run) → IsBehind task.now noted.now run
+    requires { (run : Run) × IsBehind task.now history.now run }
+    ensures { IfOk result (λ lines. (run : Run) → IsBehind task.now history.now run
         → ReportsOnce lines (LineThen (Line.Step step) (AreOperatorLines task.now run name.now))) }
 {
-    let mut report = Report::new(alloc, task, &noted.last)?;
-    report_blocked(task, noted, name, step, &mut report)?;
+    let mut report = Report::new(alloc, task, &history.last)?;
+    report_blocked(task, history, name, step, &mut report)?;
     Ok(report.into_lines())
 }
 
 /// Reports the step, and why each operator of its name isn't applicable.
 fn report_blocked<T: Grounded>(
     task: &Layered<T>,
-    noted: &PlanHistory,
+    history: &PlanHistory,
     name: &[u8],
     step: usize,
     report: &mut Report,
 ) -> Result<(), AllocError>
-    requires { IsReportOf task.now noted.now report.old }
-    ensures { OnOk result (AddsLines task.now noted.now report.old report.new
+    requires { IsReportOf task.now history.now report.old }
+    ensures { OnOk result (AddsLines task.now history.now report.old report.new
         (λ run. LineThen (Line.Step step) (AreOperatorLines task.now run name.now))) }
 {
     report.lines.push(Line::Step { step })?;
     for operator in 0..task.operators() {
         if task.name(operator) == name {
-            report_inapplicable(task, noted, operator, report)?;
+            report_inapplicable(task, history, operator, report)?;
         }
     }
     Ok(())
@@ -131,22 +144,20 @@ fn report_blocked<T: Grounded>(
 
 /// Reports the operator, and the cause of each of its preconditions that fails.
 fn report_inapplicable<T: Grounded>(
-    task: &Layered<T>,
-    noted: &PlanHistory,
+    layered: &Layered<T>,
+    history: &PlanHistory,
     operator: u32,
     report: &mut Report,
 ) -> Result<(), AllocError>
-    requires operator { operator < length task.now.operators }
-    requires report { IsReportOf task.now noted.now report.old }
-    ensures { OnOk result (AddsLines task.now noted.now report.old report.new
-        (λ run. AreFailedPreconditionLines task.now run operator)) }
+    requires operator { operator < length layered.now.operators }
+    requires report { IsReportOf layered.now history.now report.old }
+    ensures { OnOk result (AddsLines layered.now history.now report.old report.new
+        (λ run. AreFailedPreconditionLines layered.now run operator)) }
 {
-    // By its contract the task is well ranged and layered.
-    let _ = task.task();
     report.lines.push(Line::Operator { operator })?;
-    for fact in Preconditions::new(task, operator) {
-        if noted.last.value(fact.var) != fact.value {
-            report_cause(task, noted, fact, report)?;
+    for fact in Preconditions::new(layered.task(), operator) {
+        if history.last.value(fact.var) != fact.value {
+            report_cause(layered, history, fact, report)?;
         }
     }
     Ok(())
@@ -189,61 +200,100 @@ fn conflicting<T: Grounded>(
 fn missed<T: Grounded>(
     alloc: Global,
     task: &Layered<T>,
-    noted: &PlanHistory,
+    history: &PlanHistory,
 ) -> Result<Items<Line>, AllocError>
-    requires { (run : Run) × IsBehind task.now noted.now run }
-    ensures { IfOk result (λ lines. (run : Run) → IsBehind task.now noted.now run
+    requires { (run : Run) × IsBehind task.now history.now run }
+    ensures { IfOk result (λ lines. (run : Run) → IsBehind task.now history.now run
         → ReportsOnce lines (AreGoalLines task.now run)) }
 {
-    let mut report = Report::new(alloc, task, &noted.last)?;
-    report_missed(task, noted, &mut report)?;
+    let mut report = Report::new(alloc, task, &history.last)?;
+    report_missed(task, history, &mut report)?;
     Ok(report.into_lines())
 }
 
-/// Reports each goal fact that fails, and its cause.
+/// Reports how many goal facts fail, and each of them with its cause.
 fn report_missed<T: Grounded>(
-    task: &Layered<T>,
-    noted: &PlanHistory,
+    layered: &Layered<T>,
+    history: &PlanHistory,
     report: &mut Report,
 ) -> Result<(), AllocError>
-    requires { IsReportOf task.now noted.now report.old }
-    ensures { OnOk result (AddsLines task.now noted.now report.old report.new
-        (AreGoalLines task.now)) }
+    requires { IsReportOf layered.now history.now report.old }
+    ensures { OnOk result (AddsLines layered.now history.now report.old report.new
+        (AreGoalLines layered.now)) }
 {
-    // By its contract the task is well ranged and layered.
-    let _ = task.task();
-    for (index, fact) in task.goal().iter().enumerate() {
-        if noted.last.value(fact.var) != fact.value {
+    let goal = layered.task().goal();
+    report.lines.push(Line::FailingGoalFacts {
+        count: count_failing(&history.last, goal),
+        facts: goal.len(),
+    })?;
+    for (index, fact) in goal.iter().enumerate() {
+        if history.last.value(fact.var) != fact.value {
             report.lines.push(Line::GoalFact {
                 index: index as u32,
             })?;
-            report_cause(task, noted, *fact, report)?;
+            report_cause(layered, history, *fact, report)?;
         }
     }
     Ok(())
 }
 
-/// Returns the lines for a cost that differs: what the plan's cost is made of.
-fn costs<T: Grounded>(
-    alloc: Global,
-    task: &Layered<T>,
-    operators: &[u32],
-) -> Result<Items<Line>, AllocError>
-    requires { All (λ (operator : ℕ). operator < length task.now.operators) operators.now }
-    ensures { IfOk result (λ lines. (run : Run) → operators.now ≡ run.operators
-        → length run.operators ≡ length run.steps → lines ≡ cost_lines task.now run) }
+/// Returns how many of the facts fail in the state.
+fn count_failing(state: &State, facts: &[Fact]) -> usize
+    requires { All (λ (f : Fact). f.var < length state.now) facts.now }
+    ensures { result ≡ count_by (fails state.now) facts.now }
 {
+    let mut count = 0;
+    for fact in facts {
+        if state.value(fact.var) != fact.value {
+            count += 1;
+        }
+    }
+    count
+}
+
+/// Returns the lines for a cost that differs: what the plan's cost is made of, and a hint if it is right under the other metric.
+fn costs(
+    alloc: Global,
+    layered: &Layered<FlatTask>,
+    operators: &[u32],
+    cost: u64,
+) -> Result<Items<Line>, AllocError>
+    requires { All (λ (operator : ℕ). operator < length layered.now.operators) operators.now }
+    ensures { IfOk result (λ lines. (run : Run) → operators.now ≡ run.operators
+        → length run.operators ≡ length run.steps → lines ≡ cost_lines layered.now cost run) }
+{
+    let sum = sum_of_cost_lines(layered, operators);
     let mut lines = Items::new(alloc);
     lines.extend_from_slice(&[
         Line::Metric,
         Line::Steps {
             count: operators.len(),
         },
-        Line::CostLines {
-            sum: sum_of_cost_lines(task, operators),
-        },
+        Line::CostLines { sum },
     ])?;
+    let metric = layered.task().metric();
+    push_cost_hint(metric, cost, operators.len(), sum, &mut lines)?;
     Ok(lines)
+}
+
+/// Adds a hint if the plan's cost is that of its steps under the other metric: `sum` where the metric is 0, `steps` where it is 1.
+fn push_cost_hint(
+    metric: bool,
+    cost: u64,
+    steps: usize,
+    sum: u128,
+    lines: &mut Items<Line>,
+) -> Result<(), AllocError>
+    ensures { OnOk result (lines.new ≡ lines.old ++ cost_hint metric cost steps sum) }
+{
+    if metric {
+        if cost == steps as u64 {
+            lines.push(Line::CostLineHint)?;
+        }
+    } else if u128::from(cost) == sum {
+        lines.push(Line::UnitCostHint)?;
+    }
+    Ok(())
 }
 
 /// Returns the sum of the numbers on the operators' cost lines.

@@ -1,5 +1,5 @@
 // Laws of reasons.
-ghost use Rattle.sas_plan_reasons.specs.ReasonLaws.{SomeSince, OneSince, SameSince, SpaceFolds, FoldsOnce, LowestLike, SomeMayMean, OneMayMean, RankIfDiffers, OneRank, SomeGiver, OneGiver, GiverFires, GiverLooksDown, ItselfIsLast, NoCircle, AllDiffer, SomeDerivation, OneDerivation, OwnRuleIsLast, DefaultIfNotGiven, EachRuleFails, SomePreconditionFails, OperatorsHaveName, FirstGoalFact, SomeConflict, OneConflict, NoneIsLost, RulesStandOnce, SomeWhy, OneWhy};
+ghost use Rattle.sas_plan_reasons.specs.ReasonLaws.{SomeSince, OneSince, SameSince, FrontFolds, SpaceFolds, DoubleFolds, FoldsOnce, LowestLike, SomeMayMean, OneMayMean, RankIfDiffers, OneRank, SomeGiver, OneGiver, GiverFires, GiverLooksDown, ItselfIsLast, NoCircle, AllDiffer, SomeDerivation, OneDerivation, OwnRuleIsLast, DefaultIfNotGiven, EachRuleFails, SomePreconditionFails, OperatorsHaveName, FirstGoalFact, SomeConflict, OneConflict, NoneIsLost, RulesStandOnce, SomeWhy, OneWhy};
 ghost use Rattle.sas_plan_reasons.specs.TraceLaws.{Replays, EndsWithVerdict, CostsAddUp, SomeTrace, OneTrace};
 
 /// Ensures the laws of changes. In a run each variable has exactly one last change, and keeps its value from there on.
@@ -9,11 +9,13 @@ pub fn since_laws()
     ensures same_since { SameSince }
 {}
 
-/// Ensures the laws of similar names. Folding ignores spaces at the end of a name, and folding a folded name changes nothing. The operator
-/// that is reported is the lowest with a similar name, or there is none. Either no step could also mean another operator, or exactly one is
-/// the first, and the lowest such operator is unique.
+/// Ensures the laws of similar names. Folding ignores spaces at the front and at the end of a name, and spaces behind a space. Folding a
+/// folded name changes nothing. The operator that is reported is the lowest with a similar name, or there is none. Either no step could
+/// also mean another operator, or exactly one is the first, and the lowest such operator is unique.
 pub fn name_laws()
+    ensures front { FrontFolds }
     ensures space { SpaceFolds }
+    ensures double { DoubleFolds }
     ensures once { FoldsOnce }
     ensures lowest_like { LowestLike }
     ensures some_other { SomeMayMean }

@@ -64,16 +64,15 @@ fn all_rules<T: Grounded>(alloc: Global, task: &Layered<T>) -> Result<Vec<u32>, 
 
 impl OriginRounds {
     /// Returns the rounds before the first one.
-    fn new<T: Grounded>(alloc: Global, task: &Layered<T>) -> Result<OriginRounds, AllocError>
-        ensures { IfOk result (λ rounds. AreBefore task.now rounds) }
+    fn new<T: Grounded>(alloc: Global, layered: &Layered<T>) -> Result<OriginRounds, AllocError>
+        ensures { IfOk result (λ rounds. AreBefore layered.now rounds) }
     {
-        // By its contract the task is well ranged and layered.
-        let _ = task.task();
+        let task = layered.task();
         Ok(OriginRounds {
             over: 0,
             origins: vec![in alloc; None; task.variables() as usize]?,
             passed: vec![in alloc; 0; task.rules() as usize]?,
-            requiring: index_of_all(alloc, task)?,
+            requiring: index_of_all(alloc, layered)?,
             next: Vec::new(alloc),
         })
     }
@@ -125,20 +124,20 @@ impl OriginRounds {
     /// Looks at the rule: where it fires in this round, its variable is reached.
     fn look_at<T: Grounded>(
         &mut self,
-        task: &Layered<T>,
+        layered: &Layered<T>,
         state: &State,
         rule: u32,
     ) -> Result<(), AllocError>
-        requires state { IsState task.now.variables state.now }
-        requires settled { IsSettled task.now state.now }
-        requires rule { rule < length task.now.rules }
-        requires round { (looked : List ℕ) × InRound task.now state.now self.old looked }
-        ensures looked { OnOk result ((looked : List ℕ) → InRound task.now state.now self.old looked
-            → InRound task.now state.now self.new (looked ++ rule ∷ [])) }
+        requires state { IsState layered.now.variables state.now }
+        requires settled { IsSettled layered.now state.now }
+        requires rule { rule < length layered.now.rules }
+        requires round { (looked : List ℕ) × InRound layered.now state.now self.old looked }
+        ensures looked { OnOk result ((looked : List ℕ)
+            → InRound layered.now state.now self.old looked
+            → InRound layered.now state.now self.new (looked ++ rule ∷ [])) }
         ensures goes_on { OnOk result (ContinuesRound self.old self.new) }
     {
-        // By its contract the task is well ranged and layered.
-        let _ = task.task();
+        let task = layered.task();
         let change = task.rule_change(rule);
         let Some(layer) = task.layer(change.var) else {
             return Ok(());
@@ -146,7 +145,7 @@ impl OriginRounds {
         if change.new == task.initial_value(change.var) {
             return Ok(());
         }
-        let place = self.first_open(task, state, layer, rule);
+        let place = self.first_open(layered, state, layer, rule);
         self.passed[rule as usize] = place;
         if place < task.rule_conditions(rule).len() {
             return Ok(());
@@ -158,24 +157,22 @@ impl OriginRounds {
     /// number of its conditions. Those that are known to hold aren't looked at again.
     fn first_open<T: Grounded>(
         &self,
-        task: &Layered<T>,
+        layered: &Layered<T>,
         state: &State,
         layer: u32,
         rule: u32,
     ) -> usize
-        requires state { IsState task.now.variables state.now }
-        requires settled { IsSettled task.now state.now }
-        requires rule { rule < length task.now.rules }
-        requires at { AtRound task.now state.now self.now }
-        ensures { IsFirstOpen task.now layer state.now self.now.over
-            (rule_at task.now rule).conditions (slice_index self.now.passed.items rule) result }
+        requires state { IsState layered.now.variables state.now }
+        requires settled { IsSettled layered.now state.now }
+        requires rule { rule < length layered.now.rules }
+        requires at { AtRound layered.now state.now self.now }
+        ensures { IsFirstOpen layered.now layer state.now self.now.over
+            (rule_at layered.now rule).conditions (slice_index self.now.passed.items rule) result }
     {
-        // By its contract the task is well ranged and layered.
-        let _ = task.task();
-        let conditions = task.rule_conditions(rule);
+        let conditions = layered.task().rule_conditions(rule);
         let mut place = self.passed.as_slice()[rule as usize];
         while place < conditions.len()
-            && self.value(task, state, layer, conditions[place].var) == conditions[place].value
+            && self.value(layered, state, layer, conditions[place].var) == conditions[place].value
         {
             place += 1;
         }
@@ -184,15 +181,15 @@ impl OriginRounds {
 
     /// Returns the value of the variable for the rules of the layer in this round. It is the default where the variable
     /// is on this layer and wasn't reached in the rounds before.
-    fn value<T: Grounded>(&self, task: &Layered<T>, state: &State, layer: u32, var: u32) -> u32
-        requires state { IsState task.now.variables state.now }
-        requires settled { IsSettled task.now state.now }
-        requires var { var < length task.now.variables }
-        requires known { OriginsUpToRound task.now state.now self.now.over self.now.origins.items }
-        ensures { result ≡ value_in_round task.now layer state.now self.now.over var }
+    fn value<T: Grounded>(&self, layered: &Layered<T>, state: &State, layer: u32, var: u32) -> u32
+        requires state { IsState layered.now.variables state.now }
+        requires settled { IsSettled layered.now state.now }
+        requires var { var < length layered.now.variables }
+        requires known { OriginsUpToRound layered.now state.now
+            self.now.over self.now.origins.items }
+        ensures { result ≡ value_in_round layered.now layer state.now self.now.over var }
     {
-        // By its contract the task is well ranged and layered.
-        let _ = task.task();
+        let task = layered.task();
         if task.layer(var) == Some(layer) && !self.is_reached(var) {
             task.initial_value(var)
         } else {

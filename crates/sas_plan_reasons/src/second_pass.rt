@@ -30,7 +30,7 @@ pub fn retrace<E: Settle<T> + Drop, T: Grounded, P: Stepwise>(
 ) -> Result<PlanHistory, AllocError>
     requires { IsFound execution.task execution.plan (Some fault) execution }
     ensures retraced { IfOk result (IsRetraced execution.entry.task execution.entry.plan) }
-    ensures fault { IfOk result (λ noted. noted.fault ≡ fault) }
+    ensures fault { IfOk result (λ history. history.fault ≡ fault) }
 {
     let mut notes = RunNotes {
         changes: Changes::new(alloc, execution.state())?,

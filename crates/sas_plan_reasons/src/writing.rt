@@ -59,9 +59,9 @@ fn explain_plan(
             explain_valid(alloc, plan)
         }
         Some(fault) => {
-            let noted = retrace(alloc, execution, fault)?;
-            let explained = explain_fault(alloc, task, plan, &noted);
-            drop(noted);
+            let history = retrace(alloc, execution, fault)?;
+            let explained = explain_fault(alloc, task, plan, &history);
+            drop(history);
             explained
         }
     }
@@ -80,12 +80,12 @@ fn explain_fault(
     alloc: Global,
     task: &Layered<FlatTask>,
     plan: &FlatPlan,
-    noted: &PlanHistory,
+    history: &PlanHistory,
 ) -> Result<(Answer, Vec<Line>), AllocError>
-    requires { IsRetraced task.now plan.now noted.now }
+    requires { IsRetraced task.now plan.now history.now }
     ensures { IfOk result (λ found. MakeAnswer task.now plan.now found.0 found.1.items) }
 {
-    let lines = reasons(alloc, task, plan, noted)?;
-    let verdict = answer_fault(alloc, plan.cost(), noted.fault)?;
+    let lines = reasons(alloc, task, plan, history)?;
+    let verdict = answer_fault(alloc, plan.cost(), history.fault)?;
     Ok((verdict, lines))
 }

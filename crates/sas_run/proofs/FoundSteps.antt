@@ -1,5 +1,5 @@
 -- The operators that are found for the names of steps.
-use Rattle.sas_run.proofs.Imports.{◌≡◌, ℕ, ◌+◌, ◌<◌, List, [], length, get_or, None, ap, subst, ◌∙◌, arith, Parts, operator_at, Chains, StepNames, IsNextNamed, IsLowestNamed, AreFirsts, value_of, AreStepNames, step_names, AreChains, AreFound, HaveChains}
+use Rattle.sas_run.proofs.Imports.{◌≡◌, ℕ, suc, ◌+◌, ◌<◌, Bool, not, List, [], ◌∷◌, length, get_or, Option, None, Some, is_some, bytes_eq, refl, sym, ap, subst, ◌∙◌, inl, inr, arith, common_steps, cases_Bool, get_or_default, bytes_eq-Decides, list_any_none, list_any_at, count_by, Operator, Parts, operator_at, Chains, StepNames, is_nameless, nameless_steps, IsNextNamed, IsLowestNamed, AreFirsts, value_of, AreStepNames, step_names, AreChains, AreFound, HaveChains, has_none}
 
 module _ (p : Parts) (steps : List (List ℕ)) (names : StepNames) (chains : Chains) (firsts : List ℕ) (named : AreStepNames steps names)
     (are : AreChains p steps names chains) (found : AreFound chains.first.items names.of_steps.items firsts) where
@@ -24,3 +24,27 @@ module _ (p : Parts) (steps : List (List ℕ)) (names : StepNames) (chains : Cha
       subst (λ n. IsNextNamed p n (operator + 1) (get_or chains.next.items operator None)) alike.named
       (are.next operator (get_or names.of_steps.items step 0) alike.exists
       (ap (λ name. value_of (step_names steps) names.numbers name) same ∙ named.each step (let le = found.within in omega arith)))
+
+-- ---- names that no operator has
+
+same_counts : {A B : Type 0} (f : A → Bool) (g : B → Bool) (xs : List A) (ys : List B) (a : A) (b : B) → length xs ≡ length ys
+    → ((i : ℕ) → i < length xs → f (get_or xs i a) ≡ g (get_or ys i b)) → count_by f xs ≡ count_by g ys
+same_counts f g [] [] a b same each = refl
+same_counts f g [] (y ∷ ys) a b same each = absurd (omega (arith, same))
+same_counts f g (x ∷ xs) [] a b same each = absurd (omega (arith, same))
+same_counts f g (x ∷ xs) (y ∷ ys) a b same each =
+    grind (arith, common_steps, each 0 (omega arith), same_counts f g xs ys a b (omega (arith, same)) (λ i lt. each (suc i) (omega (arith, lt))))
+
+nameless_is : (p : Parts) (name : List ℕ) (first : Option ℕ) → IsNextNamed p name 0 first → not (is_some first) ≡ is_nameless p name
+nameless_is p name None none = sym (ap not (list_any_none (λ (o : Operator). bytes_eq o.name name) p.operators (λ i d lt. elim (cases_Bool (bytes_eq (get_or p.operators i d).name name)) [
+  | inl is ↦ absurd (none i (omega arith) (record { exists = lt; named = ap (λ (o : Operator). o.name) (get_or_default p.operators i _ d lt) ∙ (bytes_eq-Decides (get_or p.operators i d).name name).0 is }))
+  | inr not_is ↦ not_is
+])))
+nameless_is p name (Some first) low = sym (ap not (list_any_at (λ (o : Operator). bytes_eq o.name name) p.operators first _ low.of_name.exists
+    ((bytes_eq-Decides (operator_at p first).name name).1 low.of_name.named)))
+
+pub nameless_counted : (p : Parts) (steps : List (List ℕ)) (names : StepNames) (chains : Chains) → AreStepNames steps names → AreChains p steps names chains
+    → count_by (has_none chains.first.items) names.of_steps.items ≡ nameless_steps p steps
+nameless_counted p steps names chains named are =
+    same_counts (has_none chains.first.items) (is_nameless p) names.of_steps.items steps 0 [] named.one_each
+    (λ i lt. nameless_is p (get_or steps i []) _ (are.first (get_or steps i []) (get_or names.of_steps.items i 0) (named.each i lt)))

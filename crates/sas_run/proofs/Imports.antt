@@ -1,11 +1,12 @@
 -- What the proofs use of other crates, and of the definitions of this one.
-pub use Rattle.std.proofs.Common.{◌≡◌, IsTrue, ℕ, ◌+◌, ◌<◌, ◌≤◌, ◌≢◌, List, length, get_or, slice_set, Option, None, Some, sym, ap, subst, ◌∙◌, inl, inr, arith, [], Bool, true, false, nat_eq, refl, if◌then◌else◌, true≢false, ◌-◌, ◌⊎◌, ◌∷◌, ◌++◌, vec_capacity, rules, zero, suc, slice_index, slice_index_or, bytes_eq, set, take, drop, Result, Ok, Err, filter_map, option_map, ◌*◌, ◌^◌, is_some, cond, append_assoc}
+pub use Rattle.std.proofs.Common.{◌≡◌, IsTrue, ℕ, ◌+◌, ◌<◌, ◌≤◌, ◌≢◌, List, length, get_or, slice_set, Option, None, Some, sym, ap, subst, ◌∙◌, inl, inr, arith, [], Bool, true, false, nat_eq, refl, if◌then◌else◌, true≢false, ◌-◌, ◌⊎◌, ◌∷◌, ◌++◌, vec_capacity, rules, zero, suc, slice_index, slice_index_or, bytes_eq, set, take, drop, Result, Ok, Err, filter_map, option_map, ◌*◌, ◌^◌, is_some, cond, append_assoc, not}
 pub use Rattle.std.proofs.Math.Nat.{eq-or-lt_of_le}
 pub use Rattle.std.proofs.Math.Seq.{take-append_seam, get_or-append_seam}
 pub use Rattle.std.proofs.lemmas.Bool.{cases_eq, eqb-true, eq-eqb, cases_lt, cases_Bool, ltb-false, true_from_ne_false}
 pub use Rattle.std.proofs.lemmas.Grind.{common_steps}
 pub use Rattle.std.proofs.lemmas.List.{get_or-set_same, get_or-set_other, length-set, get_or_append_left, get_or_push, get_or_read, length-append, take_all, get_or-take, get_or_default, length-take, take-append-drop, drop_more, get_or-append-add, get_or-map, length-map, same_lists, take_more, get_or-drop, length-take-le, length-drop}
 pub use Rattle.std.proofs.lemmas.List.Elements.{All-nil, All-cons, All-push, All-weaker, All-head, All-tail, All-map, All-append, All-from_recursion, Contains-get_or, Contains-append_left, Contains-append_right, Contains-push}
+pub use Rattle.std.proofs.lemmas.List.Folds.{list_any_at, list_any_none}
 pub use Rattle.std.proofs.lemmas.List.Quantifiers.{all_pairs_push}
 pub use Rattle.std.proofs.lemmas.List.Sums.{count_by_more_no, count_by_more_yes, sum_by-cons}
 pub use Rattle.std.proofs.lemmas.Map.Text.{is_eq-slice_cmp}
@@ -52,7 +53,7 @@ pub use Rattle.sas_meaning.specs.Settled.{Settles, IsSettled, SameBasic}
 pub use Rattle.sas_meaning.specs.States.{Holds, AllHold}
 pub use Rattle.sas_meaning.specs.Steps.{preconditions, Step, Fires, Agree, old_fact}
 pub use Rattle.sas_meaning.specs.declared.changed_variables.ChangedVariables.{ChangedVariables}
-pub use Rattle.sas_run.specs.Chains.{AreChains, AreFound, HaveChains, IsChain}
+pub use Rattle.sas_run.specs.Chains.{AreChains, AreFound, HaveChains, IsChain, has_none}
 pub use Rattle.sas_run.specs.Deletions.{DeletedHasRoom, NotesOn}
 pub use Rattle.sas_run.specs.Executions.{Executed, next_name, next_operator, Executes, IsFound, Advances, executed_of, IsExecuting}
 pub use Rattle.sas_run.specs.Given.{given_to, Replaces, value_after, NothingGiven, IsGiven, IsGivenTo, GivesValue, GivesOther}
@@ -60,7 +61,7 @@ pub use Rattle.sas_run.specs.Laws.{LeadsToReachable, LastIsReachable, SomeVerdic
 pub use Rattle.sas_run.specs.Likely.{IsLikely, AreLikely}
 unfoldable pub use Rattle.sas_run.specs.NameDigest.{digest_of}
 pub use Rattle.sas_run.specs.NameTable.{value_of, AreNames, other_of, own_else, first_else, likely_of, operator_names, AreMappedFrom, AreNamesFrom, Exist, IsEmptyTable, PutsName, PutsDigest, PutsOther}
-pub use Rattle.sas_run.specs.Named.{IsNamed}
+pub use Rattle.sas_run.specs.Named.{IsNamed, is_nameless, nameless_steps}
 pub use Rattle.sas_run.specs.Names.{IsNextNamed, IsLowestNamed, AreFirsts}
 pub use Rattle.sas_run.specs.PlainSteps.{AreMade, IsPlainStep, OldHolds}
 pub use Rattle.sas_run.specs.Plans.{IsApplicable, NoneApplicable, IsChosen, LeadTo, LeadsTo, IsValid, cost_of_all}

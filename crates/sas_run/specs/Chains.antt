@@ -1,5 +1,5 @@
 -- The operators of some names, each with the next operator of the same name.
-use Rattle.std.specs.Prelude.{◌≡◌, ℕ, ◌+◌, ◌<◌, ◌≤◌, List, length, Option, None, Some, slice_index, slice_index_or}
+use Rattle.std.specs.Prelude.{◌≡◌, ℕ, ◌+◌, ◌<◌, ◌≤◌, Bool, not, List, length, Option, None, Some, is_some, slice_index, slice_index_or}
 use Rattle.sas_core.specs.declared.parts.Parts.{Parts}
 use Rattle.sas_core.specs.Grounded.{operator_at}
 use Rattle.sas_run.specs.declared.chains.Chains.{Chains}
@@ -45,3 +45,7 @@ pub record AreFound (first : List (Option ℕ)) (numbers found : List ℕ) : Typ
       → slice_index_or first (slice_index numbers i) None ≡ Some (slice_index found i)
   pub behind : length found < length numbers
       → slice_index_or first (slice_index numbers (length found)) None ≡ None
+
+-- whether the list has no entry at this number
+abbrev pub has_none : List (Option ℕ) → ℕ → Bool
+has_none first number = not (is_some (slice_index_or first number None))

@@ -1,6 +1,7 @@
 // The operators whose names occur in a plan.
 ghost use Rattle.std.specs.Prelude.{◌≡◌, ◌<◌, length, All, IfOk, None, slice_index_or};
-ghost use Rattle.sas_run.specs.Chains.{AreChains, AreFound};
+ghost use Rattle.std.specs.List.{count_by};
+ghost use Rattle.sas_run.specs.Chains.{AreChains, AreFound, has_none};
 ghost use Rattle.sas_run.specs.StepNames.{AreStepNames};
 
 use crate::step_names::StepNames;
@@ -61,6 +62,20 @@ impl Chains {
             }
         }
         Ok(firsts)
+    }
+
+    /// Returns how many of these are numbers of names that no operator has.
+    pub fn count_nameless(&self, numbers: &[usize]) -> usize
+        requires { All (λ number. number < length self.now.first.items) numbers.now }
+        ensures { result ≡ count_by (has_none self.now.first.items) numbers.now }
+    {
+        let mut count = 0;
+        for number in numbers {
+            if self.first[*number].is_none() {
+                count += 1;
+            }
+        }
+        count
     }
 
     /// Returns, for each operator of one of the names, the next operator of the same name. Drops everything else.

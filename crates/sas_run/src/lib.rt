@@ -29,5 +29,5 @@ pub use looking_up::first_operators;
 pub use names::{NamedTask, Names};
 pub use plan_check::{PlanFault, Valid, check_once};
 pub use runner::{Choice, Runner};
-pub use step_operators::{PlanOperators, StepOperators};
+pub use step_operators::{PlanOperators, StepOperators, count_nameless};
 pub use steps::StepFault;

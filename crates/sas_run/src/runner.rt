@@ -148,19 +148,18 @@ impl<'a, E: Settle<T> + Drop, T: Grounded> Runner<'a, E, T> {
 
 /// Returns whether the operator's preconditions hold in the state.
 #[inline(always)]
-fn is_applicable<T: Grounded>(task: &Layered<T>, state: &State, operator: u32) -> bool
-    requires operator { operator < length task.now.operators }
-    requires state { IsState task.now.variables state.now }
-    ensures { IsTrue result ↔ IsApplicable state.now (operator_at task.now operator) }
+fn is_applicable<T: Grounded>(layered: &Layered<T>, state: &State, operator: u32) -> bool
+    requires operator { operator < length layered.now.operators }
+    requires state { IsState layered.now.variables state.now }
+    ensures { IsTrue result ↔ IsApplicable state.now (operator_at layered.now operator) }
 {
-    let Some(changes) = task.plain_changes(operator) else {
-        return match missed_precondition(task, operator, state) {
+    let Some(changes) = layered.plain_changes(operator) else {
+        return match missed_precondition(layered, operator, state) {
             Some(_) => false,
             None => true,
         };
     };
-    // By its contract the task is well ranged and layered.
-    let _ = task.task();
+    let task = layered.task();
     state.holds_all(task.prevail(operator)) && old_values_hold(state, changes)
 }
 

@@ -1,6 +1,7 @@
 // The operators whose names occur in one plan.
 ghost use Rattle.std.specs.Prelude.{◌≡◌, IfOk};
 ghost use Rattle.sas_run.specs.Chains.{AreStepOperators};
+ghost use Rattle.sas_run.specs.Named.{nameless_steps};
 
 use crate::chains::Chains;
 use crate::looking_up::first_operators;
@@ -114,4 +115,18 @@ impl StepOperators {
 /// no longer than making the steps.
 fn is_long<T: Grounded, P: Stepwise>(task: &T, plan: &P) -> bool {
     plan.steps() >= task.operators() as usize / 2
+}
+
+/// Returns how many of the plan's steps name no operator.
+pub fn count_nameless<T: Grounded, P: Stepwise>(
+    alloc: Global,
+    task: &T,
+    plan: &P,
+) -> Result<usize, AllocError>
+    ensures { IfOk result (λ count.
+        count ≡ nameless_steps (T.says task.now) (P.says plan.now).steps) }
+{
+    let names = StepNames::new(alloc, plan)?;
+    let chains = Chains::new(alloc, task, plan, &names)?;
+    Ok(chains.count_nameless(names.of_steps()))
 }

@@ -154,8 +154,6 @@ fn set_section<T: Grounded>(task: &Layered<T>, state: &mut State)
     ensures section { state.new ≡ task.now.init }
     ensures fits { IsState task.now.variables state.new }
 {
-    // By its contract the task is well ranged and layered.
-    let _ = task.task();
     for var in 0..task.variables() {
         let value = task.initial_value(var);
         state.set(Fact { var, value });

@@ -26,19 +26,17 @@ pub enum StepFault {
 
 /// Returns the operator's first precondition that doesn't hold, or `None` if it is applicable.
 pub fn missed_precondition<T: Grounded>(
-    task: &Layered<T>,
+    layered: &Layered<T>,
     operator: u32,
     state: &State,
 ) -> Option<Fact>
-    requires operator { operator < length task.now.operators }
-    requires state { IsState task.now.variables state.now }
+    requires operator { operator < length layered.now.operators }
+    requires state { IsState layered.now.variables state.now }
     ensures some { IfSome result (λ fact.
-        IsStepFault state.now (operator_at task.now operator) (StepFault.NotApplicable fact)) }
-    ensures none { IfNone result (IsApplicable state.now (operator_at task.now operator)) }
+        IsStepFault state.now (operator_at layered.now operator) (StepFault.NotApplicable fact)) }
+    ensures none { IfNone result (IsApplicable state.now (operator_at layered.now operator)) }
 {
-    // By its contract the task is well ranged and layered.
-    let _ = task.task();
-    for fact in Preconditions::new(task, operator) {
+    for fact in Preconditions::new(layered.task(), operator) {
         if state.value(fact.var) != fact.value {
             return Some(fact);
         }

@@ -16,7 +16,14 @@ module _ (p : Parts) (reasons : List (Option Reason)) where
 
   lines_next : (verdicts : List Verdict) (place : ℕ) (d : Verdict) → place < length verdicts
       → why_lines p (take (place + 1) verdicts) reasons ≡ why_lines p (take place verdicts) reasons ++ lines_at place (get_or verdicts place d)
-  lines_next verdicts place d h = grind (arith, common_steps, length-take, take_more, lines_both, append-nil)
+  lines_next verdicts place d h =
+      let before = why_lines p (take place verdicts) reasons in
+      let its = get_or verdicts place d in
+      let there : 0 + length (take place verdicts) ≡ place = omega (arith, h, length-take place verdicts) in
+      ap (λ (vs : List Verdict). why_lines p vs reasons) (take_more verdicts place d h)
+      ∙ lines_both 0 (take place verdicts) (its ∷ [])
+      ∙ ap (λ (k : ℕ). before ++ why_lines_from p reasons k (its ∷ [])) there
+      ∙ ap (λ (lines : List (List ℕ)). before ++ lines) (append-nil (lines_at place its))
 
   pub text_next : (verdicts : List Verdict) (place : ℕ) (d : Verdict) → place < length verdicts
       → text (why_lines p (take (place + 1) verdicts) reasons) ≡ text (why_lines p (take place verdicts) reasons) ++ text (lines_at place (get_or verdicts place d))

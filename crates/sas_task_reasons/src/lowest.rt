@@ -22,13 +22,7 @@ pub fn lowest_together<T: Grounded>(
     ensures notes { IsNotedAt firing.now kept.now marks.new }
     ensures lowest { IsLowestPartner firing.now kept.now group IsAny result }
 {
-    let facts = firing.index.facts_of(firing.task, group);
-    // The index only contains the effects of large operators.
-    let is_large = firing
-        .index
-        .effects_on(firing.task, firing.operator, 0)
-        .is_some();
-    if is_large && facts.len() < firing.task.effects(firing.operator) as usize {
+    if firing.has_more_effects(group) {
         lowest_by_facts(firing, kept, group, marks)
     } else {
         lowest_of_all(firing, kept, group, marks)
@@ -93,8 +87,7 @@ fn lowest_on<T: Grounded>(
     ensures lowest { IsLowestPartner firing.now kept.now group
         (SetsVariable firing.now var) result }
 {
-    let effects = firing.index.effects_on(firing.task, firing.operator, var);
-    match effects {
+    match firing.effects_on(var) {
         Some(effects) => lowest_among(firing, kept, group, effects, marks),
         None => lowest_of_all(firing, kept, group, marks),
     }

@@ -26,8 +26,6 @@ pub fn group_reasons<T: Grounded>(
     requires { AreJointVerdicts layered.now verdicts.now }
     ensures { IfOk result (λ reasons. AreReasons layered.now verdicts.now reasons.items) }
 {
-    // The contract of `task` ensures that the task is well ranged.
-    let _ = layered.task();
     let mut reasons = first_reasons(alloc, layered, verdicts)?;
     // If no operator breaks a group, all reasons are found.
     if !some_broken(verdicts) {

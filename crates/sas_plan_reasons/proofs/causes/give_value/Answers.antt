@@ -5,16 +5,16 @@ use Rattle.sas_plan_reasons.proofs.causes.give_value.Goals as goal
 
 pub rule_change-requires : goal.rule_change-requires
 rule_change-requires g c =
-    let p = c.args.task.now in
-    (of_variable p c.args.fact.var c.in-Some.rule.now (subst (λ l. Contains l c.in-Some.rule.now) c.requires
+    let p = c.args.layered.now in
+    rw c.task.ensures.task (of_variable p c.args.fact.var c.in-Some.rule.now (subst (λ l. Contains l c.in-Some.rule.now) c.requires
     (first_is c.args.rules.now c.in-Some.rule.now (sym c.in-Some.ensures.value)))).0
 
 pub returns-in-Some : goal.returns-in-Some
 returns-in-Some g c =
-    ap (λ n. n == c.args.fact.value) (ap (λ (x : Change). x.new) c.rule_change.ensures)
+    ap (λ n. n == c.args.fact.value) (ap (λ (x : Change). x.new) (rw c.task.ensures.task at c.rule_change.ensures))
     ∙ sym (one_gives _ c.task.ensures.layered _ _ (subst (λ l. Contains l c.in-Some.rule.now) c.requires
     (first_is _ _ (sym c.in-Some.ensures.value))))
 
 pub returns-in-None : goal.returns-in-None
 returns-in-None g c =
-    sym (none_gives c.args.task.now c.args.fact (sym c.requires ∙ first_is_none c.args.rules.now (sym c.in-None.ensures.value)))
+    sym (none_gives c.args.layered.now c.args.fact (sym c.requires ∙ first_is_none c.args.rules.now (sym c.in-None.ensures.value)))

@@ -8,7 +8,7 @@ returns g c =
     let p = c.args.task.now in
     let report = c.args.report.now in
     on_ok_weaker c.push_givers.result
-    (λ add. some_givers p c.args.noted.now report c.push_givers.new.lines c.report_derivation.new.self c.report_derivation.new.rules c.args.var
+    (λ add. some_givers p c.args.history.now report c.push_givers.new.lines c.report_derivation.new.self c.report_derivation.new.rules c.args.var
     (ap (λ v. is_derived p c.args.var && not (v == default_of p c.args.var)) (sym c.value-value.ensures) ∙ (sym c.requires_rules.ensures ∙ c.if-not-requires_rules.false))
     (λ s are. subst (λ (before : List ℕ). ReportsDerivation p s c.args.var report.origins c.report_derivation.new.self before c.report_derivation.new.rules.items) c.clear.ensures.items (c.in_ok-report_derivation.ensures s are))
     (subst (λ (l : List ℕ). c.push_givers.new.lines ≡ report.lines ++ map RuleDerives l) c.as_slice.ensures.value add))

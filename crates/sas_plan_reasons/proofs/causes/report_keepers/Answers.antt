@@ -5,11 +5,11 @@ use Rattle.sas_plan_reasons.proofs.causes.report_keepers.Goals as goal
 
 pub returns-then-not-give_value : goal.returns-then-not-give_value
 returns-then-not-give_value g c = on_ok_weaker c.push.result
-    (no_rule c.args.task.now c.args.noted.now c.args.report.now c.push.new.self c.args.fact (sym c.give_value.ensures ∙ c.if-not-give_value.true))
+    (no_rule c.args.task.now c.args.history.now c.args.report.now c.push.new.self c.args.fact (sym c.give_value.ensures ∙ c.if-not-give_value.true))
     c.push.ensures.ok
 
 pub returns-then-as_slice-var : goal.returns-then-as_slice-var
-returns-then-as_slice-var g c = reported_before c.args.task.now c.args.noted.now c.args.report.now c.args.fact
+returns-then-as_slice-var g c = reported_before c.args.task.now c.args.history.now c.args.report.now c.args.fact
     (sym c.give_value.ensures ∙ c.if-not-give_value.false)
     (ap (λ (l : List Bool). get_or l c.args.fact.var false) (sym c.as_slice.ensures) ∙ c.if-as_slice-var.true)
 
@@ -28,11 +28,11 @@ returns g c =
     let are : c.get-rules.result.now ≡ places (can_give p c.args.fact.var) p.rules =
     c.get-rules.ensures ∙ c.requires.report.2.rules.each c.args.fact.var c.requires.fact in
     on_ok_weaker c.push_keepers.result
-    (λ add. subst (λ (kept : List Bool). AddsLines p c.args.noted.now report
+    (λ add. subst (λ (kept : List Bool). AddsLines p c.args.history.now report
     (record { lines = c.push_keepers.new.lines; origins = report.origins; rules = report.rules; kept = kept; next = report.next })
     (λ run lines. lines ≡ keeping_lines p (last_state run) c.args.fact)) (sym c.set.ensures)
-    (reported_now p c.args.noted.now report c.push_keepers.new.lines c.args.fact c.requires.fact
+    (reported_now p c.args.history.now report c.push_keepers.new.lines c.args.fact c.requires.fact
     (sym c.give_value.ensures ∙ c.if-not-give_value.false)
     (ap (λ (l : List Bool). get_or l c.args.fact.var false) (sym c.as_slice.ensures) ∙ c.if-as_slice-var.false)
-    (subst (λ (rules : List ℕ). c.push_keepers.new.lines ≡ report.lines ++ flat_map (failing_lines p c.args.noted.now.last) rules) are add)))
+    (subst (λ (rules : List ℕ). c.push_keepers.new.lines ≡ report.lines ++ flat_map (failing_lines p c.args.history.now.last) rules) are add)))
     c.push_keepers.ensures

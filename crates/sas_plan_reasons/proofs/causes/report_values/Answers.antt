@@ -17,10 +17,10 @@ returns c =
       | else-step-eq0 w ↦ w.since-is ∙ since_some step w.if-step-eq0.false
     ] in
     let actual : Fact = record { var = fact.var; value = c.value-value.result } in
-    let is : actual ≡ actual_fact c.args.noted.now.last fact.var = ap (λ v. let f : Fact = record { var = fact.var; value = v } in f) c.value-value.ensures in
+    let is : actual ≡ actual_fact c.args.history.now.last fact.var = ap (λ v. let f : Fact = record { var = fact.var; value = v } in f) c.value-value.ensures in
     on_ok_weaker c.extend_from_slice.result
     (λ added. added
     ∙ (ap (λ (f : Fact). c.args.lines.now ++ (Requires fact ∷ Actual f ∷ c.if-step-eq0.since ∷ [])) is
-    ∙ ap (λ (l : Line). c.args.lines.now ++ (Requires fact ∷ Actual (actual_fact c.args.noted.now.last fact.var) ∷ l ∷ []))
-    (third ∙ ap since_line (c.index-step.ensures ∙ get_or_default c.args.noted.now.since.items fact.var step 0 c.requires.since))))
+    ∙ ap (λ (l : Line). c.args.lines.now ++ (Requires fact ∷ Actual (actual_fact c.args.history.now.last fact.var) ∷ l ∷ []))
+    (third ∙ ap since_line (c.index-step.ensures ∙ get_or_default c.args.history.now.since.items fact.var step 0 c.requires.since))))
     c.extend_from_slice.ensures.ok

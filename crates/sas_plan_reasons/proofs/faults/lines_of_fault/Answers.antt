@@ -1,6 +1,7 @@
 -- What each fault gives is known of the run.
-use Rattle.sas_plan_reasons.proofs.Imports.{◌≡◌, ℕ, ◌∷◌, List, Some, refl, sym, ◌∙◌, subst, IfOk-weaker, operator_at, Agree, PlanFault, RunEndsWith, Step, LineThen, similar_name_lines, AreOperatorLines, AreConflictLines, AreFaultLines, cost_lines, operators_exist, ReportsOnce}
+use Rattle.sas_plan_reasons.proofs.Imports.{◌≡◌, ℕ, List, Some, sym, ◌∙◌, subst, IfOk-weaker, operator_at, Agree, PlanFault, RunEndsWith, Step, LineThen, nameless_lines, AreOperatorLines, AreConflictLines, AreFaultLines, operators_exist, ReportsOnce}
 use Rattle.sas_plan_reasons.proofs.Behind.{behind, conflict_clashes, last_is, operators_are, operators_as_many}
+use Rattle.sas_plan_reasons.proofs.Faulty.{costs_reported}
 use Rattle.sas_plan_reasons.proofs.faults.lines_of_fault.Goals as goal
 
 pub blocked-requires : goal.blocked-requires
@@ -29,7 +30,7 @@ costs-requires g c =
 
 pub returns-in-NoOperator : goal.returns-in-NoOperator
 returns-in-NoOperator g c = rw c.in-NoOperator.is (IfOk-weaker c.unknown.result _ _
-    (λ lines reported run r. subst (λ (name : List ℕ). ReportsOnce lines (λ its. its ≡ Step c.in-NoOperator.step ∷ similar_name_lines c.args.layered.now name)) c.step.ensures reported)
+    (λ lines reported run r. subst (λ (name : List ℕ). ReportsOnce lines (λ its. its ≡ nameless_lines c.args.layered.now (g.P.Stepwise.says c.args.plan.now) c.in-NoOperator.step name)) c.step.ensures reported)
     c.unknown.ensures)
 
 pub returns-in-NotApplicable : goal.returns-in-NotApplicable
@@ -54,5 +55,5 @@ returns-in-GoalMissed g c = IfOk-weaker c.missed.result _ _ (λ lines reported r
 
 pub returns-in-CostDiffers : goal.returns-in-CostDiffers
 returns-in-CostDiffers g c = rw c.in-CostDiffers.is (IfOk-weaker c.costs.result _ _
-    (λ lines are run r. (cost_lines c.args.layered.now run, refl, are run (c.as_slice.ensures.value ∙ operators_are _ _ _ run r) (operators_as_many _ _ _ run r)))
+    (λ lines are run r. costs_reported c.args.layered.now (g.P.Stepwise.says c.args.plan.now).cost run lines (rw c.cost.ensures at are run (c.as_slice.ensures.value ∙ operators_are _ _ _ run r) (operators_as_many _ _ _ run r)))
     c.costs.ensures)

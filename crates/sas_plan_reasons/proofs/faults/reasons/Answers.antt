@@ -11,15 +11,15 @@ returns g c =
     let run = c.requires.0 in
     let r = c.requires.1 in
     let lines = c.in_ok-lines.lines in
-    let new = c.match-noted.lines in
-    subst (λ (l : List Line). IsWhy p plan c.args.noted.now.fault l) (sym c.into_vec.ensures)
+    let new = c.match-history.lines in
+    subst (λ (l : List Line). IsWhy p plan c.args.history.now.fault l) (sym c.into_vec.ensures)
     (is_why _ _ _ run r _ (c.in_ok-lines.ensures run r) new
-    (λ other is. elim c.match-noted.branch [
+    (λ other is. elim c.match-history.branch [
       | in-Some+in_ok-push w ↦ w.lines-is ∙ (w.in_ok-push.ensures.ok
           ∙ ap (λ (o : OtherOperator). lines ++ CouldBe o.step o.operator ∷ []) (same_Some w.in-Some.other other (sym w.in-Some.is ∙ is)))
       | in_default w ↦ absurd (some_not_none other (sym is ∙ w.in_default.is))
     ])
-    (λ is. elim c.match-noted.branch [
+    (λ is. elim c.match-history.branch [
       | in-Some+in_ok-push w ↦ absurd (some_not_none w.in-Some.other (sym w.in-Some.is ∙ is))
       | in_default w ↦ w.lines-is
     ]))

@@ -8,9 +8,9 @@ use Rattle.sas_plan_reasons.proofs.faults.report_blocked.Goals.{then-eq+in_ok-re
 pub report_inapplicable-requires-clause-report : goal.report_inapplicable-requires-clause-report
 report_inapplicable-requires-clause-report g c =
     let p = c.args.task.now in
-    more_is_report p c.args.noted.now (λ run. LinesOfEach (AreFailedPreconditionLines p run) (places_to (λ o. bytes_eq o.name c.args.name.now) c.loop-operator.operator p.operators))
+    more_is_report p c.args.history.now (λ run. LinesOfEach (AreFailedPreconditionLines p run) (places_to (λ o. bytes_eq o.name c.args.name.now) c.loop-operator.operator p.operators))
     _ c.loop-operator.report c.loop-operator.invariant
-    (plain_is_report p c.args.noted.now c.args.report.now c.push.new.self (Step c.args.step ∷ []) (refl, tt) c.in_ok-push.ensures.ok
+    (plain_is_report p c.args.history.now c.args.report.now c.push.new.self (Step c.args.step ∷ []) (refl, tt) c.in_ok-push.ensures.ok
     c.requires)
 
 pub loop-operator-preserved : goal.loop-operator-preserved
@@ -22,7 +22,7 @@ loop-operator-preserved g c =
     let test : bytes_eq (operator_at p k).name name ≡ c.eq.result = ap (λ (n : List ℕ). bytes_eq n name) (sym c.name.ensures) ∙ sym c.eq.ensures in
     elim c.if-eq.branch [
       | then-eq+in_ok-report_inapplicable w ↦ rw (w.report-is, place_more (λ o. bytes_eq o.name name) k p.operators _ lt (test ∙ w.if-eq.true))
-          (one_more p c.args.noted.now (λ run. AreFailedPreconditionLines p run) _ _ _ _ k c.loop-operator.invariant w.in_ok-report_inapplicable.ensures)
+          (one_more p c.args.history.now (λ run. AreFailedPreconditionLines p run) _ _ _ _ k c.loop-operator.invariant w.in_ok-report_inapplicable.ensures)
       | else-eq w ↦ rw (w.report-is, place_not (λ o. bytes_eq o.name name) k p.operators _ lt (test ∙ w.if-eq.false)) c.loop-operator.invariant
     ]
 

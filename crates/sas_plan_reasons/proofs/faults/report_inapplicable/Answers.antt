@@ -8,45 +8,45 @@ use Rattle.sas_plan_reasons.proofs.faults.report_inapplicable.Goals as goal
 
 pub loop-fact-init : goal.loop-fact-init
 loop-fact-init g c =
-    let p = c.args.task.now in
+    let p = c.args.layered.now in
     let all = preconditions (operator_at p c.args.operator) in
-    let is : c.into_iter-fact-iterator.result ≡ all = c.into_iter-fact-iterator.ensures.into_iter_gives ∙ c.new-fact-items.ensures in
+    let is : c.into_iter-fact-iterator.result ≡ all = c.into_iter-fact-iterator.ensures.into_iter_gives ∙ (rw c.task.ensures.task at c.new-fact-items.ensures) in
     record {
       left = sym is;
-      within = subst (All (λ (f : Fact). f.var < length c.args.noted.now.last)) (sym is)
-          (preconditions_have_values p c.task.ensures.well_ranged c.args.noted.now.last c.requires.report.1.state c.args.operator c.requires.operator);
-      reported = none_yet p c.args.noted.now (λ run. IsCause p run) _;
+      within = subst (All (λ (f : Fact). f.var < length c.args.history.now.last)) (sym is)
+          (preconditions_have_values p c.task.ensures.well_ranged c.args.history.now.last c.requires.report.1.state c.args.operator c.requires.operator);
+      reported = none_yet p c.args.history.now (λ run. IsCause p run) _;
     }
 
 pub value-requires : goal.value-requires
 value-requires g c =
-    let Within : Fact → Type 0 = λ f. f.var < length c.args.noted.now.last in
+    let Within : Fact → Type 0 = λ f. f.var < length c.args.history.now.last in
     All-head Within c.in-Some.fact _ (subst (All Within) c.in-Some.ensures.steps c.loop-fact.invariant.within)
 
 pub report_cause-requires-clause-fact : goal.report_cause-requires-clause-fact
 report_cause-requires-clause-fact g c =
-    let Within : Fact → Type 0 = λ f. f.var < length c.args.noted.now.last in
+    let Within : Fact → Type 0 = λ f. f.var < length c.args.history.now.last in
     subst (λ n. c.in-Some.fact.var < n) (let state = c.requires.report.1.state in state.one_each)
     (All-head Within c.in-Some.fact _ (subst (All Within) c.in-Some.ensures.steps c.loop-fact.invariant.within))
 
 pub report_cause-requires-clause-report : goal.report_cause-requires-clause-report
 report_cause-requires-clause-report g c =
-    let p = c.args.task.now in
-    let s = c.args.noted.now.last in
-    more_is_report p c.args.noted.now (λ run. LinesOfEach (IsCause p run) (filter (fails s) c.loop-fact.yielded)) _ c.loop-fact.report c.loop-fact.invariant.reported
-    (plain_is_report p c.args.noted.now c.args.report.now c.push.new.self (Operator c.args.operator ∷ []) (refl, tt) c.in_ok-push.ensures.ok c.requires.report)
+    let p = c.args.layered.now in
+    let s = c.args.history.now.last in
+    more_is_report p c.args.history.now (λ run. LinesOfEach (IsCause p run) (filter (fails s) c.loop-fact.yielded)) _ c.loop-fact.report c.loop-fact.invariant.reported
+    (plain_is_report p c.args.history.now c.args.report.now c.push.new.self (Operator c.args.operator ∷ []) (refl, tt) c.in_ok-push.ensures.ok c.requires.report)
 
 pub loop-fact-preserved-in-Continue-branch-2 : goal.loop-fact-preserved-in-Continue-branch-2
 loop-fact-preserved-in-Continue-branch-2 g c =
     let before = c.loop-fact.yielded in
     let fact = c.in-Some.fact in
     let steps = c.in-Some.ensures.steps in
-    let s = c.args.noted.now.last in
+    let s = c.args.history.now.last in
     record {
       left = c.loop-fact.invariant.left ∙ (ap (λ (fs : List Fact). before ++ fs) steps ∙ sym (append_assoc before (fact ∷ []) c.next.new.self));
       within = All-rest (λ (f : Fact). f.var < length s) fact c.next.new.self c.loop-fact.fact-iterator steps c.loop-fact.invariant.within;
       reported = rw (one_more_fails s before fact (λ e. c.if-value-fact.true (c.value.ensures ∙ e)))
-          (one_more _ _ (λ run. IsCause c.args.task.now run) _ _ _ _ fact c.loop-fact.invariant.reported c.in_ok-report_cause.ensures);
+          (one_more _ _ (λ run. IsCause c.args.layered.now run) _ _ _ _ fact c.loop-fact.invariant.reported c.in_ok-report_cause.ensures);
     }
 
 pub loop-fact-preserved : goal.loop-fact-preserved
@@ -54,7 +54,7 @@ loop-fact-preserved g c =
     let before = c.loop-fact.yielded in
     let fact = c.in-Some.fact in
     let steps = c.in-Some.ensures.steps in
-    let s = c.args.noted.now.last in
+    let s = c.args.history.now.last in
     record {
       left = c.loop-fact.invariant.left ∙ (ap (λ (fs : List Fact). before ++ fs) steps ∙ sym (append_assoc before (fact ∷ []) c.next.new.self));
       within = All-rest (λ (f : Fact). f.var < length s) fact c.next.new.self c.loop-fact.fact-iterator steps c.loop-fact.invariant.within;
@@ -63,10 +63,10 @@ loop-fact-preserved g c =
 
 pub returns : goal.returns
 returns g c =
-    let p = c.args.task.now in
+    let p = c.args.layered.now in
     let o = operator_at p c.args.operator in
     let all : c.loop-fact.yielded ≡ preconditions o =
     sym (c.loop-fact.invariant.left ∙ (ap (λ (fs : List Fact). c.loop-fact.yielded ++ fs) c.in-None.ensures.steps.0 ∙ append-nil c.loop-fact.yielded)) in
     line_and_more _ _ _ _ c.push.new.self (Operator c.args.operator)
     (λ run. LinesOfEach (IsCause p run) (filter (fails (last_state run)) (preconditions o))) refl c.in_ok-push.ensures.ok
-    (at_last _ _ (λ run. IsCause p run) (λ t. filter (fails t) (preconditions o)) _ _ (rw all at c.loop-fact.invariant.reported))
+    (at_last _ _ (λ run t. LinesOfEach (IsCause p run) (filter (fails t) (preconditions o))) _ _ (rw all at c.loop-fact.invariant.reported))

@@ -4,7 +4,7 @@ use Rattle.sas_plan_reasons.proofs.faults.report_inapplicable.Given as goal
 
 abbrev pub invariant-loop-fact : goal.invariant-loop-fact
 invariant-loop-fact g l = record {
-  left : preconditions (operator_at l.task l.operator) ≡ l.yielded ++ l.fact-iterator;
-  within : All (λ (f : Fact). f.var < length l.noted.last) l.fact-iterator;
-  reported : AddsLines l.task l.noted l.initial.report l.report (λ run. LinesOfEach (IsCause l.task run) (filter (fails l.noted.last) l.yielded));
+  left : preconditions (operator_at l.layered l.operator) ≡ l.yielded ++ l.fact-iterator;
+  within : All (λ (f : Fact). f.var < length l.history.last) l.fact-iterator;
+  reported : AddsLines l.layered l.history l.initial.report l.report (λ run. LinesOfEach (IsCause l.layered run) (filter (fails l.history.last) l.yielded));
 }

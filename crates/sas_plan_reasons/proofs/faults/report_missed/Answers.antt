@@ -1,56 +1,67 @@
--- Each goal fact in turn.
-use Rattle.sas_plan_reasons.proofs.Imports.{◌≡◌, ◌<◌, ◌≤◌, List, [], ◌∷◌, length, get_or, refl, sym, ◌∙◌, subst, slice_index, All, Fact, places, places_to, places_all, LinesOfEach, fails, IsCause, goal_fact_at, AreGoalFactLines, GoalFact}
+-- How many goal facts fail, and then each goal fact in turn.
+use Rattle.sas_plan_reasons.proofs.Imports.{◌≡◌, ◌<◌, ◌≤◌, List, [], ◌∷◌, length, get_or, refl, sym, ◌∙◌, ap, subst, slice_index, All, count_by, Fact, Parts, places, places_to, places_all, Line, LineThen, LinesOfEach, fails, IsCause, goal_fact_at, AreGoalFactLines, GoalFact, FailingGoalFacts}
 use Rattle.sas_plan_reasons.proofs.Within.{goal_within}
 use Rattle.sas_plan_reasons.proofs.Composing.{more_is_report, plain_is_report, line_and_more, one_more}
 use Rattle.sas_plan_reasons.proofs.Faulty.{at_last, fails_when, holds_when, place_more, place_not}
 use Rattle.sas_plan_reasons.proofs.faults.report_missed.Goals as goal
-use Rattle.sas_plan_reasons.proofs.faults.report_missed.Goals.{then-value-fact+in_ok-push+in_ok-report_cause, else-value-fact}
+use Rattle.sas_plan_reasons.proofs.faults.report_missed.Goals.{then-value-fact+in_ok-push-2+in_ok-report_cause, else-value-fact}
+
+pub count_failing-requires : goal.count_failing-requires
+count_failing-requires g c =
+    let s = c.args.history.now.last in
+    subst (All (λ (f : Fact). f.var < length s)) (sym (c.goal-goal.ensures ∙ ap (λ (q : Parts). q.goal) c.task.ensures.task))
+    (goal_within c.args.layered.now c.task.ensures.well_ranged s c.requires.1.state)
 
 pub value-requires : goal.value-requires
 value-requires g c =
-    let s = c.args.noted.now.last in
-    subst (All (λ (f : Fact). f.var < length s)) (sym c.goal-fact-items.ensures)
-    (goal_within c.args.task.now c.task.ensures.well_ranged s c.requires.1.state) c.loop-index.index _ c.loop-index-test.true
+    let s = c.args.history.now.last in
+    subst (All (λ (f : Fact). f.var < length s)) (sym (c.goal-goal.ensures ∙ ap (λ (q : Parts). q.goal) c.task.ensures.task))
+    (goal_within c.args.layered.now c.task.ensures.well_ranged s c.requires.1.state) c.loop-index.index _ c.loop-index-test.true
 
 pub report_cause-requires-clause-fact : goal.report_cause-requires-clause-fact
 report_cause-requires-clause-fact g c =
     let within = goal_within _ c.task.ensures.well_ranged _ c.requires.1.state in
-    subst (All (λ (f : Fact). f.var < length c.args.task.now.variables)) (sym c.goal-fact-items.ensures)
-    (subst (λ n. All (λ (f : Fact). f.var < n) c.args.task.now.goal) (let state = c.requires.1.state in state.one_each) within) c.loop-index.index _ c.loop-index-test.true
+    subst (All (λ (f : Fact). f.var < length c.args.layered.now.variables)) (sym (c.goal-goal.ensures ∙ ap (λ (q : Parts). q.goal) c.task.ensures.task))
+    (subst (λ n. All (λ (f : Fact). f.var < n) c.args.layered.now.goal) (let state = c.requires.1.state in state.one_each) within) c.loop-index.index _ c.loop-index-test.true
 
 pub report_cause-requires-clause-report : goal.report_cause-requires-clause-report
 report_cause-requires-clause-report g c =
-    let p = c.args.task.now in
-    let s = c.args.noted.now.last in
-    plain_is_report p c.args.noted.now c.loop-index.report c.push.new.self (GoalFact c.loop-index.index ∷ []) (refl, tt) c.in_ok-push.ensures.ok
-    (more_is_report p c.args.noted.now (λ run. LinesOfEach (AreGoalFactLines p run) (places_to (fails s) c.loop-index.index p.goal)) c.args.report.now c.loop-index.report
-    c.loop-index.invariant c.requires)
+    let p = c.args.layered.now in
+    let s = c.args.history.now.last in
+    plain_is_report p c.args.history.now c.loop-index.report c.push-then-value-fact.new.self (GoalFact c.loop-index.index ∷ []) (refl, tt) c.in_ok-push-2.ensures.ok
+    (more_is_report p c.args.history.now (λ run. LinesOfEach (AreGoalFactLines p run) (places_to (fails s) c.loop-index.index p.goal)) _ c.loop-index.report
+    c.loop-index.invariant (plain_is_report p c.args.history.now c.args.report.now c.push.new.self (_ ∷ []) (refl, tt) c.in_ok-push.ensures.ok c.requires))
 
 pub loop-index-preserved : goal.loop-index-preserved
 loop-index-preserved g c =
-    let p = c.args.task.now in
-    let s = c.args.noted.now.last in
+    let p = c.args.layered.now in
+    let s = c.args.history.now.last in
     let k = c.loop-index.index in
-    let lt : k < length p.goal = subst (λ (l : List Fact). k < length l) c.goal-fact-items.ensures c.loop-index-test.true in
+    let goal_is = c.goal-goal.ensures ∙ ap (λ (q : Parts). q.goal) c.task.ensures.task in
+    let lt : k < length p.goal = subst (λ (l : List Fact). k < length l) goal_is c.loop-index-test.true in
     elim c.if-value-fact.branch [
-      | then-value-fact+in_ok-push+in_ok-report_cause w ↦ rw (
+      | then-value-fact+in_ok-push-2+in_ok-report_cause w ↦ rw (
         w.report-is,
-        place_more (fails s) k p.goal _ lt (fails_when s _ (subst (λ (l : List Fact). slice_index s (get_or l k (record { var = 0; value = 0 })).var ≡ (get_or l k (record { var = 0; value = 0 })).value → ⊥) c.goal-fact-items.ensures
+        place_more (fails s) k p.goal _ lt (fails_when s _ (subst (λ (l : List Fact). slice_index s (get_or l k (record { var = 0; value = 0 })).var ≡ (get_or l k (record { var = 0; value = 0 })).value → ⊥) goal_is
             (λ e. w.if-value-fact.true (c.value.ensures ∙ e)))),
       )
-          (one_more p c.args.noted.now (λ run. AreGoalFactLines p run) _ _ _ _ k c.loop-index.invariant
-          (line_and_more _ _ _ _ w.push.new.self (GoalFact k) (λ run. IsCause p run (goal_fact_at p k)) refl w.in_ok-push.ensures.ok
-          (rw c.goal-fact-items.ensures at w.in_ok-report_cause.ensures)))
+          (one_more p c.args.history.now (λ run. AreGoalFactLines p run) _ _ _ _ k c.loop-index.invariant
+          (line_and_more _ _ _ _ w.push-then-value-fact.new.self (GoalFact k) (λ run. IsCause p run (goal_fact_at p k)) refl w.in_ok-push-2.ensures.ok
+          (rw goal_is at w.in_ok-report_cause.ensures)))
       | else-value-fact w ↦ rw (
         w.report-is,
-        place_not (fails s) k p.goal _ lt (holds_when s _ (subst (λ (l : List Fact). slice_index s (get_or l k (record { var = 0; value = 0 })).var ≡ (get_or l k (record { var = 0; value = 0 })).value) c.goal-fact-items.ensures
+        place_not (fails s) k p.goal _ lt (holds_when s _ (subst (λ (l : List Fact). slice_index s (get_or l k (record { var = 0; value = 0 })).var ≡ (get_or l k (record { var = 0; value = 0 })).value) goal_is
             (sym c.value.ensures ∙ w.if-value-fact.false))),
       ) c.loop-index.invariant
     ]
 
 pub returns : goal.returns
 returns g c =
-    let p = c.args.task.now in
-    let s = c.args.noted.now.last in
-    let all : length p.goal ≤ c.loop-index.index = subst (λ (l : List Fact). length l ≤ c.loop-index.index) c.goal-fact-items.ensures c.loop-index-test.false in
-    at_last p c.args.noted.now (λ r. AreGoalFactLines p r) (λ t. places (fails t) p.goal) _ _ (rw (places_all (fails s) c.loop-index.index p.goal all) at c.loop-index.invariant)
+    let p = c.args.layered.now in
+    let s = c.args.history.now.last in
+    let goal_is = c.goal-goal.ensures ∙ ap (λ (q : Parts). q.goal) c.task.ensures.task in
+    let all : length p.goal ≤ c.loop-index.index = subst (λ (l : List Fact). length l ≤ c.loop-index.index) goal_is c.loop-index-test.false in
+    let first : Line = FailingGoalFacts (count_by (fails s) p.goal) (length p.goal) in
+    at_last p c.args.history.now (λ r t. LineThen (FailingGoalFacts (count_by (fails t) p.goal) (length p.goal)) (LinesOfEach (AreGoalFactLines p r) (places (fails t) p.goal))) _ _
+    (line_and_more _ _ _ _ c.push.new.self first (λ run. LinesOfEach (AreGoalFactLines p run) (places (fails s) p.goal)) refl (rw (c.count_failing.ensures, goal_is) at c.in_ok-push.ensures.ok)
+    (rw (places_all (fails s) c.loop-index.index p.goal all) at c.loop-index.invariant))

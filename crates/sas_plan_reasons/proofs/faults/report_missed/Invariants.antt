@@ -3,5 +3,5 @@ use Rattle.sas_plan_reasons.proofs.Imports.{LinesOfEach, fails, AreGoalFactLines
 use Rattle.sas_plan_reasons.proofs.faults.report_missed.Given as goal
 
 abbrev pub invariant-loop-index : goal.invariant-loop-index
-invariant-loop-index g l = AddsLines l.task l.noted l.initial.report l.report
-    (λ run. LinesOfEach (AreGoalFactLines l.task run) (places_to (fails l.noted.last) l.index l.task.goal))
+invariant-loop-index g l = AddsLines l.layered l.history l.initial.report l.report
+    (λ run. LinesOfEach (AreGoalFactLines l.layered run) (places_to (fails l.history.last) l.index l.layered.goal))

@@ -3,7 +3,7 @@ use Rattle.sas_plan_reasons.proofs.writing.explain_fault.Goals as goal
 
 pub returns : goal.returns
 returns c =
-    let fault = c.args.noted.now.fault in
+    let fault = c.args.history.now.fault in
     let verdict = output_of c.in_ok-verdict.verdict in
     let reported = rw c.cost.ensures at c.in_ok-verdict.ensures in
     inr (

@@ -6,22 +6,22 @@ use Rattle.sas_run.proofs.runner.is_applicable.Goals as goal
 
 pub holds_all-requires : goal.holds_all-requires
 holds_all-requires g c =
-    let p = c.args.task.now in
+    let p = c.args.layered.now in
     let o = operator_at p c.args.operator in
-    rw (c.prevail.ensures, c.requires.state.one_each)
-    (prevail_within c.args.state.now o c.in-Some.changes.now c.in-Some.ensures (length p.variables) (preconditions_within p c.task.ensures.well_ranged c.args.operator c.requires.operator))
+    rw (rw c.task-task.ensures.task at c.prevail.ensures, c.requires.state.one_each)
+    (prevail_within c.args.state.now o c.in-Some.changes.now c.in-Some.ensures (length p.variables) (preconditions_within p c.task-task.ensures.well_ranged c.args.operator c.requires.operator))
 
 pub old_values_hold-requires : goal.old_values_hold-requires
 old_values_hold-requires g c =
-    let p = c.args.task.now in
-    rw c.requires.state.one_each (changes_within p c.args.operator c.requires.operator c.in-Some.changes.now c.in-Some.ensures c.task.ensures.well_ranged)
+    let p = c.args.layered.now in
+    rw c.requires.state.one_each (changes_within p c.args.operator c.requires.operator c.in-Some.changes.now c.in-Some.ensures c.task-task.ensures.well_ranged)
 
 pub returns-then-holds_all : goal.returns-then-holds_all
 returns-then-holds_all g c =
-    let p = c.args.task.now in
+    let p = c.args.layered.now in
     let o = operator_at p c.args.operator in
     let s = c.args.state.now in
-    let hold : AllHold (slice_index s) o.prevail = subst (AllHold (slice_index s)) c.prevail.ensures (c.holds_all.ensures.0 c.if-holds_all.true) in (
+    let hold : AllHold (slice_index s) o.prevail = subst (AllHold (slice_index s)) (rw c.task-task.ensures.task at c.prevail.ensures) (c.holds_all.ensures.0 c.if-holds_all.true) in (
       (λ yes. met s o c.in-Some.changes.now c.in-Some.ensures hold (c.old_values_hold.ensures.yes yes)),
       (λ can. true_from_ne_false c.old_values_hold.result
           (λ no. c.old_values_hold.ensures.no no (olds_met s o c.in-Some.changes.now c.in-Some.ensures can))),
@@ -29,9 +29,9 @@ returns-then-holds_all g c =
 
 pub returns-else-holds_all : goal.returns-else-holds_all
 returns-else-holds_all g c =
-    let p = c.args.task.now in
+    let p = c.args.layered.now in
     let o = operator_at p c.args.operator in
     let s = c.args.state.now in (
       (λ yes. (let no = c.if-holds_all.false in absurd cc)),
-      (λ can. c.holds_all.ensures.1 (rw c.prevail.ensures (prevail_met s o c.in-Some.changes.now c.in-Some.ensures can))),
+      (λ can. c.holds_all.ensures.1 (rw (rw c.task-task.ensures.task at c.prevail.ensures) (prevail_met s o c.in-Some.changes.now c.in-Some.ensures can))),
     )

@@ -7,20 +7,20 @@ use Rattle.sas_run.proofs.steps.missed_precondition.Goals as goal
 
 pub loop-fact-init : goal.loop-fact-init
 loop-fact-init g c = record {
-  left = sym (c.into_iter-fact-iterator.ensures.into_iter_gives ∙ c.new-fact-items.ensures);
+  left = sym (c.into_iter-fact-iterator.ensures.into_iter_gives ∙ rw c.task.ensures.task at c.new-fact-items.ensures);
   hold = All-nil (Holds (slice_index c.args.state.now));
 }
 
 pub value-requires : goal.value-requires
 value-requires g c =
-    let p = c.args.task.now in
+    let p = c.args.layered.now in
     let Within : Fact → Type 0 = λ f. f.var < length c.args.state.now in
     let all : All Within (preconditions (operator_at p c.args.operator)) = rw c.requires.state.one_each (preconditions_within p c.task.ensures.well_ranged c.args.operator c.requires.operator) in
     All-head Within c.in-Some.fact _ (rw c.in-Some.ensures.steps at (all_behind Within c.loop-fact.yielded c.loop-fact.fact-iterator (rw c.loop-fact.invariant.left at all)))
 
 pub returns-then-value-fact-clause-some : goal.returns-then-value-fact-clause-some
 returns-then-value-fact-clause-some g c =
-    missed_next (slice_index c.args.state.now) (preconditions (operator_at c.args.task.now c.args.operator))
+    missed_next (slice_index c.args.state.now) (preconditions (operator_at c.args.layered.now c.args.operator))
     c.loop-fact.yielded c.loop-fact.fact-iterator _ c.in-Some.fact c.loop-fact.invariant.left c.loop-fact.invariant.hold c.in-Some.ensures.steps
     (λ e. c.if-value-fact.true (c.value.ensures ∙ e))
 

@@ -4,8 +4,8 @@ use Rattle.sas_plan_reasons.proofs.origin_rounds.OriginRounds.first_open.Given a
 
 abbrev pub invariant-loop-place : goal.invariant-loop-place
 invariant-loop-place g l = record {
-  within : l.place ≤ length (rule_at l.task l.rule).conditions;
-  hold : HoldFrom l.task l.layer l.state l.self.over (rule_at l.task l.rule).conditions (get_or l.self.passed.items l.rule 0) l.place;
+  within : l.place ≤ length (rule_at l.layered l.rule).conditions;
+  hold : HoldFrom l.layered l.layer l.state l.self.over (rule_at l.layered l.rule).conditions (get_or l.self.passed.items l.rule 0) l.place;
 }
 
 abbrev pub decreases-loop-place : goal.decreases-loop-place

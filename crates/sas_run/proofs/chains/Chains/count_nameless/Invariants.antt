@@ -1,0 +1,6 @@
+-- The numbers without an operator so far are counted.
+use Rattle.sas_run.proofs.Imports.{◌≡◌, take, count_by, has_none}
+use Rattle.sas_run.proofs.chains.Chains.count_nameless.Given as goal
+
+abbrev pub invariant-loop-number : goal.invariant-loop-number
+invariant-loop-number l = l.count ≡ count_by (has_none l.self.first.items) (take l.number-index l.numbers)
