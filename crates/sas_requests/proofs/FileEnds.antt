@@ -1,13 +1,15 @@
 -- How the output about one file goes out.
-use Rattle.std.proofs.Common.{arith}
+use Rattle.std.proofs.Common.{arith, ap, take}
+use Rattle.std.proofs.lemmas.List.{length-take, take_all}
+use Rattle.sas_requests.specs.Answering.{first_bytes}
 use Rattle.std.proofs.lemmas.Grind.{common_steps}
-use Rattle.sas_requests.proofs.Imports.{◌≡◌, ◌≢◌, ℕ, ◌<◌, Bool, true, false, IsTrue, List, [], refl, sym, subst, ◌∙◌, inr, codes, Option, Some, None, Result, Ok, Err, nat_lt, IsErrOf, IsSomeAnd, ◌↔◌, Consumes, IsAtEnd, Parts, PlanParts, first_fault, LayerFault, layer_checks, Device, Fault, Kind, TooLong, Read, Memory, Excerpt, ReadsAll, ValueOf, Format, ReadsAs, Detail, Reasons, FileBy, TaskBy, PlanBy, UnlayeredBy, layers_by, refusal_by, task_refusal_lines, plan_refusal_lines, FaultReasons, reported, past_limit, FileReasons, AreTaskReasons, ArePlanReasons, IsFoundOf, most_bytes, ConcernsText, AboutLaws, ExplainsRefusal, ReadsOrExplains, known_answer, known_fault, known_explained, PlanRefusal, plan_format, fault_of, found_of, nothing_else, ReadsPlan, less, is_less, task_format, IsTaskReason, TaskRefusal, fault_in, found_in, HasReason, ReadsTask, FileLine, file_text, Status, ToolFault, Output, Ends, EndsCounting, IsDecided, Writes, Answers, ends_by, writes_as, writes_counting, writes_answers, answers_by, not_memory, refusal, IsAnswerOrRefusal, FileOut, EndsFile}
+use Rattle.sas_requests.proofs.Imports.{◌≡◌, ◌≢◌, ℕ, ◌<◌, Bool, true, false, IsTrue, List, [], refl, sym, subst, ◌∙◌, inr, codes, Option, Some, None, Result, Ok, Err, nat_lt, IsErrOf, IsSomeAnd, ◌↔◌, Consumes, IsAtEnd, Parts, PlanParts, first_fault, LayerFault, layer_checks, Device, Fault, Kind, TooLong, Read, Memory, Excerpt, ReadsAll, ValueOf, Format, ReadsAs, Detail, Reasons, FileBy, TaskBy, PlanBy, UnlayeredBy, layers_by, refusal_by, task_refusal_lines, plan_refusal_lines, FaultReasons, reported, past_limit, FileReasons, AreTaskReasons, ArePlanReasons, IsFoundOf, most_bytes, ConcernsText, AboutLaws, ExplainsRefusal, ReadsOrExplains, known_answer, known_fault, known_explained, PlanRefusal, plan_format, fault_of, found_of, TellsLineEnd, EndsUnended, length, ReadsPlan, less, is_less, task_format, TaskRefusal, fault_in, found_in, HasReason, ReadsTask, FileLine, file_text, Status, ToolFault, Output, Ends, EndsCounting, IsDecided, Writes, Answers, ends_by, writes_as, writes_counting, writes_answers, answers_by, not_memory, refusal, IsAnswerOrRefusal, FileOut, EndsFile}
 use Rattle.sas_requests.proofs.Outputs.{refused_kind, too_long_else, reading_of_refusal}
 use Rattle.sas_requests.proofs.PlanOutputs.{reported_fault}
 use Rattle.sas_meaning.specs.declared.layered.LayerFault.TheVariants as layer_fault
 use Rattle.sas_answers.specs.declared.ending.ToolFault.TheVariants as tool_fault
 use Rattle.sas_requests.specs.declared.question.Detail.TheVariants.{Plain}
-use Rattle.sas_requests.proofs.RefusalLaws.{task_reporting, plan_reporting}
+use Rattle.sas_requests.proofs.RefusalLaws.{Unended, task_reporting, plan_reporting, task_unended, plan_unended}
 use Rattle.sas_requests.proofs.RefusalReasons.{some_of, reasoned_by, more_reasoned, reported_alone}
 
 -- ---- what is written
@@ -32,7 +34,7 @@ starved contents old o working = record { ends = tt; nothing = inr (refl, refl);
 
 -- ---- the output about the bytes of a file
 
-module _ {V I S : Type 0} (F : Format V I S) (Reports : Kind → List (List ℕ) → List ℕ → List FileLine → Type 0) (name : List ℕ) where
+module _ {V I S : Type 0} (F : Format V I S) (Reports : Fault → List (List ℕ) → List ℕ → Bool → List FileLine → Type 0) (name : List ℕ) where
   -- an answer about their value
   value_by : (detail : Detail) (IsAnswer : V → Output → Type 0) (b : List ℕ) (v : V) (o : Output) → ReadsAs F most_bytes b (Ok v) → IsAnswer v o → FileBy F Reports name detail IsAnswer b (Some o)
   value_by detail IsAnswer b v o reads is =
@@ -67,7 +69,7 @@ module _ {V I S : Type 0} (F : Format V I S) (Reports : Kind → List (List ℕ)
 
 -- ---- how it goes out
 
-module _ {D V I S A W : Type 0} (left : D → Option (List ℕ)) (F : Format V I S) (Reports : Kind → List (List ℕ) → List ℕ → List FileLine → Type 0) (Gives : List ℕ → A → Type 0) (name : List ℕ)
+module _ {D V I S A W : Type 0} (left : D → Option (List ℕ)) (F : Format V I S) (Reports : Fault → List (List ℕ) → List ℕ → Bool → List FileLine → Type 0) (Gives : List ℕ → A → Type 0) (name : List ℕ)
     (detail : Detail) (IsAnswer : V → Output → Type 0) (old new : Device D) (contents : W → Option (List ℕ)) (out_old out_new : Device W) where
   abbrev FileOutput : List ℕ → Option Output → Type 0
   FileOutput = FileBy F Reports name detail IsAnswer
@@ -110,26 +112,30 @@ module _ {D V I S A W : Type 0} (left : D → Option (List ℕ)) (F : Format V I
     reads = one.reads;
   })
 
-  module _ {R : Type 0} (reporting : AboutLaws F) (fault : R → Fault) (found : R → Excerpt) (Answer : List (List ℕ) → List ℕ → R → Type 0)
-      (r : R) (reasons : List FileLine) (reports : (accepted : List (List ℕ)) (text : List ℕ) → IsFoundOf text (found r) → Answer accepted text r → Reports (fault r).kind accepted text reasons)
+  module _ {R : Type 0} (reporting : AboutLaws F) (unended : Unended F) (fault : R → Fault) (found : R → Excerpt) (Answer : List (List ℕ) → List ℕ → R → Type 0)
+      (r : R) (reasons : List FileLine) (lacks : Bool) (tells : (accepted : List (List ℕ)) (text : List ℕ) → Answer accepted text r → IsTrue lacks ↔ EndsUnended F (fault r).kind accepted text)
+      (reports : (accepted : List (List ℕ)) (text : List ℕ) → IsFoundOf text (found r) → Answer accepted text r → Reports (fault r) accepted text lacks reasons)
       (h : ReadsOrExplains F fault found Answer left Gives old new (Err r)) where
     plain : ReadsAll left F Gives old new (Err (fault r))
     plain = h.plain
 
-    reasons_of : (b : List ℕ) → ExplainsRefusal F fault found Answer b r → FaultReasons F Reports b (fault r) reasons
-    reasons_of b e = reported e.accepted e.text e.about (reports e.accepted e.text e.kept e.why)
+    reasons_of : (b : List ℕ) → ConcernsText (fault r).kind → ExplainsRefusal F fault found Answer b r → FaultReasons F Reports b (fault r) reasons
+    reasons_of b kind e =
+        let same = unended b (fault r) e.accepted e.text kind.1 e.about in
+        let t = tells e.accepted e.text e.why in
+        reported e.accepted e.text lacks e.about ((λ l. same.1 (t.0 l)), λ l. t.1 (same.0 l)) (reports e.accepted e.text e.kept e.why)
 
     known_out : (b : List ℕ) → left old.device ≡ Some b → (o : Output) → Some o ≡ refusal_by detail name (fault r) reasons → FileOutput b (Some o)
     known_out b known o is =
         let kind = reported_kind F Reports name (fault r) reasons detail o is in
         refused_by F Reports name (fault r) reasons detail IsAnswer b (known_fault left F Gives old new (fault r) b plain known kind.2 kind.0) o is
-        (reasons_of b (known_explained left F fault found Answer Gives old new r b reporting h known kind))
+        (reasons_of b kind (known_explained left F fault found Answer Gives old new r b reporting h known kind))
 
     taken_out : (o : Output) → Some o ≡ refusal_by detail name (fault r) reasons → (b : List ℕ) × Consumes (left old.device) (left new.device) b × FileOutput b (Some o)
     taken_out o is =
         let kind = reported_kind F Reports name (fault r) reasons detail o is in
         let x = h.explained kind in
-        (x.0, x.1, refused_by F Reports name (fault r) reasons detail IsAnswer x.0 (reading_of_refusal F x.0 (IsAtEnd (left new.device)) (fault r) x.2 kind.0) o is (reasons_of x.0 x.3))
+        (x.0, x.1, refused_by F Reports name (fault r) reasons detail IsAnswer x.0 (reading_of_refusal F x.0 (IsAtEnd (left new.device)) (fault r) x.2 kind.0) o is (reasons_of x.0 kind x.3))
 
     long_memory : (fault r).kind ≡ TooLong → (fault r).kind ≢ Memory
     long_memory long = too_long_else (fault r).kind Memory long (λ e. absurd cc)
@@ -182,12 +188,16 @@ more_is : (m : Bool) (n : ℕ) → IsTrue m ↔ (64 < n) → m ≡ nat_lt 64 n
 more_is true n h = sym (less 64 n (h.0 refl))
 more_is false n h = not_true (nat_lt 64 n) (λ t. h.1 (is_less 64 n t))
 
--- what a refusal says of a task, and of a plan
-task_refusal_shows : (r : TaskRefusal) (accepted : List (List ℕ)) (text : List ℕ) → IsFoundOf text r.found → IsTaskReason (r.fault).kind accepted text r.mark r.word → AreTaskReasons (r.fault).kind accepted text (task_refusal_lines r)
-task_refusal_shows r accepted text is reason = grind (arith, common_steps, more_is)
+-- the bytes that are shown are the first ones of the text
+first_are : (text : List ℕ) (found : Excerpt) → IsFoundOf text found → first_bytes found ≡ take 64 text
+first_are text found is = ap (take 64) is.front ∙ take_all 64 (take 64 text) (omega (arith, length-take 64 text))
 
-plan_refusal_shows : (r : PlanRefusal) (accepted : List (List ℕ)) (text : List ℕ) → IsFoundOf text r.found → ArePlanReasons (r.fault).kind accepted text (plan_refusal_lines r)
-plan_refusal_shows r accepted text is = grind (arith, common_steps, more_is)
+-- what a refusal says of a task, and of a plan
+task_refusal_shows : (r : TaskRefusal) (accepted : List (List ℕ)) (text : List ℕ) → IsFoundOf text r.found → HasReason accepted text r → AreTaskReasons r.fault accepted text r.lacks_line_end (task_refusal_lines r)
+task_refusal_shows r accepted text is why = record { mark = r.mark; word = r.word; count = r.count; reason = why.reason; counted = why.counted; lines = rw (first_are text r.found is, more_is (r.found).more (length text) is.longer) refl }
+
+plan_refusal_shows : (r : PlanRefusal) (accepted : List (List ℕ)) (text : List ℕ) → IsFoundOf text r.found → ArePlanReasons r.fault accepted text r.lacks_line_end (plan_refusal_lines r)
+plan_refusal_shows r accepted text is = rw (first_are text r.found is, more_is (r.found).more (length text) is.longer) refl
 
 -- ---- task files and plan files
 
@@ -197,14 +207,14 @@ module _ {D A W : Type 0} (left : D → Option (List ℕ)) (Gives : List ℕ →
       → Answers contents (Ends (λ o. o ≡ refusal_by detail (codes "task") r.fault (task_refusal_lines r))) out_old out_new result → IsErrOf result tool_fault.TooLong ↔ ((r.fault).kind ≡ TooLong) → IsErrOf result tool_fault.Read ↔ ((r.fault).kind ≡ Read)
       → Answers contents (EndsFile left (TaskBy detail IsAnswer) old new) out_old out_new result
   task_refused IsAnswer r result h refused long reads =
-      answers_refused left task_format AreTaskReasons Gives (codes "task") detail IsAnswer old new contents out_old out_new task_reporting fault_in found_in HasReason r (task_refusal_lines r) (task_refusal_shows r) h result long.0 reads refused
+      answers_refused left task_format AreTaskReasons Gives (codes "task") detail IsAnswer old new contents out_old out_new task_reporting task_unended fault_in found_in HasReason r (task_refusal_lines r) r.lacks_line_end (λ accepted text why. why.unended) (task_refusal_shows r) h result long.0 reads refused
 
   -- and a plan file
   pub plan_refused : (IsAnswer : PlanParts → Output → Type 0) (r : PlanRefusal) (result : Result Status ToolFault) → ReadsPlan left Gives old new (Err r)
       → Answers contents (Ends (λ o. o ≡ refusal_by detail (codes "plan") r.fault (plan_refusal_lines r))) out_old out_new result → IsErrOf result tool_fault.TooLong ↔ ((r.fault).kind ≡ TooLong) → IsErrOf result tool_fault.Read ↔ ((r.fault).kind ≡ Read)
       → Answers contents (EndsFile left (PlanBy detail IsAnswer) old new) out_old out_new result
   plan_refused IsAnswer r result h refused long reads =
-      answers_refused left plan_format ArePlanReasons Gives (codes "plan") detail IsAnswer old new contents out_old out_new plan_reporting fault_of found_of nothing_else r (plan_refusal_lines r) (λ accepted text is other. plan_refusal_shows r accepted text is) h result long.0 reads refused
+      answers_refused left plan_format ArePlanReasons Gives (codes "plan") detail IsAnswer old new contents out_old out_new plan_reporting plan_unended fault_of found_of TellsLineEnd r (plan_refusal_lines r) r.lacks_line_end (λ accepted text why. why) (λ accepted text is why. plan_refusal_shows r accepted text is) h result long.0 reads refused
 
 -- a task that isn't layered is refused for its first fault
 not_memory_by : (detail : Detail) (p : Parts) (fault : LayerFault) (o : Output) → layers_by detail p fault ≡ Some o → fault ≢ layer_fault.Memory

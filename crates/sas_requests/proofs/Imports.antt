@@ -4,7 +4,7 @@ pub use Rattle.std.proofs.KnownBytes.{Consumes-nil}
 pub use Rattle.std.proofs.Math.ListN.{get_or-map, get_or-append}
 pub use Rattle.std.proofs.Math.Nat.{mul-le-mul_left, le-min, min-le_left, min-le_right}
 pub use Rattle.std.proofs.Math.Seq.{drop-append_seam, get_or-append_seam}
-pub use Rattle.std.proofs.lemmas.Bool.{and_from, ne_eqb, ltb-true, cases_lt, lt-ltb}
+pub use Rattle.std.proofs.lemmas.Bool.{false≢true, and_from, ne_eqb, ltb-true, cases_lt, lt-ltb}
 pub use Rattle.std.proofs.lemmas.Fmt.{length-decimal-le}
 pub use Rattle.std.proofs.lemmas.Grind.{elements, common_steps, flat_map-append}
 pub use Rattle.std.proofs.lemmas.List.{append_cancel_left, take-append-drop, take_all, map-append, length-map, append_cancel_right, length_push}
@@ -25,6 +25,7 @@ pub use Rattle.sas_answers.proofs.CheckAnswers.{some_check_answer, layered_answe
 pub use Rattle.sas_answers.proofs.InitialLines.{initial_texts, initial_all, initial_next, initial_text, initial_is}
 pub use Rattle.sas_answers.proofs.MutexAnswers.{groups_answered, one_mutex_answer, some_mutex_answer}
 pub use Rattle.sas_answers.proofs.PlainLines.{number, number_then, two, lines_are_reasons}
+pub use Rattle.sas_answers.proofs.ShownTexts.{shown_plain}
 pub use Rattle.sas_answers.proofs.Pushed.{pushes_item, pushes_then}
 pub use Rattle.sas_answers.proofs.Sent.{counting_ends, ends_by, exact_ends, writes_by, writes_as, writes_counting, writes_answers, answers_by}
 pub use Rattle.sas_answers.proofs.VerdictAnswers.{one_verdict_answer, some_verdict_answer}
@@ -78,7 +79,7 @@ pub use Rattle.sas_plan_file.proofs.PlanGrammar.{plan_grammar}
 pub use Rattle.sas_plan_file.proofs.PlanLaws.{plan_laws_hold}
 pub use Rattle.sas_plan_file.specs.PlanFormat.{plan_texts, plan_format, PlanKind, PlanLineFits, like_step, like_cost, like_none}
 pub use Rattle.sas_plan_file.specs.PlanMachine.{plan_node, plan_start}
-pub use Rattle.sas_plan_file.specs.PlanRefusal.{fault_of, found_of, nothing_else, ReadsPlan}
+pub use Rattle.sas_plan_file.specs.PlanRefusal.{fault_of, found_of, TellsLineEnd, ReadsPlan}
 pub use Rattle.sas_plan_file.specs.declared.plan_refusal.PlanRefusal.{PlanRefusal}
 pub use Rattle.sas_plan_reasons.proofs.Answering.{some_trace, one_trace}
 pub use Rattle.sas_plan_reasons.proofs.WhyPlan.{one_why, some_why}
@@ -86,12 +87,13 @@ pub use Rattle.sas_plan_reasons.specs.Trace.{run_lines}
 pub use Rattle.sas_plan_reasons.specs.Traced.{IsTraced, TraceVerdict, EndsWith}
 pub use Rattle.sas_plan_reasons.specs.Verdict.{WhyVerdict, Explains}
 pub use Rattle.sas_reader.proofs.About.{about_laws_of}
+pub use Rattle.sas_reader.proofs.LineEnds.{ends_unended}
 pub use Rattle.sas_reader.proofs.Known.{known_answer, known_fault}
 pub use Rattle.sas_reader.proofs.KnownRefusals.{known_explained}
 pub use Rattle.sas_reader.proofs.Plain.{plain-decimal, plain}
-pub use Rattle.sas_reader.specs.About.{ConcernsText, AboutLaws, IsAbout, of_line, of_byte, of_end}
+pub use Rattle.sas_reader.specs.About.{ConcernsText, AboutLaws, EndsUnended, IsAbout, of_line, of_byte, of_end}
 pub use Rattle.sas_reader.specs.Devices.{Refuses, ReadsAll, ValueOf, TextOf}
-pub use Rattle.sas_reader.specs.Format.{Format, ReadsAs, FaultOf, KindAt, too_long, trailing, wrong}
+pub use Rattle.sas_reader.specs.Format.{Format, IsBegun, LacksLineEnd, ReadsAs, FaultOf, KindAt, too_long, trailing, wrong}
 pub use Rattle.sas_reader.specs.Found.{IsFoundOf}
 pub use Rattle.sas_reader.specs.Laws.{Laws}
 pub use Rattle.sas_reader.specs.Limit.{most_bytes}
@@ -105,6 +107,7 @@ pub use Rattle.sas_run.proofs.PlanVerdicts.{some_verdict, valid_has_no_fault, fa
 pub use Rattle.sas_run.specs.Plans.{IsValid}
 pub use Rattle.sas_run.specs.Verdicts.{IsFaultOf}
 pub use Rattle.sas_run.specs.declared.plan_check.PlanFault.{PlanFault}
+pub use Rattle.sas_task_file.proofs.CountLaws.{one_count, some_count}
 pub use Rattle.sas_task_file.proofs.MarkLaws.{one_task_reason}
 pub use Rattle.sas_task_file.proofs.SomeReason.{some_task_reason}
 pub use Rattle.sas_task_file.proofs.TaskGrammar.{task_grammar}
@@ -114,7 +117,6 @@ pub use Rattle.sas_task_file.specs.Marks.{fixed_word_bytes}
 pub use Rattle.sas_task_file.specs.Process.{process_node}
 pub use Rattle.sas_task_file.specs.TaskFormat.{task_texts, task_format, TaskSlot, word_slot, name_slot, number_slot, signed_slot, fact_slot, effect_slot, head_slot, NumbersKind, no_shape, no_value, TaskLineFits, TaskLine, word, name, signed, fact, task_line_bytes, single_line, between, counted, version_lines, metric_lines, variable_lines, group_lines, state_lines, operator_lines, rule_lines, task_layout}
 pub use Rattle.sas_task_file.specs.TaskProcess.{task_start}
-pub use Rattle.sas_task_file.specs.TaskReasons.{IsTaskReason}
 pub use Rattle.sas_task_file.specs.declared.marks.Due.{Due}
 pub use Rattle.sas_task_file.specs.declared.marks.FixedWord.{FixedWord}
 pub use Rattle.sas_task_file.specs.declared.marks.Location.{Location}
@@ -131,8 +133,10 @@ pub use Rattle.sas_requests.specs.Answering.{FileBy, TaskBy, PlanBy, UnlayeredBy
 pub use Rattle.sas_requests.specs.EndsFile.{EndsFile}
 pub use Rattle.sas_requests.specs.EndsRequest.{EndsRequest}
 pub use Rattle.sas_requests.specs.FileLaws.{FileLinesAreReasons}
-pub use Rattle.sas_requests.specs.FileLine.{FileLine, ended_line, At, Expected, ExpectedInPlan, NumberMustBe, Found, location_words, due_words, plan_due_words, least_words, empty_words, found_word, hex_digit_of, in_digits, shown_byte, shown_whole, shown, file_line_bytes}
-pub use Rattle.sas_requests.specs.FileLines.{file_text, file_lines}
+pub use Rattle.sas_requests.specs.FileLine.{FileLine, ended_line, At, Expected, ExpectedInPlan, NumberMustBe, Counted, Found, Hinted, location_words, due_words, plan_due_words, least_words, empty_words, found_word, plain_in_texts, file_line_bytes}
+pub use Rattle.sas_requests.specs.FileLines.{file_text, file_lines, line_if}
+pub use Rattle.sas_requests.specs.Hint.{hint_words, task_hint, plan_hint}
+pub use Rattle.sas_requests.specs.declared.hint.Hint.{Hint}
 pub use Rattle.sas_requests.specs.FileReasons.{FaultReasons, reported, past_limit, FileReasons, AreTaskReasons, ArePlanReasons, RefusalReasons, ReadReasons, TaskFileReasons, PlanFileReasons}
 pub use Rattle.sas_requests.specs.Headline.{Solves, Headline, HasInvariant, Invariants}
 pub use Rattle.sas_requests.specs.InTurn.{IsRightlyLong, OpensFirst, OpensInTurn, OpensTo}

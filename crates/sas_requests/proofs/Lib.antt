@@ -1,5 +1,4 @@
 pub mod Summaries
-mod ShownTexts
 mod FileTexts
 pub mod FileReasonLines
 pub mod Outputs

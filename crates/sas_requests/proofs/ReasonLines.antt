@@ -16,7 +16,7 @@ one_line line is = record { plain = is.plain; reports = ap is_reason is.spaces }
 -- the lines of a plan and of a task
 pub lines_report : (p : Parts) (steps : List (List ℕ)) → WellRanged p → AllByRecursion IsName steps → (reasons : List Line) → AreReasons (map (line_bytes p steps) reasons)
 lines_report p steps ranged names [] = tt
-lines_report p steps ranged names (l ∷ reasons) = (one_line (line_bytes p steps l) (lines_are_reasons p steps l ranged names), lines_report p steps ranged names reasons)
+lines_report p steps ranged names (l ∷ reasons) = (one_line (line_bytes p steps l) (lines_are_reasons p steps l), lines_report p steps ranged names reasons)
 
 -- those of a refused file
 pub file_lines_report : (reasons : List FileLine) → AreReasons (file_lines reasons)

@@ -1,7 +1,7 @@
 -- Why a file is refused: one list of reasons, and always some.
 use Rattle.std.proofs.Common.{arith}
 use Rattle.std.proofs.lemmas.Grind.{common_steps}
-use Rattle.sas_requests.proofs.Imports.{◌≡◌, ◌≢◌, ℕ, List, [], ◌∷◌, refl, sym, subst, ◌∙◌, inl, inr, Result, Ok, Err, lines, unfinished, Fault, Kind, Format, FaultOf, KindAt, too_long, trailing, wrong, ReadsAs, Laws, most_bytes, IsAbout, of_line, of_byte, of_end, AboutLaws, about_laws_of, plan_format, PlanLineFits, plan_node, plan_start, plan_grammar, FaultReasons, reported, past_limit, ReadReasons, FileReasons, AreTaskReasons, ArePlanReasons, TaskFileReasons, PlanFileReasons, RefusalReasons, plan_laws_hold, process_node, task_format, TaskLineFits, task_start, one_task_reason, some_task_reason, task_grammar, task_laws_hold, FileLine, Request, Steps, Plan, IsLayeredText}
+use Rattle.sas_requests.proofs.Imports.{◌≡◌, ◌≢◌, ◌↔◌, ℕ, Bool, true, false, IsTrue, false≢true, List, [], ◌∷◌, refl, sym, subst, ◌∙◌, inl, inr, Result, Ok, Err, lines, unfinished, Fault, Kind, Format, FaultOf, KindAt, too_long, trailing, wrong, ReadsAs, Laws, most_bytes, IsAbout, of_line, of_byte, of_end, AboutLaws, about_laws_of, plan_format, PlanLineFits, plan_node, plan_start, plan_grammar, FaultReasons, reported, past_limit, ReadReasons, FileReasons, AreTaskReasons, ArePlanReasons, TaskFileReasons, PlanFileReasons, RefusalReasons, plan_laws_hold, process_node, task_format, TaskLineFits, task_start, one_task_reason, some_task_reason, one_count, some_count, IsBegun, LacksLineEnd, EndsUnended, ends_unended, PlanKind, TaskSlot, word_slot, name_slot, number_slot, signed_slot, fact_slot, effect_slot, head_slot, NumbersKind, no_shape, no_value, task_grammar, task_laws_hold, FileLine, Request, Steps, Plan, IsLayeredText}
 use Rattle.sas_requests.proofs.Outputs.{Worded, plan_worded, task_worded}
 use Rattle.sas_reader.specs.declared.fault.Kind.TheVariants as kinds
 
@@ -11,6 +11,32 @@ task_reporting = about_laws_of task_format TaskLineFits process_node task_start 
 pub plan_reporting : AboutLaws plan_format
 plan_reporting = about_laws_of plan_format PlanLineFits plan_node plan_start plan_grammar
 
+-- ---- bytes that lack only a line end
+
+abbrev pub Unended : {V I S : Type 0} → Format V I S → Type 0
+Unended F = (bytes : List ℕ) (f : Fault) (begun : List (List ℕ)) (found : List ℕ) → f.kind ≢ kinds.TooLong → IsAbout F most_bytes bytes f begun found → LacksLineEnd F bytes ↔ EndsUnended F f.kind begun found
+
+no_end_of_plan : (line : List ℕ) (k : Kind) → PlanKind line k → k ≢ kinds.End
+no_end_of_plan line k h e = grind (arith, common_steps)
+
+pub plan_unended : Unended plan_format
+plan_unended = ends_unended plan_format plan_laws_hold.fault_is_no_text (λ s line k h. no_end_of_plan line k h) most_bytes
+
+no_end_of_numbers : (s : TaskSlot) (line : List ℕ) (k : Kind) → NumbersKind s line k → k ≢ kinds.End
+no_end_of_numbers s line k h e = grind (arith, common_steps)
+
+no_end_of_task : (s : TaskSlot) (line : List ℕ) (k : Kind) → task_format.KindOf s line k → k ≢ kinds.End
+no_end_of_task (word_slot w) line k h e = let apart : kinds.Keyword ≡ kinds.End = sym h ∙ e in absurd cc
+no_end_of_task name_slot line k h e = let apart : kinds.Name ≡ kinds.End = sym h ∙ e in absurd cc
+no_end_of_task number_slot line k h e = no_end_of_numbers number_slot line k h e
+no_end_of_task signed_slot line k h e = no_end_of_numbers signed_slot line k h e
+no_end_of_task fact_slot line k h e = no_end_of_numbers fact_slot line k h e
+no_end_of_task effect_slot line k h e = no_end_of_numbers effect_slot line k h e
+no_end_of_task head_slot line k h e = no_end_of_numbers head_slot line k h e
+
+pub task_unended : Unended task_format
+task_unended = ends_unended task_format task_laws_hold.fault_is_no_text no_end_of_task most_bytes
+
 -- ---- one file
 
 -- exactly one list of reasons has this property
@@ -18,10 +44,19 @@ pub record HasOneList (AreReasons : List FileLine → Type 0) : Type 0 where
   pub one : (r s : List FileLine) → AreReasons r → AreReasons s → r ≡ s
   pub some : ((r : List FileLine) → AreReasons r → ⊥) → ⊥
 
+-- a truth is told in one way, and can be told
+one_truth : (a b : Bool) → (IsTrue a → IsTrue b) → (IsTrue b → IsTrue a) → a ≡ b
+one_truth true b f g = sym (f refl)
+one_truth false true f g = g refl
+one_truth false false f g = refl
+
+told : (P : Type 0) → ((b : Bool) → (IsTrue b ↔ P) → ⊥) → ⊥
+told P none = none false ((λ t. absurd (false≢true t)), λ p. absurd (none true ((λ t. p), λ q. refl)))
+
 -- what a fault is about is reported in one way, and can be reported
-module _ {V I S : Type 0} (F : Format V I S) (Reports : Kind → List (List ℕ) → List ℕ → List FileLine → Type 0) (laws : Laws F) (reporting : AboutLaws F) (worded : Worded F)
-    (one : (kind : Kind) (begun : List (List ℕ)) (found : List ℕ) (r s : List FileLine) → Reports kind begun found r → Reports kind begun found s → r ≡ s)
-    (some : (bytes : List ℕ) (f : Fault) (begun : List (List ℕ)) (found : List ℕ) → IsAbout F most_bytes bytes f begun found → (r : List FileLine) × Reports f.kind begun found r) (bytes : List ℕ) where
+module _ {V I S : Type 0} (F : Format V I S) (Reports : Fault → List (List ℕ) → List ℕ → Bool → List FileLine → Type 0) (laws : Laws F) (reporting : AboutLaws F) (worded : Worded F)
+    (one : (f : Fault) (begun : List (List ℕ)) (found : List ℕ) (lacks : Bool) (r s : List FileLine) → Reports f begun found lacks r → Reports f begun found lacks s → r ≡ s)
+    (some : (bytes : List ℕ) (f : Fault) (begun : List (List ℕ)) (found : List ℕ) (lacks : Bool) → IsAbout F most_bytes bytes f begun found → (r : List FileLine) × Reports f begun found lacks r) (bytes : List ℕ) where
   -- what a fault is about has a word
   about_short : (f : Fault) (begun : List (List ℕ)) (found : List ℕ) → IsAbout F most_bytes bytes f begun found → f.kind ≢ kinds.TooLong
   about_short f begun found (of_line h ha ht s n k) e = worded s found f.kind k (rw e refl)
@@ -29,47 +64,57 @@ module _ {V I S : Type 0} (F : Format V I S) (Reports : Kind → List (List ℕ)
   about_short f begun found (of_end h ha ht) e = absurd (let apart : kinds.End ≡ kinds.TooLong = sym h.kind ∙ e in cc)
 
   one_fault : (f : Fault) (r s : List FileLine) → FaultReasons F Reports bytes f r → FaultReasons F Reports bytes f s → r ≡ s
-  one_fault f r s (reported a t h x) (reported b u j y) =
+  one_fault f r s (reported a t l h p x) (reported b u m j q y) =
       let same = reporting.one_about most_bytes bytes f a b t u h j in
-      let here : Reports f.kind b u r = subst (λ (k : List (List ℕ)). Reports f.kind k u r) same.0 (subst (λ (w : List ℕ). Reports f.kind a w r) same.1 x) in
-      one f.kind b u r s here y
-  one_fault f r s (reported a t h x) (past_limit k e) = absurd (about_short f a t h k)
-  one_fault f r s (past_limit k e) (reported b u j y) = absurd (about_short f b u j k)
+      let here : Reports f b u l r = subst (λ (k : List (List ℕ)). Reports f k u l r) same.0 (subst (λ (w : List ℕ). Reports f a w l r) same.1 x) in
+      one f b u m r s (subst (λ (k : Bool). Reports f b u k r) (one_truth l m (λ t. q.1 (p.0 t)) (λ t. p.1 (q.0 t))) here) y
+  one_fault f r s (reported a t l h p x) (past_limit k e) = absurd (about_short f a t h k)
+  one_fault f r s (past_limit k e) (reported b u m j q y) = absurd (about_short f b u j k)
   one_fault f r s (past_limit k e) (past_limit l d) = e ∙ sym d
 
   one_read : (read : Result V Fault) (r s : List FileLine) → ReadReasons F Reports bytes read r → ReadReasons F Reports bytes read s → r ≡ s
   one_read (Ok v) r s x y = x ∙ sym y
   one_read (Err f) r s x y = one_fault f r s x y
 
-  about_reasons : (f : Fault) (a : List (List ℕ)) (t : List ℕ) → IsAbout F most_bytes bytes f a t → (r : List FileLine) × FaultReasons F Reports bytes f r
-  about_reasons f a t h = let r = some bytes f a t h in (r.0, reported a t h r.1)
+  module _ (lacks : Bool) (tells : IsTrue lacks ↔ LacksLineEnd F bytes) where
+    about_reasons : (f : Fault) (a : List (List ℕ)) (t : List ℕ) → IsAbout F most_bytes bytes f a t → (r : List FileLine) × FaultReasons F Reports bytes f r
+    about_reasons f a t h = let r = some bytes f a t lacks h in (r.0, reported a t lacks h tells r.1)
 
-  some_at : (f : Fault) (h : FaultOf F most_bytes bytes f) → KindAt F most_bytes h.before h.byte f.kind → (r : List FileLine) × FaultReasons F Reports bytes f r
-  some_at f h (too_long long k) = ([], past_limit k refl)
-  some_at f h (trailing short v reads k) = about_reasons f (lines h.before) (h.byte ∷ []) (of_byte h refl refl v reads k)
-  some_at f h (wrong short line is s next k) = about_reasons f (lines h.before) line (of_line h refl is s next k)
+    some_at : (f : Fault) (h : FaultOf F most_bytes bytes f) → KindAt F most_bytes h.before h.byte f.kind → (r : List FileLine) × FaultReasons F Reports bytes f r
+    some_at f h (too_long long k) = ([], past_limit k refl)
+    some_at f h (trailing short v reads k) = about_reasons f (lines h.before) (h.byte ∷ []) (of_byte h refl refl v reads k)
+    some_at f h (wrong short line is s next k) = about_reasons f (lines h.before) line (of_line h refl is s next k)
 
-  some_read : (read : Result V Fault) → ReadsAs F most_bytes bytes read → (r : List FileLine) × ReadReasons F Reports bytes read r
-  some_read (Ok v) reads = ([], refl)
-  some_read (Err f) (inl h) = some_at f h h.kind
-  some_read (Err f) (inr h) = about_reasons f (lines bytes) (unfinished bytes) (of_end h refl refl)
+    some_read : (read : Result V Fault) → ReadsAs F most_bytes bytes read → (r : List FileLine) × ReadReasons F Reports bytes read r
+    some_read (Ok v) reads = ([], refl)
+    some_read (Err f) (inl h) = some_at f h h.kind
+    some_read (Err f) (inr h) = about_reasons f (lines bytes) (unfinished bytes) (of_end h refl refl)
 
   file_list : HasOneList (FileReasons F Reports bytes)
   file_list = record {
     one = λ r s (read, reads, x) (other, other_reads, y).
         one_read read r s x (subst (λ (q : Result V Fault). ReadReasons F Reports bytes q s) (laws.one_reading most_bytes bytes other read other_reads reads) y);
-    some = λ none. laws.some_reading most_bytes bytes (λ read reads. let r = some_read read reads in none r.0 (read, reads, r.1));
+    some = λ none. told (LacksLineEnd F bytes) (λ lacks tells. laws.some_reading most_bytes bytes (λ read reads. let r = some_read lacks tells read reads in none r.0 (read, reads, r.1)));
   }
 
 -- ---- what is reported of a task, and of a plan
 
-one_task_reporting : (kind : Kind) (begun : List (List ℕ)) (found : List ℕ) (r s : List FileLine) → AreTaskReasons kind begun found r → AreTaskReasons kind begun found s → r ≡ s
-one_task_reporting kind begun found r s x y = grind (arith, common_steps, one_task_reason)
+one_task_reporting : (f : Fault) (begun : List (List ℕ)) (found : List ℕ) (lacks : Bool) (r s : List FileLine) → AreTaskReasons f begun found lacks r → AreTaskReasons f begun found lacks s → r ≡ s
+one_task_reporting f begun found lacks r s x y =
+    let same = one_task_reason f.kind begun found x.mark y.mark x.word y.word x.reason y.reason in
+    let count = one_count begun x.count y.count x.counted y.counted in
+    rw (x.lines, y.lines, same.0, same.1, count) refl
 
-some_task_reporting : (bytes : List ℕ) (f : Fault) (begun : List (List ℕ)) (found : List ℕ) → IsAbout task_format most_bytes bytes f begun found → (r : List FileLine) × AreTaskReasons f.kind begun found r
-some_task_reporting bytes f begun found h =
+begun_at : (bytes : List ℕ) (f : Fault) (begun : List (List ℕ)) (found : List ℕ) → IsAbout task_format most_bytes bytes f begun found → IsBegun task_format begun
+begun_at bytes f begun found (of_line h ha ht s n k) = subst (IsBegun task_format) (sym ha) h.live.begun
+begun_at bytes f begun found (of_byte h ha ht v r k) = subst (IsBegun task_format) (sym ha) h.live.begun
+begun_at bytes f begun found (of_end h ha ht) = subst (IsBegun task_format) (sym ha) h.live.begun
+
+some_task_reporting : (bytes : List ℕ) (f : Fault) (begun : List (List ℕ)) (found : List ℕ) (lacks : Bool) → IsAbout task_format most_bytes bytes f begun found → (r : List FileLine) × AreTaskReasons f begun found lacks r
+some_task_reporting bytes f begun found lacks h =
     let (m, w, reason) = some_task_reason bytes f begun found h in
-    (_, record { mark = m; word = w; reason = reason; lines = refl })
+    let (c, counted) = some_count begun (begun_at bytes f begun found h) in
+    (_, record { mark = m; word = w; count = c; reason = reason; counted = counted; lines = refl })
 
 -- ---- the files of a request
 
@@ -77,7 +122,7 @@ of_task : (b : List ℕ) → HasOneList (TaskFileReasons b)
 of_task = file_list task_format AreTaskReasons task_laws_hold task_reporting task_worded one_task_reporting some_task_reporting
 
 of_plan : (c : List ℕ) → HasOneList (PlanFileReasons c)
-of_plan = file_list plan_format ArePlanReasons plan_laws_hold plan_reporting plan_worded (λ kind begun found r s x y. x ∙ sym y) (λ bytes f begun found h. (_, refl))
+of_plan = file_list plan_format ArePlanReasons plan_laws_hold plan_reporting plan_worded (λ f begun found lacks r s x y. x ∙ sym y) (λ bytes f begun found lacks h. (_, refl))
 
 one_of_both : (b c : List ℕ) (r s : List FileLine) → RefusalReasons Plan b c r → RefusalReasons Plan b c s → r ≡ s
 one_of_both b c r s (inl x) (inl y) = (of_plan c).one r s x.1 y.1

@@ -1,5 +1,5 @@
 -- Why a file is refused: one set of lines, and always some; and behind which refusal they stand.
-use Rattle.sas_requests.proofs.Imports.{◌≡◌, ◌⊎◌, ℕ, List, [], codes, append-nil, refl, sym, ap, subst, inl, inr, Option, Some, None, Result, Ok, Err, option_map, none-some, Parts, PlanParts, Fault, Kind, Format, Laws, most_bytes, plan_format, plan_laws_hold, task_format, task_laws_hold, FileLine, Output, with_reasons, why_refusal, WhyCheckAnswer, WhyMutexAnswer, WhyVerdict, Request, Show, Print, ReadReasons, FileReasons, AreTaskReasons, ArePlanReasons, TaskFileReasons, PlanFileReasons, RefusalReasons, Detail, Reasons, reported_by, ReasonedBy, OutOfRead, Steps, Check, Plan, Mutex, refusal, IsAnswerOrRefusal, FileOut, TaskOut, UnlayeredAnswer, ShowAnswer, PrintAnswer}
+use Rattle.sas_requests.proofs.Imports.{◌≡◌, ◌⊎◌, ℕ, Bool, List, [], codes, append-nil, refl, sym, ap, subst, inl, inr, Option, Some, None, Result, Ok, Err, option_map, none-some, Parts, PlanParts, Fault, Kind, Format, Laws, most_bytes, plan_format, plan_laws_hold, task_format, task_laws_hold, FileLine, Output, with_reasons, why_refusal, WhyCheckAnswer, WhyMutexAnswer, WhyVerdict, Request, Show, Print, ReadReasons, FileReasons, AreTaskReasons, ArePlanReasons, TaskFileReasons, PlanFileReasons, RefusalReasons, Detail, Reasons, reported_by, ReasonedBy, OutOfRead, Steps, Check, Plan, Mutex, refusal, IsAnswerOrRefusal, FileOut, TaskOut, UnlayeredAnswer, ShowAnswer, PrintAnswer}
 use Rattle.sas_requests.proofs.PlanOutputs.{not_refused}
 use Rattle.sas_requests.specs.declared.question.Detail.TheVariants.{Plain}
 
@@ -48,7 +48,7 @@ IsFileRefusal o = (fault : Fault) × ((o ≡ refusal (codes "task") fault) ⊎ (
 abbrev pub StandBehind : List FileLine → Option Output → Type 0
 StandBehind reasons o = (reasons ≡ []) ⊎ IsFileRefusal o
 
-module _ {V I S : Type 0} (F : Format V I S) (Reports : Kind → List (List ℕ) → List ℕ → List FileLine → Type 0) (laws : Laws F) (name : List ℕ) (IsAnswer : V → Output → Type 0) (is_file : (fault : Fault) (o : Option Output) → o ≡ refusal name fault → IsFileRefusal o) where
+module _ {V I S : Type 0} (F : Format V I S) (Reports : Fault → List (List ℕ) → List ℕ → Bool → List FileLine → Type 0) (laws : Laws F) (name : List ℕ) (IsAnswer : V → Output → Type 0) (is_file : (fault : Fault) (o : Option Output) → o ≡ refusal name fault → IsFileRefusal o) where
   by_reading : (bytes : List ℕ) (r : Result V Fault) (o : Option Output) (reasons : List FileLine) → IsAnswerOrRefusal name IsAnswer r o → ReadReasons F Reports bytes r reasons → StandBehind reasons o
   by_reading bytes (Ok v) o reasons out why = inl why
   by_reading bytes (Err fault) o reasons out why = inr (is_file fault o out)

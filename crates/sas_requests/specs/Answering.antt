@@ -1,11 +1,11 @@
 -- What the private steps of a run promise.
-use Rattle.std.specs.Prelude.{ℕ, List, codes, ⊤, Option, option_map, Result, Ok, Err}
+use Rattle.std.specs.Prelude.{take, ℕ, Bool, List, codes, ⊤, Option, option_map, Result, Ok, Err}
 use Rattle.sas_core.specs.declared.parts.Parts.{Parts}
 use Rattle.sas_core.specs.PlanParts.{PlanParts}
 use Rattle.sas_meaning.specs.declared.layered.LayerFault.{LayerFault}
 use Rattle.sas_reader.specs.declared.fault.Fault.{Fault}
-use Rattle.sas_reader.specs.declared.fault.Kind.{Kind}
 use Rattle.sas_reader.specs.Format.{Format}
+use Rattle.sas_reader.specs.declared.found.Excerpt.{Excerpt}
 use Rattle.sas_reader.specs.Found.{kept_bytes}
 use Rattle.sas_plan_file.specs.declared.plan_refusal.PlanRefusal.{PlanRefusal}
 use Rattle.sas_plan_file.specs.PlanFormat.{plan_format}
@@ -69,13 +69,17 @@ reported_by detail reasons output = output
 abbrev pub refusal_by : Detail → List ℕ → Fault → List FileLine → Option Output
 refusal_by detail name fault reasons = reported_by detail reasons (refusal name fault)
 
+-- the bytes at a fault that are shown
+abbrev pub first_bytes : Excerpt → List ℕ
+first_bytes found = take 64 (kept_bytes found)
+
 -- the reasons why a task is refused, and a plan
 abbrev pub task_refusal_lines : TaskRefusal → List FileLine
-task_refusal_lines r =
-    task_reasons (r.fault).kind r.mark r.word (kept_bytes r.found) (r.found).more
+task_refusal_lines r = task_reasons r.fault (first_bytes r.found) (r.found).more r.lacks_line_end
+    r.mark r.word r.count
 
 abbrev pub plan_refusal_lines : PlanRefusal → List FileLine
-plan_refusal_lines r = plan_reasons (r.fault).kind (kept_bytes r.found) (r.found).more
+plan_refusal_lines r = plan_reasons r.fault (first_bytes r.found) (r.found).more r.lacks_line_end
 
 -- ---- outputs, by how much is reported
 
@@ -87,7 +91,7 @@ ReasonedBy detail IsOut AreReasons output = IsOut output
 
 -- about the bytes of one file. `IsAnswer` holds of the outputs that are answers about a value
 module _ {V I S : Type 0} (F : Format V I S)
-    (Explains : Kind → List (List ℕ) → List ℕ → List FileLine → Type 0) (name : List ℕ) where
+    (Explains : Fault → List (List ℕ) → List ℕ → Bool → List FileLine → Type 0) (name : List ℕ) where
   abbrev pub FileBy : Detail → (V → Output → Type 0) → List ℕ → Option Output → Type 0
   FileBy detail IsAnswer b =
       ReasonedBy detail (FileOut F name IsAnswer b) (FileReasons F Explains b)

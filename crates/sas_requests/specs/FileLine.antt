@@ -1,15 +1,19 @@
 -- Lines of the reasons why a file is refused.
-use Rattle.std.specs.Prelude.{ℕ, ◌+◌, ◌/◌, ◌%◌, ◌==◌, nat_lt, Bool, true, false, ◌&&◌, not, if◌then◌else◌}
-use Rattle.std.specs.Prelude.{List, [], ◌∷◌, ◌++◌, flat_map, codes, decimal}
+use Rattle.std.specs.Prelude.{ℕ, Bool, true, false, List, [], ◌∷◌, ◌++◌, codes, decimal}
 use Rattle.sas_reader.specs.declared.fault.Kind.{Kind}
 use Rattle.sas_reader.specs.declared.fault.Kind.TheVariants as kinds
+use Rattle.sas_answers.specs.Shown.{shown}
 use Rattle.sas_answers.specs.Words.{line}
+use Rattle.sas_answers.specs.declared.shown.PlainBytes.{PlainBytes}
+use Rattle.sas_task_file.specs.declared.counts.ListCount.{ListCount}
 use Rattle.sas_task_file.specs.Marks.{fixed_word_bytes}
 use Rattle.sas_task_file.specs.declared.marks.Due.{Due}
 use Rattle.sas_task_file.specs.declared.marks.Due.TheVariants as due
 use Rattle.sas_task_file.specs.declared.marks.Location.{Location}
 use Rattle.sas_task_file.specs.declared.marks.Location.TheVariants as at
 use Rattle.sas_task_file.specs.declared.marks.WrongWord.{WrongWord}
+use Rattle.sas_requests.specs.declared.hint.Hint.{Hint}
+use Rattle.sas_requests.specs.Hint.{hint_words}
 
 -- a line as data
 pub data FileLine : Type 0 where
@@ -21,8 +25,12 @@ pub data FileLine : Type 0 where
   ExpectedInPlan : Kind → FileLine
   -- the first wrong number, and which numbers are allowed
   NumberMustBe : WrongWord → FileLine
+  -- the number of items of the list that the line belongs to, and where the file has it
+  Counted : ListCount → FileLine
   -- the text at a fault of this kind: its first bytes, and whether more follow
   Found : Kind → List ℕ → Bool → FileLine
+  -- what may have gone wrong
+  Hinted : Hint → FileLine
 
 -- the words for a location in a task
 abbrev pub location_words : Location → List ℕ
@@ -63,32 +71,9 @@ abbrev pub least_words : Bool → List ℕ
 least_words true = codes "-1"
 least_words false = codes "0"
 
--- whether a byte is shown as it is: from 32 to 126, but for the backslash
-abbrev pub is_shown : ℕ → Bool
-is_shown b = nat_lt 31 b && nat_lt b 127 && not (b == 92)
-
--- the hexadecimal digit of a number below 16, in lower case
-abbrev pub hex_digit_of : ℕ → ℕ
-hex_digit_of n = if nat_lt n 10 then 48 + n else 87 + n
-
--- a byte as `\x` and two hexadecimal digits
-abbrev pub in_digits : ℕ → List ℕ
-in_digits b = 92 ∷ 120 ∷ hex_digit_of (b / 16) ∷ hex_digit_of (b % 16) ∷ []
-
--- a byte as it is shown
-abbrev pub shown_byte : ℕ → List ℕ
-shown_byte b = if is_shown b then b ∷ [] else in_digits b
-
--- a whole text as it is shown: a space at its end as `\x20`
-abbrev pub shown_whole : List ℕ → List ℕ
-shown_whole [] = []
-shown_whole (b ∷ []) = if b == 32 then in_digits b else shown_byte b
-shown_whole (b ∷ next ∷ bytes) = shown_byte b ++ shown_whole (next ∷ bytes)
-
--- the first bytes of a text as they are shown, and ` ..` if more follow
-abbrev pub shown : List ℕ → Bool → List ℕ
-shown bytes true = flat_map shown_byte bytes ++ codes " .."
-shown bytes false = shown_whole bytes
+-- the bytes that a text is shown with as they are: from 32 to 126, but for the backslash
+abbrev pub plain_in_texts : PlainBytes
+plain_in_texts = record { last = 126; but = 92 }
 
 -- the word before the text at a fault of this kind: `End` is that of an unfinished last line
 abbrev pub found_word : Kind → List ℕ
@@ -108,9 +93,12 @@ file_line_bytes (ExpectedInPlan kind) = line 2 (codes "expected" ∷ plan_due_wo
 file_line_bytes (NumberMustBe w) =
     line 2 (codes "number" ∷ decimal w.word ∷ codes "must be" ∷ least_words w.may_be_none
     ∷ codes "to" ∷ decimal w.most ∷ [])
+file_line_bytes (Counted c) =
+    line 2 (codes "line" ∷ decimal c.line ∷ codes "counts" ∷ decimal c.number ∷ [])
 file_line_bytes (Found kind [] more) = line 2 (empty_words kind ∷ [])
 file_line_bytes (Found kind (b ∷ bytes) more) =
-    line 2 (found_word kind ∷ shown (b ∷ bytes) more ∷ [])
+    line 2 (found_word kind ∷ shown plain_in_texts (b ∷ bytes) more ∷ [])
+file_line_bytes (Hinted h) = line 2 (codes "hint" ∷ hint_words h ∷ [])
 
 -- the bytes of a line, with its end
 abbrev pub ended_line : FileLine → List ℕ

@@ -1,5 +1,6 @@
 -- What the public clauses cite.
 pub mod Summary
+pub mod Hint
 pub mod FileLine
 pub mod FileLines
 pub mod FileLaws

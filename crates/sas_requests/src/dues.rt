@@ -2,10 +2,11 @@
 ghost use Rattle.std.specs.Prelude.{◌≡◌, ◌++◌, decimal, codes, OnOk};
 ghost use Rattle.sas_requests.specs.FileLine as line;
 ghost use Rattle.sas_requests.specs.FileLine.{due_words, ended_line, location_words, plan_due_words};
+ghost use Rattle.sas_requests.specs.FileLines.{file_text, line_if};
 
 use sas_lines::{push_line, push_number};
 use sas_reader::Kind;
-use sas_task_file::{Due, Location, WrongWord};
+use sas_task_file::{Due, ListCount, Location, WrongWord};
 use std::alloc::AllocError;
 
 /// Appends the line with a location.
@@ -84,10 +85,14 @@ fn push_range(out: &mut Vec<u8>, least: u32, most: u32) -> Result<(), AllocError
     push_counted(out, b" to ", most)
 }
 
-/// Appends the line with the wrong number, and which numbers are allowed.
-pub(crate) fn push_wrong_word(out: &mut Vec<u8>, wrong: WrongWord) -> Result<(), AllocError>
-    ensures { OnOk result (out.new.items ≡ out.old.items ++ ended_line (line.NumberMustBe wrong)) }
+/// Appends the line with the wrong number, and which numbers are allowed, if there is one.
+pub(crate) fn push_wrong_word(out: &mut Vec<u8>, wrong: Option<WrongWord>) -> Result<(), AllocError>
+    ensures { OnOk result
+        (out.new.items ≡ out.old.items ++ file_text (line_if line.NumberMustBe wrong)) }
 {
+    let Some(wrong) = wrong else {
+        return Ok(());
+    };
     out.extend_from_slice(b"  number ")?;
     push_number(out, u128::from(wrong.word))?;
     let least: &[u8] = if wrong.may_be_none { b"-1" } else { b"0" };
@@ -95,6 +100,20 @@ pub(crate) fn push_wrong_word(out: &mut Vec<u8>, wrong: WrongWord) -> Result<(),
     out.extend_from_slice(least)?;
     out.extend_from_slice(b" to ")?;
     push_number(out, u128::from(wrong.most))?;
+    out.push(b'\n')?;
+    Ok(())
+}
+
+/// Appends the line with the number of a list's items, if there is one.
+pub(crate) fn push_count(out: &mut Vec<u8>, count: Option<ListCount>) -> Result<(), AllocError>
+    ensures { OnOk result (out.new.items ≡ out.old.items ++ file_text (line_if line.Counted count)) }
+{
+    let Some(count) = count else {
+        return Ok(());
+    };
+    out.extend_from_slice(b"  line ")?;
+    push_number(out, u128::from(count.line))?;
+    push_counted(out, b" counts ", count.number)?;
     out.push(b'\n')?;
     Ok(())
 }

@@ -1,19 +1,35 @@
 // The line with the text at a fault.
-ghost use Rattle.std.specs.Prelude.{◌≡◌, ◌<◌, ◌++◌, codes, flat_map, OnOk};
-ghost use Rattle.sas_reader.specs.Found.{kept_bytes};
+ghost use Rattle.std.specs.Prelude.{◌≡◌, ◌++◌, codes, OnOk};
+ghost use Rattle.sas_answers.specs.Shown.{shown};
+ghost use Rattle.sas_requests.specs.Answering.{first_bytes};
 ghost use Rattle.sas_requests.specs.FileLine as line;
-ghost use Rattle.sas_requests.specs.FileLine.{empty_words, ended_line, found_word, hex_digit_of, is_shown, shown, shown_byte, shown_whole};
+ghost use Rattle.sas_requests.specs.FileLine.{empty_words, ended_line, found_word, plain_in_texts};
 
+use sas_answers::{PlainBytes, show};
 use sas_lines::push_line;
 use sas_reader::{Excerpt, Kind};
 use std::alloc::AllocError;
 
+/// The most bytes of a text that are shown.
+const MOST: usize = 64;
+
+/// The most bytes that a text takes as it is shown.
+const ROOM: usize = 260;
+
+/// Returns the bytes at a fault that are shown.
+pub(crate) fn first_bytes(found: &Excerpt) -> &[u8]
+    ensures { result.now ≡ first_bytes found.now }
+{
+    let bytes = found.bytes();
+    &bytes[..bytes.len().min(MOST)]
+}
+
 /// Appends the line with the text at a fault of this kind.
 pub(crate) fn push_found(out: &mut Vec<u8>, kind: Kind, found: &Excerpt) -> Result<(), AllocError>
     ensures { OnOk result (out.new.items ≡ out.old.items
-        ++ ended_line (line.Found kind (kept_bytes found.now) found.now.more)) }
+        ++ ended_line (line.Found kind (first_bytes found.now) found.now.more)) }
 {
-    if found.bytes().is_empty() {
+    if first_bytes(found).is_empty() {
         return push_line(out, empty_line(kind));
     }
     out.extend_from_slice(front(kind))?;
@@ -45,59 +61,13 @@ fn empty_line(kind: Kind) -> &'static [u8]
 /// Appends the text as it is shown.
 fn push_shown(out: &mut Vec<u8>, found: &Excerpt) -> Result<(), AllocError>
     ensures { OnOk result (out.new.items
-        ≡ out.old.items ++ shown (kept_bytes found.now) found.now.more) }
+        ≡ out.old.items ++ shown plain_in_texts (first_bytes found.now) found.now.more) }
 {
-    if found.has_more() {
-        push_bytes(out, found.bytes(), b" ..")
-    } else {
-        push_whole(out, found.bytes())
-    }
-}
-
-/// Appends a whole text, as it is shown.
-fn push_whole(out: &mut Vec<u8>, bytes: &[u8]) -> Result<(), AllocError>
-    ensures { OnOk result (out.new.items ≡ out.old.items ++ shown_whole bytes.now) }
-{
-    match bytes.strip_suffix(b" ") {
-        Some(front) => push_bytes(out, front, b"\\x20"),
-        None => push_bytes(out, bytes, b""),
-    }
-}
-
-/// Appends each byte as it is shown, and then `last` unchanged.
-fn push_bytes(out: &mut Vec<u8>, bytes: &[u8], last: &[u8]) -> Result<(), AllocError>
-    ensures { OnOk result (out.new.items
-        ≡ out.old.items ++ (flat_map shown_byte bytes.now ++ last.now)) }
-{
-    for byte in bytes {
-        push_byte(out, *byte)?;
-    }
-    out.extend_from_slice(last)
-}
-
-/// Appends the byte as it is shown.
-fn push_byte(out: &mut Vec<u8>, byte: u8) -> Result<(), AllocError>
-    ensures { OnOk result (out.new.items ≡ out.old.items ++ shown_byte byte) }
-{
-    if stands_for_itself(byte) {
-        out.push(byte)?;
-        return Ok(());
-    }
-    let digits = [b'\\', b'x', hex_digit(byte / 16), hex_digit(byte % 16)];
-    out.extend_from_slice(&digits)
-}
-
-/// Returns whether the byte is shown as it is.
-fn stands_for_itself(byte: u8) -> bool
-    ensures { result ≡ is_shown byte }
-{
-    (32..=126).contains(&byte) && byte != b'\\'
-}
-
-/// Returns the hexadecimal digit of a number below 16, in lower case.
-fn hex_digit(n: u8) -> u8
-    requires { n < 16 }
-    ensures { result ≡ hex_digit_of n }
-{
-    if n < 10 { b'0' + n } else { b'a' + (n - 10) }
+    let plain = PlainBytes {
+        last: 126,
+        but: b'\\',
+    };
+    let mut room = [0; ROOM];
+    let end = show(&mut room, plain, first_bytes(found), found.has_more());
+    out.extend_from_slice(&room[..end])
 }

@@ -7,6 +7,7 @@ mod dues;
 mod file_reasons;
 mod file_refusal;
 mod found;
+mod hint;
 mod inputs;
 mod judging;
 mod laws;

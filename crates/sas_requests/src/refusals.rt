@@ -26,17 +26,11 @@ pub fn write_task_refusal<W: Write>(
     ensures long { IsErrOf result ToolFault.TooLong ↔ (refused.fault.kind ≡ Kind.TooLong) }
     ensures reads { IsErrOf result ToolFault.Read ↔ (refused.fault.kind ≡ Kind.Read) }
 {
-    let TaskRefusal {
-        fault,
-        mark,
-        word,
-        found,
-    } = refused;
-    let mut answer = refuse_file(alloc, "task", fault)?;
+    let mut answer = refuse_file(alloc, "task", refused.fault)?;
     match detail {
         Detail::Plain => answer.write(out),
         Detail::Reasons => {
-            push_task_reasons(&mut answer.text, fault.kind, mark, word, &found)?;
+            push_task_reasons(&mut answer.text, &refused)?;
             answer.write(out)
         }
     }
@@ -56,12 +50,11 @@ pub fn write_plan_refusal<W: Write>(
     ensures long { IsErrOf result ToolFault.TooLong ↔ (refused.fault.kind ≡ Kind.TooLong) }
     ensures reads { IsErrOf result ToolFault.Read ↔ (refused.fault.kind ≡ Kind.Read) }
 {
-    let PlanRefusal { fault, found } = refused;
-    let mut answer = refuse_file(alloc, "plan", fault)?;
+    let mut answer = refuse_file(alloc, "plan", refused.fault)?;
     match detail {
         Detail::Plain => answer.write(out),
         Detail::Reasons => {
-            push_plan_reasons(&mut answer.text, fault.kind, &found)?;
+            push_plan_reasons(&mut answer.text, &refused)?;
             answer.write(out)
         }
     }

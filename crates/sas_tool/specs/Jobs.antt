@@ -39,6 +39,11 @@ abbrev pub HasLabels : List (List ℕ) → Job → Type 0
 HasLabels words (Files question task plan) = ⊥
 HasLabels words (Plans task labels) = bytes_of_labels labels.items ≡ words
 
+-- the word that names an input
+abbrev pub source_name : Source → List ℕ
+source_name Input = codes "-"
+source_name (File name) = string_bytes name
+
 -- the word `-` names standard input, any other word a file, and no word nothing
 abbrev pub IsSource : Option (List ℕ) → Option Source → Type 0
 IsSource word None = word ≡ None

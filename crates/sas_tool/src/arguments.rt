@@ -3,7 +3,7 @@ ghost use Rattle.std.specs.Prelude.{◌≡◌, [], codes, IfOk};
 ghost use Rattle.std.specs.Option.{option_map_or};
 ghost use Rattle.clap.specs.Words.{first_value, found_of, matched_of, raw_values};
 ghost use Rattle.sas_tool.specs.Jobs.{IsNamed, NamesInputOnce, name_of, question_name, request_name};
-ghost use Rattle.sas_tool.specs.Jobs.{HasLabels, IsSource};
+ghost use Rattle.sas_tool.specs.Jobs.{HasLabels, IsSource, source_name};
 ghost use Rattle.sas_tool.specs.Labels.{bytes_of_labels};
 
 use crate::{Question, Request};
@@ -31,6 +31,18 @@ pub enum Source {
     Input,
     /// The file of this name.
     File(String),
+}
+
+impl Source {
+    /// Returns the argument that names the input.
+    pub fn name(&self) -> &[u8]
+        ensures { result.now ≡ source_name self.now }
+    {
+        match self {
+            Source::Input => b"-",
+            Source::File(name) => name.as_bytes(),
+        }
+    }
 }
 
 /// What the arguments request.

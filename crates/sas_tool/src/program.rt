@@ -10,6 +10,7 @@ use crate::plan_files::{PlanFiles, are_label_texts, name_input_twice};
 use crate::streams::replace_closed;
 use crate::until_end::UntilEnd;
 use crate::{Question, Status, ToolFault, explain, judge, run, trace};
+use sas_answers::show_name;
 use sas_lines::{OpenInput, Watched};
 use sas_requests::{InputFault, JudgeFault};
 use std::io::{ErrorKind, Write};
@@ -46,7 +47,7 @@ pub fn start<R: AllocGlobal + Env + Files + Input + Print + Eprint>(
     rt: &R,
     input: &impl AsFd,
     output: &impl AsFd,
-    error: &impl AsFd,
+    error: &(impl AsFd + Print),
 ) -> ExitCode {
     let job = match job_of_arguments(rt) {
         Ok(job) => job,
@@ -60,30 +61,70 @@ pub fn start<R: AllocGlobal + Env + Files + Input + Print + Eprint>(
             question,
             task,
             plan,
-        } => run_files(rt, question, task, plan),
+        } => report(rt, error, question, run_files(rt, question, &task, &plan)),
         Job::Plans { task, labels } => run_plans(rt, task, labels.as_slice()),
     };
     drop(replaced);
     ended
 }
 
+/// How a run over files ended: the exit status, the line for standard error, and the input that the line is about, if any.
+#[derive(Clone, Copy)]
+struct Ended<'s> {
+    status: u8,
+    line: Option<&'static str>,
+    about: Option<&'s Source>,
+}
+
+impl<'s> Ended<'s> {
+    /// Returns the end of a run that can't open this input.
+    fn unopened(line: &'static str, source: &'s Option<Source>) -> Ended<'s> {
+        Ended {
+            status: FAULT,
+            line: Some(line),
+            about: source.as_ref(),
+        }
+    }
+
+    /// Returns the end of a run that answered so, and read this input last.
+    fn of(answered: &Result<Status, ToolFault>, last: &'s Option<Source>) -> Ended<'s> {
+        let (status, line) = ending(answered);
+        let about = match answered {
+            Err(ToolFault::Read | ToolFault::TooLong) => last.as_ref(),
+            _ => None,
+        };
+        Ended {
+            status,
+            line,
+            about,
+        }
+    }
+}
+
 /// Opens a task, a plan or both, and answers the question about them. It isn't inlined, nor is `run_plans`: what is inlined together
 /// would keep the buffers of both on the stack.
 #[inline(never)]
-fn run_files<R: AllocGlobal + Files + Input + Print + Eprint>(
+fn run_files<'s, R: AllocGlobal + Files + Input + Print>(
     rt: &R,
     question: Question,
-    task_source: Option<Source>,
-    plan_source: Option<Source>,
-) -> ExitCode {
+    task_source: &'s Option<Source>,
+    plan_source: &'s Option<Source>,
+) -> Ended<'s> {
     let mut task = Watched::new(UntilEnd::nothing());
     let mut plan = Watched::new(UntilEnd::nothing());
     let ended = if open_source(rt, task_source, &mut task).is_err() {
-        stop(rt, FAULT, TASK_NOT_OPENED)
+        Ended::unopened(TASK_NOT_OPENED, task_source)
     } else if open_source(rt, plan_source, &mut plan).is_err() {
-        stop(rt, FAULT, "sas: cannot open the plan")
+        Ended::unopened("sas: cannot open the plan", plan_source)
     } else {
-        answer_files(rt, question, &mut task, &mut plan)
+        let result = answer_files(rt, question, &mut task, &mut plan);
+        // The plan is read behind the task.
+        let last = if plan.device().has_begun() {
+            plan_source
+        } else {
+            task_source
+        };
+        Ended::of(&result, last)
     };
     drop(plan);
     drop(task);
@@ -91,12 +132,12 @@ fn run_files<R: AllocGlobal + Files + Input + Print + Eprint>(
 }
 
 /// Answers the question about a task, a plan or both, and flushes standard output.
-fn answer_files<R: AllocGlobal + Files + Input + Print + Eprint>(
+fn answer_files<R: AllocGlobal + Files + Input + Print>(
     rt: &R,
     question: Question,
     task: &mut Watched<UntilEnd<OpenInput<R::File, R::Reader>>>,
     plan: &mut Watched<UntilEnd<OpenInput<R::File, R::Reader>>>,
-) -> ExitCode
+) -> Result<Status, ToolFault>
     requires task { task.old.failed ≡ false }
     requires plan { plan.old.failed ≡ false }
 {
@@ -107,9 +148,32 @@ fn answer_files<R: AllocGlobal + Files + Input + Print + Eprint>(
         Question::Trace => trace(rt.alloc(), task, plan, &mut out),
     };
     if result.is_ok() && out.into_device().flush().is_err() {
-        return stop(rt, FAULT, WRITE_FAILED);
+        return Err(ToolFault::Write { written: 0 });
     }
-    end(rt, &result)
+    result
+}
+
+/// Ends with the status of a run over files, after its line on standard error, if there is one. With reasons a second line names the
+/// input that the first one is about.
+fn report<R: Eprint>(rt: &R, error: &impl Print, question: Question, ended: Ended<'_>) -> ExitCode {
+    let Some(line) = ended.line else {
+        return ExitCode::from(ended.status);
+    };
+    let (Question::Explanation(_), Some(source)) = (question, ended.about) else {
+        return stop(rt, ended.status, line);
+    };
+    let status = stop(rt, ended.status, line);
+    let _ = print_name(error, source.name());
+    status
+}
+
+/// Prints the line with the name of an input, as reasons show names. Its bytes needn't be text, since a long name is cut.
+fn print_name(error: &impl Print, name: &[u8]) -> io::Result<()> {
+    let mut room = [0; 1028];
+    let end = show_name(&mut room, name);
+    error.write_all(b"  ")?;
+    error.write_all(&room[..end])?;
+    error.write_all(b"\n")
 }
 
 /// Opens a task, and judges the plans of these labels.
@@ -126,7 +190,7 @@ fn run_plans<R: AllocGlobal + Files + Input + Print + Eprint>(
         return stop(rt, INVALID_ARGUMENTS, INPUT_TWICE);
     }
     let mut task = Watched::new(UntilEnd::nothing());
-    let ended = if open_source(rt, task_source, &mut task).is_err() {
+    let ended = if open_source(rt, &task_source, &mut task).is_err() {
         stop(rt, FAULT, TASK_NOT_OPENED)
     } else {
         judge_plans(rt, &mut task, labels)
@@ -234,7 +298,7 @@ fn stop<R: Eprint>(rt: &R, status: u8, line: &str) -> ExitCode {
 #[inline(never)]
 fn open_source<R: Files + Input>(
     rt: &R,
-    source: Option<Source>,
+    source: &Option<Source>,
     input: &mut Watched<UntilEnd<OpenInput<R::File, R::Reader>>>,
 ) -> io::Result<()>
     requires { input.old.failed ≡ false }

@@ -7,6 +7,7 @@ use std::io::{Read, Result};
 #[derive(Drop)]
 pub struct UntilEnd<R> {
     input: Option<R>,
+    begun: bool,
 }
 
 impl<R> UntilEnd<R> {
@@ -14,14 +15,27 @@ impl<R> UntilEnd<R> {
     pub fn new(input: R) -> UntilEnd<R>
         ensures { result.input ≡ Some input }
     {
-        UntilEnd { input: Some(input) }
+        UntilEnd {
+            input: Some(input),
+            begun: false,
+        }
     }
 
     /// Returns an input without bytes.
     pub fn nothing() -> UntilEnd<R>
         ensures { result.input ≡ None }
     {
-        UntilEnd { input: None }
+        UntilEnd {
+            input: None,
+            begun: false,
+        }
+    }
+
+    /// Returns whether anything was read of it, or was tried to be read.
+    pub fn has_begun(&self) -> bool
+        ensures { result ≡ self.now.begun }
+    {
+        self.begun
     }
 }
 
@@ -33,6 +47,7 @@ impl<R: Read + Drop> Read for UntilEnd<R> {
     ghost remaining = { λ u. option_map_or R.remaining u.input (Some []) };
 
     fn read(&mut self, buf: &mut [u8]) -> Result<usize> {
+        self.begun = true;
         let Some(input) = &mut self.input else {
             return Ok(0);
         };

@@ -1,14 +1,19 @@
 use Rattle.std.proofs.lemmas.Result.{on_ok_weaker}
-use Rattle.sas_requests.proofs.Imports.{[], ◌∷◌, ExpectedInPlan, Found}
-use Rattle.sas_reader.specs.Found.{kept_bytes}
-use Rattle.sas_requests.proofs.FileTexts.{text_then, text_of_one}
+use Rattle.sas_requests.proofs.Imports.{◌≡◌, ◌++◌, [], ◌∷◌, ap, ◌∙◌, Option, ExpectedInPlan, Found, Hinted, Hint, line_if, plan_hint, file_text}
+use Rattle.sas_requests.specs.Answering.{first_bytes}
+use Rattle.sas_requests.proofs.FileTexts.{text_then, text_behind, text_of_one}
 use Rattle.sas_requests.proofs.file_reasons.push_plan_reasons.Goals as goal
 
 pub returns : goal.returns
 returns c =
-    let due = ExpectedInPlan c.args.kind in
+    let r = c.args.refused.now in
+    let due = ExpectedInPlan (r.fault).kind in
+    let found = Found (r.fault).kind (first_bytes r.found) (r.found).more in
     let old = c.args.out.now.items in
-    let mid = c.push_plan_due.new.out.items in
-    on_ok_weaker c.push_found.result
-    (text_then old mid c.push_found.new.out.items (due ∷ []) (Found c.args.kind (kept_bytes c.args.found.now) c.args.found.now.more) (text_of_one old mid due c.in_ok-push_plan_due.ensures))
-    c.push_found.ensures
+    let first = c.push_plan_due.new.out.items in
+    let second = c.push_found.new.out.items in
+    let two = text_then old first second (due ∷ []) found (text_of_one old first due c.in_ok-push_plan_due.ensures) c.in_ok-push_found.ensures in
+    let same : c.plan_hint-hint.result ≡ plan_hint r.fault r.lacks_line_end (first_bytes r.found) = c.plan_hint-hint.ensures ∙ ap (plan_hint r.fault r.lacks_line_end) c.first_bytes.ensures in
+    on_ok_weaker c.push_hint.result
+    (λ hinted. text_behind old second c.push_hint.new.out.items (due ∷ found ∷ []) (line_if Hinted c.plan_hint-hint.result) two hinted ∙ ap (λ (h : Option Hint). old ++ file_text (due ∷ found ∷ line_if Hinted h)) same)
+    c.push_hint.ensures

@@ -1,25 +1,30 @@
 use Rattle.std.proofs.lemmas.Result.{on_ok_weaker}
-use Rattle.sas_requests.proofs.Imports.{[], ◌∷◌, At, Expected, NumberMustBe, Found}
-use Rattle.sas_reader.specs.Found.{kept_bytes}
-use Rattle.sas_requests.proofs.FileTexts.{text_then, text_of_one}
+use Rattle.sas_requests.proofs.Imports.{◌≡◌, List, [], ◌∷◌, ◌++◌, ap, ◌∙◌, append_assoc, Option, FileLine, At, Expected, NumberMustBe, Counted, Found, Hinted, Hint, line_if, task_hint, file_text}
+use Rattle.sas_requests.specs.Answering.{first_bytes}
+use Rattle.sas_requests.proofs.FileTexts.{text_then, text_behind, text_of_one}
 use Rattle.sas_requests.proofs.file_reasons.push_task_reasons.Goals as goal
-use Rattle.sas_requests.proofs.file_reasons.push_task_reasons.Goals.{in-Some+in_ok-push_wrong_word, in_default}
 
 pub returns : goal.returns
 returns c =
-    let at = At c.args.mark.at in
-    let due = Expected c.args.mark.due in
-    let last = Found c.args.kind (kept_bytes c.args.found.now) c.args.found.now.more in
+    let r = c.args.refused.now in
+    let at = At (r.mark).at in
+    let due = Expected (r.mark).due in
+    let word = line_if NumberMustBe r.word in
+    let count = line_if Counted r.count in
+    let found = Found (r.fault).kind (first_bytes r.found) (r.found).more in
+    let hint = line_if Hinted c.task_hint-hint.result in
     let old = c.args.out.now.items in
-    let new = c.push_found.new.out.items in
-    let mid = c.push_due.new.out.items in
-    let begun = text_then old c.push_location.new.out.items mid (at ∷ []) due (text_of_one old c.push_location.new.out.items at c.in_ok-push_location.ensures) c.in_ok-push_due.ensures in
-    on_ok_weaker c.push_found.result
-    (λ found. elim c.match-word.branch [
-      | in-Some+in_ok-push_wrong_word w ↦
-          (let wrong = NumberMustBe w.in-Some.wrong in
-          rw w.in-Some.is (text_then old c.match-word.out.items new (at ∷ due ∷ wrong ∷ []) last
-          (rw w.out-is (text_then old mid w.push_wrong_word.new.out.items (at ∷ due ∷ []) wrong begun w.in_ok-push_wrong_word.ensures)) found))
-      | in_default w ↦ rw w.in_default.is (text_then old c.match-word.out.items new (at ∷ due ∷ []) last (rw w.out-is begun) found)
-    ])
-    c.push_found.ensures
+    let a = c.push_location.new.out.items in
+    let b = c.push_due.new.out.items in
+    let d = c.push_wrong_word.new.out.items in
+    let e = c.push_count.new.out.items in
+    let f = c.push_found.new.out.items in
+    let two = text_then old a b (at ∷ []) due (text_of_one old a at c.in_ok-push_location.ensures) c.in_ok-push_due.ensures in
+    let three = text_behind old b d (at ∷ due ∷ []) word two c.in_ok-push_wrong_word.ensures in
+    let four = text_behind old d e (at ∷ due ∷ word) count three c.in_ok-push_count.ensures in
+    let five = text_then old e f (at ∷ due ∷ (word ++ count)) found four c.in_ok-push_found.ensures in
+    let same : c.task_hint-hint.result ≡ task_hint r.fault r.lacks_line_end (first_bytes r.found) = c.task_hint-hint.ensures ∙ ap (task_hint r.fault r.lacks_line_end) c.first_bytes.ensures in
+    let in_order = append_assoc (word ++ count) (found ∷ []) hint ∙ ap (λ (h : Option Hint). (word ++ count) ++ found ∷ line_if Hinted h) same in
+    on_ok_weaker c.push_hint.result
+    (λ hinted. text_behind old f c.push_hint.new.out.items (at ∷ due ∷ ((word ++ count) ++ found ∷ [])) hint five hinted ∙ ap (λ (l : List FileLine). old ++ file_text (at ∷ due ∷ l)) in_order)
+    c.push_hint.ensures
