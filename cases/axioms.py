@@ -155,6 +155,21 @@ def text_of(task):
     return "".join(f"{line}\n" for line in lines)
 
 
+def operator_line(task, place):
+    """Returns the number of the line on which an operator begins in the file of a task."""
+    variables = sum(5 + size for size in task["ranges"])
+    groups = sum(3 + len(group) for group in task.get("groups", []))
+    behind = sum(6 + len(prevail) + len(effects) for _, prevail, effects, _ in task.get("operators", [])[:place])
+    # the version, the metric and the number of variables; that of groups; the state; the goal; the number of operators
+    return 7 + variables + 1 + groups + 2 + len(task["ranges"]) + 3 + len(task.get("goal", [])) + 1 + behind + 1
+
+
+def rule_line(task, place):
+    """Returns the number of the line on which a rule begins."""
+    count = operator_line(task, len(task.get("operators", [])))
+    return count + sum(4 + len(facts) for facts, *_ in task["rules"][:place]) + 1
+
+
 def facts_from(lines):
     """Returns the facts that come next in a file."""
     return [tuple(map(int, next(lines).split(" "))) for _ in range(int(next(lines)))]

@@ -5,7 +5,7 @@ represents `VARIABLE VALUE NAME`, with the name of the value.
     derived                       fact FACT: the first one of the group on a derived variable
     not shown: initial state      holds FACT, holds FACT: the first fact of the state section with a later different one, and the
                                   first of these
-    not shown: operator I         operator I NAME, effect E sets FACT, and how the operator fails to keep the group:
+    not shown: operator I         operator I line L NAME, effect E sets FACT, and how the operator fails to keep the group:
         effect F sets FACT        the two effects may fire together, and set facts of the group on different variables
         may remain FACT             the fact of the group may hold before a step in which effect E fires, and after it
 
@@ -14,7 +14,7 @@ contradict each other as in families.py, in the family of the groups that are ex
 """
 from axioms import task_of
 from families import clash, gone, grouped_tasks
-from layers import fact_said, with_reasons
+from layers import fact_said, operator_said, with_reasons
 from steps import holds, preconditions
 from texts import as_bytes
 
@@ -43,7 +43,7 @@ def broken_reasons(task, place, group, family):
     for at, effect in enumerate(operator[2]):
         if sets(effect) not in group:
             continue
-        said = [f"  operator {place} {operator[0]}", f"  effect {at} sets {fact_said(task, *sets(effect))}"]
+        said = [operator_said(task, place), f"  effect {at} sets {fact_said(task, *sets(effect))}"]
         other = two_setters(operator, effect, group, family)
         if other is not None:
             return [*said, f"  effect {other} sets {fact_said(task, *sets(operator[2][other]))}"]

@@ -369,7 +369,7 @@ def longest_cases():
     front = b"".join([*lines[:22], b"%d\n" % count])
     whole, rest = divmod(LIMIT + 1 - len(front), len(operator))
     inputs = {"streamed": [(front, 1), (operator, whole)], "input": operator[:rest], "memory": 100_000_000}
-    yield case("a byte more than may be read", ["show", "-"], "", 3, error="sas: input too long\n", **inputs)
+    yield case("a byte more than may be read", ["show", "--why", "-"], "", 3, error="sas: input too long\n  -\n", **inputs)
     yield from longest_plan_cases()
 
 

@@ -2,19 +2,21 @@
 each. Why a file isn't well formed is computed in refusals.py. A task here is as in axioms.py; `fact` in a line represents
 `VARIABLE VALUE NAME`, with the name of the value.
 
-    effect on derived variable    operator I NAME, effect E sets fact, on layer L: E is the operator's first such effect
-    not on a derived variable     rule I derives fact
-    old value                     rule I derives fact, old value fact, default value fact
-    two values                    rule I derives fact, rule J derives fact: J is the first rule that gives the variable another value
-                                  which isn't its default
-    layer order                   rule I derives fact, on layer L, condition C requires fact, on layer M: C is the first condition that isn't
-                                  on a lower layer, or on the same one and no default
+    effect on derived variable    operator I line A NAME, effect E sets fact, on layer L: E is the operator's first such effect
+    not on a derived variable     rule I line A derives fact
+    old value                     rule I line A derives fact, old value fact, default value fact
+    two values                    rule I line A derives fact, rule J line B derives fact: J is the first rule that gives the variable
+                                  another value which isn't its default
+    layer order                   rule I line A derives fact, on layer L, condition C requires fact, on layer M: C is the first condition
+                                  that isn't on a lower layer, or on the same one and no default
+
+A and B are the lines of the file on which the operator or the rule begins. Names are shown as texts.py has it.
 """
 import re
 
-from axioms import spoiled_tasks, task_of, value_name
+from axioms import operator_line, rule_line, spoiled_tasks, task_of, value_name
 from refusals import after_file
-from texts import as_bytes
+from texts import as_bytes, shown_name
 
 REFUSED = "task refused: "
 # the words for each fault of a rule
@@ -28,13 +30,18 @@ WORDS = {
 
 def fact_said(task, var, value):
     """Returns the words for a fact."""
-    return f"{var} {value} {value_name(task, var, value)}"
+    return f"{var} {value} {shown_name(value_name(task, var, value))}"
+
+
+def operator_said(task, place):
+    """Returns the line of an operator with its name."""
+    return f"  operator {place} line {operator_line(task, place)} {shown_name(task['operators'][place][0])}"
 
 
 def rule_said(task, place):
     """Returns the line of a rule."""
     _, var, _, new = task["rules"][place]
-    return f"  rule {place} derives {fact_said(task, var, new)}"
+    return f"  rule {place} line {rule_line(task, place)} derives {fact_said(task, var, new)}"
 
 
 def looks_down(task, var, on, value):
@@ -45,9 +52,9 @@ def looks_down(task, var, on, value):
 
 def operator_reasons(task, place):
     """Returns the lines for an operator with an effect on a derived variable."""
-    name, _, effects, _ = task["operators"][place]
+    _, _, effects, _ = task["operators"][place]
     effect, var, new = next((at, var, new) for at, (_, var, _, new) in enumerate(effects) if task["layers"][var] is not None)
-    return [f"  operator {place} {name}", f"  effect {effect} sets {fact_said(task, var, new)}", f"  on layer {task['layers'][var]}"]
+    return [operator_said(task, place), f"  effect {effect} sets {fact_said(task, var, new)}", f"  on layer {task['layers'][var]}"]
 
 
 def rule_reasons(task, place, what):

@@ -7,7 +7,7 @@ once, takes a second or two. In those of long texts the program has less memory 
 A maker returns for a size the task, the names of a plan's steps, its cost, and what is printed, line by line. For a small size
 that is compared with what the meaning of reasons gives.
 """
-from axioms import text_of, value_name
+from axioms import operator_line, text_of, value_name
 from large import STACK, case, plan_text, task_with
 from reasons import reasons
 
@@ -16,9 +16,9 @@ from reasons import reasons
 STEPS, MANY, MORE, TREE = 1_000_000, 100_000, 200_000, 2**17 - 1
 # the small size, which a tree may have too
 SMALL = 7
-# the length of a name that comes in each of so many causes, or in the line of each of so many rules, and what memory the program
-# has then, in bytes
-NAME, TIMES, RULES, MEMORY = 20_000, 15_000, 5_000, 40_000_000
+# the length of a name, which is shown as a whole, that comes in each of so many causes, or in the line of each of so many rules, and what
+# memory the program has then, in bytes
+NAME, TIMES, RULES, MEMORY = 256, 100_000, 200_000, 40_000_000
 # how large other tasks are
 MODEST, MODEST_TREE = 20_000, 2**14 - 1
 
@@ -44,10 +44,21 @@ def blocked(step, name):
     return [f"plan invalid: step {step}: not applicable", f"  step {step} {name}"]
 
 
+def at_operator(task, place):
+    """The line of an operator, without its name."""
+    return f"  operator {place} line {operator_line(task, place)}"
+
+
+def at_operators(task, size, height):
+    """The lines of the first so many operators, each of which has so many lines in the file."""
+    first = operator_line(task, 0)
+    return [f"  operator {place} line {first + place * height}" for place in range(size)]
+
+
 def missed(*causes):
     """The lines where no goal fact holds, of which these are the causes."""
     facts = [line for place, cause in enumerate(causes) for line in (f"  goal fact {place}", *cause)]
-    return ["plan invalid: goal fact 0 not reached", *facts]
+    return ["plan invalid: goal fact 0 not reached", f"  {len(causes)} of {len(causes)} goal facts fail", *facts]
 
 
 def turning(name, var):
@@ -62,7 +73,8 @@ def long_blocked(size):
     turns = size - size % 2
     names = ["set", *["turn"] * turns, "stay"]
     first = [*requires(0, 1, 0, f"step {turns + 1} turn"), *requires(1, 0, 1, "step 1 set"), *requires(2, 1, 0)]
-    return task_with([2] * 3, operators=operators), names, 0, [*blocked(turns + 2, "stay"), "  operator 2", *first]
+    task = task_with([2] * 3, operators=operators)
+    return task, names, 0, [*blocked(turns + 2, "stay"), at_operator(task, 2), *first]
 
 
 def long_missed(size):
@@ -75,9 +87,10 @@ def long_missed(size):
 
 def long_unknown(size):
     """So many steps, and one of another name."""
-    operators = [turning("turn", 0), turning("Turn  ", 0)]
-    lines = [f"plan invalid: step {size + 1}: no operator of that name", f"  step {size + 1} Turn", "  similar operator 0 turn"]
-    return task_with([2], operators=operators), [*["turn"] * size, "Turn"], 0, lines
+    task = task_with([2], operators=[turning("turn", 0), turning("Turn  ", 0)])
+    lines = [f"plan invalid: step {size + 1}: no operator of that name", f"  step {size + 1} Turn"]
+    lines += [f"  similar operator 0 line {operator_line(task, 0)} turn", f"  1 of {size + 1} steps name no operator"]
+    return task, [*["turn"] * size, "Turn"], 0, lines
 
 
 def long_settled(size):
@@ -90,7 +103,7 @@ def long_settled(size):
     names = [*["idle"] * size, "main", "dark", "idle", "main", "idle", "dark"]
     given = [derives(rule, rule + 2) for rule in range(depth)]
     cause = requires(depth + 1, 0, 1, f"step {size + 4} main")
-    return task, names, 0, [*blocked(size + 6, "dark"), "  operator 2", *cause, *given]
+    return task, names, 0, [*blocked(size + 6, "dark"), at_operator(task, 2), *cause, *given]
 
 
 def long_changed(size):
@@ -187,19 +200,20 @@ def no_rules_again(size):
 def many_blocked(size):
     """A name that so many operators have, of which each requires two facts. None is applicable."""
     operators = [("go", [(var, 1), (0, 1)], [], 1) for var in range(1, size + 1)]
-    named = [(f"  operator {place}", *requires(place + 1, 1, 0), *requires(0, 1, 0)) for place in range(size)]
-    lines = [*blocked(1, "go"), *(line for its in named for line in its)]
-    return task_with([2] * (size + 1), operators=operators), ["go"], 0, lines
+    task = task_with([2] * (size + 1), operators=operators)
+    named = [(said, *requires(place + 1, 1, 0), *requires(0, 1, 0)) for place, said in enumerate(at_operators(task, size, 8))]
+    return task, ["go"], 0, [*blocked(1, "go"), *(line for its in named for line in its)]
 
 
 def many_blocked_derived(size):
     """A name that so many operators have, of which each requires a variable of a chain, the first for the last one."""
     operators = [("go", [(var, 0)], [], 1) for var in range(size, 0, -1)]
+    task = derived_task(size, chain_rules(size), [], operators=operators)
     given = [derives(size - var, var) for var in range(1, size + 1)]
     lines = blocked(1, "go")
-    for place in range(size):
-        lines += [f"  operator {place}", *requires(size - place, 0, 1), *(given if place == 0 else [])]
-    return derived_task(size, chain_rules(size), [], operators=operators), ["go"], 0, lines
+    for place, said in enumerate(at_operators(task, size, 7)):
+        lines += [said, *requires(size - place, 0, 1), *(given if place == 0 else [])]
+    return task, ["go"], 0, lines
 
 
 def many_preconditions(size):
@@ -207,17 +221,18 @@ def many_preconditions(size):
     operators = [("go", [(size, 0)] * size, [([(0, 1)], 0, 1, 0)] * size, 1)]
     given = [derives(size - var, var) for var in range(1, size + 1)]
     again = [line for _ in range(size - 1) for line in requires(size, 0, 1)] + [line for _ in range(size) for line in requires(0, 1, 0)]
-    lines = [*blocked(1, "go"), "  operator 0", *requires(size, 0, 1), *given, *again]
-    return derived_task(size, chain_rules(size), [], operators=operators), ["go"], 0, lines
+    task = derived_task(size, chain_rules(size), [], operators=operators)
+    return task, ["go"], 0, [*blocked(1, "go"), at_operator(task, 0), *requires(size, 0, 1), *given, *again]
 
 
 def many_effects(size):
     """An operator with so many effects on each of two variables, of which the last contradicts those on the second one."""
     ones = [([], var, -1, 1) for var in (0, 1) for _ in range(size)]
-    lines = ["plan invalid: step 1: conflicting effects", "  step 1 go", "  operator 0"]
+    task = task_with([2, 2], operators=[("go", [], [*ones, ([], 1, -1, 0)], 1)])
+    lines = ["plan invalid: step 1: conflicting effects", "  step 1 go", at_operator(task, 0)]
     pair = [(size, 1), (2 * size, 0)]
     lines += [f"    effect {effect} sets 1 {value} {value_name({}, 1, value)}" for effect, value in pair]
-    return task_with([2, 2], operators=[("go", [], [*ones, ([], 1, -1, 0)], 1)]), ["go"], 0, lines
+    return task, ["go"], 0, lines
 
 
 def many_named(size):
@@ -233,8 +248,10 @@ def many_alike(size):
     spaces = " " * 40
     operators = [(f"Go {place}{spaces}", [], [], 1) for place in range(1, size + 1)]
     operators += [(f"GO 0{spaces}", [], [], 1), ("go 0 ", [], [], 1)]
-    lines = ["plan invalid: step 1: no operator of that name", "  step 1 go 0", f"  similar operator {size} GO 0{spaces}"]
-    return task_with([2], operators=operators), ["go 0"], 0, lines
+    task = task_with([2], operators=operators)
+    lines = ["plan invalid: step 1: no operator of that name", "  step 1 go 0"]
+    lines += [f"  similar operator {size} line {operator_line(task, size)} GO 0{spaces[1:]}\\x20", "  1 of 1 steps name no operator"]
+    return task, ["go 0"], 0, lines
 
 
 def compare_small(maker):
@@ -255,20 +272,18 @@ def made_case(maker, size, **limits):
 
 
 def long_texts():
-    """Small files whose reasons repeat a long name very often: of a value that the goal or a rule requires, or of the step since
-    which another one is there. They could show a text that is made before it is written, and lines that are kept so that they
-    aren't printed again."""
-    name, goal = "a" * NAME, [(0, 1)] * TIMES
-    facts = [f"  goal fact {place}\n    requires 0 1 " for place in range(TIMES)]
-    reasons = [[fact, name, "\n    actual 0 0 no\n    since the initial state\n"] for fact in facts]
-    yield long_text("the name of a value", task_with([2], goal=goal, names=[["no", name]]), [], reasons)
-    operators, names = [(name, [], [([], 0, -1, 2)], 1)], [["no", "yes", "so"]]
-    reasons = [[f"{fact}yes\n    actual 0 2 so\n    since step 1 ", name, "\n"] for fact in facts]
-    yield long_text("the name of a step", task_with([3], goal=goal, operators=operators, names=names), [name], reasons)
+    """Files whose reasons repeat long names very often: of values and of the step since which one is there, or of a value that rules
+    require. They could show a text that is made before it is written, and lines that are kept so that they aren't printed again."""
+    name, step, goal = "a" * NAME, "b" * NAME, [(0, 1)] * TIMES
+    count = f"  {TIMES} of {TIMES} goal facts fail\n"
+    facts = [f"  goal fact {place}\n    requires 0 1 {name}\n    actual 0 2 {name}\n    since step 1 {step}\n" for place in range(TIMES)]
+    operators, names = [(step, [], [([], 0, -1, 2)], 1)], [["no", name, name]]
+    task = task_with([3], goal=goal, operators=operators, names=names)
+    yield long_text("names of values and of a step", task, [step], [count, *facts])
     task = derived_task(1, [([(0, 1)], 1, -1, 1)] * RULES, [(1, 1)] * 2, names=[["no", name], ["off", "on"]])
     cause = "    requires 1 1 on\n    actual 1 0 off\n    since the initial state\n"
-    rules = [[f"    rule {rule} requires 0 1 ", name, "\n"] for rule in range(RULES)]
-    reasons = [f"  goal fact 0\n{cause}", *rules, f"  goal fact 1\n{cause}"]
+    rules = [f"    rule {rule} requires 0 1 {name}\n" for rule in range(RULES)]
+    reasons = ["  2 of 2 goal facts fail\n", f"  goal fact 0\n{cause}", *rules, f"  goal fact 1\n{cause}"]
     yield long_text("the name of a value that rules require", task, [], reasons)
 
 

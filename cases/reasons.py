@@ -5,13 +5,17 @@ stand in front of each, four where it belongs to the line above. A task here is 
 A run is the task, the names of a plan's steps, the operators of those steps that go through, and the states: the initial one, and
 the one after each of these steps. A fact fails that doesn't hold in the last of them.
 
-    no operator of that name    step S NAME, and `similar operator I NAME` of the first operator whose name is the same but for
-                                spaces at the end and capitals, if there is one
+    no operator of that name    step S NAME, then `similar operator I line L NAME` of the first operator whose name is the same but
+                                for capitals, spaces at the ends and the number of spaces elsewhere, if there is one; how many of all
+                                steps have no operator of their name
     not applicable              step S NAME, then each operator of the name, with the cause of each precondition that fails
-    conflicting effects         step S NAME, operator I, and two of its effects that fire: E is the first that contradicts one
+    conflicting effects         step S NAME, operator I line L, and two of its effects that fire: E is the first that contradicts one
                                 before it, D the first that it contradicts
-    goal fact not reached       each goal fact that fails, with its cause
-    cost differs                metric M, steps S, sum of cost lines N, also where the metric doesn't count them
+    goal fact not reached       how many goal facts fail, and each of these with its cause
+    cost differs                metric M, steps S, sum of cost lines N, also where the metric doesn't count them; a hint where the
+                                plan's cost is the one of the other metric
+
+L is the line of the file on which the operator begins. Names are shown as texts.py has it.
 
 After each of these comes the first step that went through and could also be an operator after the one that it meant, as
 that has the name too and was applicable, with the first such operator.
@@ -28,8 +32,10 @@ and with each one those that this rule requires and that have risen, too; so non
 """
 from functools import cached_property
 
-from axioms import value_name
+from axioms import operator_line
+from layers import fact_said
 from steps import conflict, holds, initial, meant, next_state, preconditions, verdict
+from texts import shown_name
 
 
 class Run:
@@ -57,19 +63,15 @@ def run_of(task, names):
     return Run(task, names, operators, states)
 
 
-def fact_said(task, var, value):
-    """Returns a fact as it stands in a line."""
-    return f"{var} {value} {value_name(task, var, value)}"
-
-
 def operators_named(task, name):
     """Returns the operators of exactly this name."""
     return [place for place, operator in enumerate(task["operators"]) if operator[0] == name]
 
 
 def folded(name):
-    """Returns a name without the spaces at its end and with A to Z made small; other letters stay."""
-    return "".join(chr(ord(letter) + 32) if "A" <= letter <= "Z" else letter for letter in name.rstrip(" "))
+    """Returns the words of a name, which spaces separate, with A to Z made small; other letters stay."""
+    small = "".join(chr(ord(letter) + 32) if "A" <= letter <= "Z" else letter for letter in name)
+    return [word for word in small.split(" ") if word]
 
 
 def like(task, name):
@@ -151,7 +153,7 @@ def assert_explains(run, var, ordered):
 def since(run, var):
     """Returns since when a variable has the value of the last state."""
     steps = [step for step in range(1, len(run.states)) if run.states[step - 1][var] != run.states[step][var]]
-    return f"since step {steps[-1]} {run.names[steps[-1] - 1]}" if steps else "since the initial state"
+    return f"since step {steps[-1]} {shown_name(run.names[steps[-1] - 1])}" if steps else "since the initial state"
 
 
 def given_by(run, var):
@@ -191,22 +193,29 @@ def clash(state, effects):
     return None
 
 
-def name_reasons(task, name):
-    """Returns the line of the operator whose name is like this one, if there is one."""
-    operator = like(task, name)
-    return [] if operator is None else [f"  similar operator {operator} {task['operators'][operator][0]}"]
+def operator_said(task, place):
+    """Returns an operator by its number and its line."""
+    return f"operator {place} line {operator_line(task, place)}"
+
+
+def name_reasons(run, name):
+    """Returns the line of the operator whose name is like this one, if there is one, and how many steps have no operator."""
+    operator = like(run.task, name)
+    unknown = [its for its in run.names if not operators_named(run.task, its)]
+    similar = [] if operator is None else [f"  similar {operator_said(run.task, operator)} {shown_name(run.task['operators'][operator][0])}"]
+    return [*similar, f"  {len(unknown)} of {len(run.names)} steps name no operator"]
 
 
 def blocked_reasons(run, operator):
     """Returns why an operator isn't applicable."""
     facts = preconditions(run.task["operators"][operator])
     failing = [fact for fact in facts if not holds(run.last, [fact])]
-    return [f"  operator {operator}", *(line for fact in failing for line in cause(run, fact))]
+    return [f"  {operator_said(run.task, operator)}", *(line for fact in failing for line in cause(run, fact))]
 
 
 def conflict_reasons(run, operator):
     """Returns which effects of an operator conflict."""
-    said, effects = [f"  operator {operator}"], run.task["operators"][operator][2]
+    said, effects = [f"  {operator_said(run.task, operator)}"], run.task["operators"][operator][2]
     for place in clash(run.last, effects):
         _, var, _, new = effects[place]
         said.append(f"    effect {place} sets {fact_said(run.task, var, new)}")
@@ -219,24 +228,31 @@ def step_reasons(run):
     name = run.names[step - 1]
     operator = meant(run.task, run.last, name)
     if operator == "Unknown":
-        said = name_reasons(run.task, name)
+        said = name_reasons(run, name)
     elif operator == "Blocked":
         said = [line for its in operators_named(run.task, name) for line in blocked_reasons(run, its)]
     else:
         said = conflict_reasons(run, operator)
-    return [f"  step {step} {name}", *said]
+    return [f"  step {step} {shown_name(name)}", *said]
 
 
 def goal_reasons(run):
-    """Returns the goal facts that fail, each with its cause."""
+    """Returns how many goal facts fail, and each of these with its cause; nothing where none fails."""
     failing = [(place, fact) for place, fact in enumerate(run.task["goal"]) if not holds(run.last, [fact])]
-    return [line for place, fact in failing for line in (f"  goal fact {place}", *cause(run, fact))]
+    count = [f"  {len(failing)} of {len(run.task['goal'])} goal facts fail"] if failing else []
+    return [*count, *(line for place, fact in failing for line in (f"  goal fact {place}", *cause(run, fact)))]
 
 
-def cost_reasons(run):
-    """Returns what the cost of a plan is made of."""
+def cost_reasons(run, cost):
+    """Returns what the cost of a plan is made of, and what the plan's may be meant to be."""
+    metric, steps = run.task["metric"], len(run.names)
     lines = sum(run.task["operators"][operator][3] for operator in run.operators)
-    return [f"  metric {run.task['metric']}", f"  steps {len(run.names)}", f"  sum of cost lines {lines}"]
+    said = [f"  metric {metric}", f"  steps {steps}", f"  sum of cost lines {lines}"]
+    if metric and cost == steps:
+        said.append("  hint with metric 1 each step costs its operator's cost line")
+    if not metric and cost == lines:
+        said.append("  hint with metric 0 each step costs 1")
+    return said
 
 
 def could_also_be(run):
@@ -254,16 +270,16 @@ def said_once(lines):
     return [line for place, line in enumerate(lines) if not line.startswith("    rule ") or line not in lines[:place]]
 
 
-def reasons_of(run):
-    """Returns the lines after the verdict on the plan of a run that isn't valid."""
+def reasons_of(run, cost):
+    """Returns the lines after the verdict on the plan of a run, of this cost, that isn't valid."""
     if len(run.operators) < len(run.names):
         said = step_reasons(run)
     else:
-        said = goal_reasons(run) or cost_reasons(run)
+        said = goal_reasons(run) or cost_reasons(run, cost)
     return said_once([*said, *could_also_be(run)])
 
 
 def reasons(task, names, cost):
     """Returns the verdict on a plan, and the lines after it; none where the plan is valid."""
     fault, _ = verdict(task, names, cost)
-    return fault, [] if fault.startswith("plan valid") else reasons_of(run_of(task, names))
+    return fault, [] if fault.startswith("plan valid") else reasons_of(run_of(task, names), cost)

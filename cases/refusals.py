@@ -4,10 +4,13 @@ after it. Two spaces stand in front of each.
     at PLACE                  where the refused line of a task stands
     expected WORDS            what is expected there; of a plan it follows from the kind of fault
     number K must be A to B   of a task, for `value` on a line of several numbers: the first number that may not stand there
+    line K counts N           of a task, where an item of a list is expected, or the line after its last one: the line that has the
+                              number of its items, and that number
     found TEXT                the line without its end; for `trailing` the one byte
     empty line                the line was empty
     unfinished TEXT           for `end` the rest after the last line end
     end of file               for `end` where there is no rest
+    hint WORDS                what to do, for some mistakes
 
 The lines of a task are read here by what is expected on each, and not by anything of the program. What is expected follows from the
 lines that came before.
@@ -15,6 +18,7 @@ lines that came before.
 import random
 import re
 
+import texts
 from texts import as_bytes, bytes_of_file, table
 
 SEED = 6
@@ -32,6 +36,9 @@ EFFECT = "effect: COUNT, COUNT times VAR VALUE, VAR OLD NEW"
 STEP, COST = "(NAME)", "; cost = N (unit cost) or ; cost = N (general cost)"
 # what is expected in a plan, by the kind of fault
 PLAN_EXPECTED = {"name": STEP, "shape": COST, "keyword": f"{STEP} or {COST}", "end": f"{STEP} or {COST}", "trailing": "end of file"}
+# how compressed files begin: those of gzip, bzip2, xz and zstd
+COMPRESSED = (b"\x1f\x8b", b"BZh", b"\xfd7zXZ\0", b"\x28\xb5\x2f\xfd")
+BYTE_ORDER_MARK = b"\xef\xbb\xbf"
 
 
 def spelled(word, most=MOST):
@@ -115,92 +122,97 @@ def words_fault(expected, ranges, words):
     return None
 
 
-# The slots of a file, in order: where a line stands, and what is expected there. Each is sent the line that stands there.
+# The slots of a file, in order: where a line stands, what is expected there, and the count of a list, as its line and its number, where
+# an item of the list is expected, or the line after its last one. Each is sent the number of the line that stands there, and the line.
 
 
-def counted(place, expected):
-    """Yields the slots of a count, and of so many lines."""
-    for _ in range(int((yield place, number(0)))):
-        yield place, expected
+def counted(place, expected, least=0, before=None):
+    """Yields the slots of a count, and of so many lines. The count may itself be the line after a list. Returns the count."""
+    line, held = yield place, number(least), before
+    count = line, int(held)
+    for _ in range(int(held)):
+        yield place, expected, count
+    return count
 
 
 def one_number(place, least, most):
     """Yields the slots of a section that is one number."""
-    yield place, fixed(f"begin_{place}")
-    yield place, number(least, most)
-    yield place, fixed(f"end_{place}")
+    yield place, fixed(f"begin_{place}"), None
+    yield place, number(least, most), None
+    yield place, fixed(f"end_{place}"), None
 
 
-def variable(place, ranges):
+def variable(place, ranges, all_counted):
     """Yields the slots of a variable, and notes its range."""
-    yield place, fixed("begin_variable")
-    yield place, name()
-    yield place, number(-1)
-    size = int((yield place, number(1)))
-    for _ in range(size):
-        yield place, name()
-    yield place, fixed("end_variable")
-    ranges.append(size)
+    yield place, fixed("begin_variable"), all_counted
+    yield place, name(), None
+    yield place, number(-1), None
+    count = yield from counted(place, name(), 1)
+    yield place, fixed("end_variable"), count
+    ranges.append(count[1])
 
 
-def group(place, ranges):
+def group(place, ranges, all_counted):
     """Yields the slots of a mutex group."""
-    yield place, fixed("begin_mutex_group")
-    yield from counted(place, numbers(FACT, ranges))
-    yield place, fixed("end_mutex_group")
+    yield place, fixed("begin_mutex_group"), all_counted
+    count = yield from counted(place, numbers(FACT, ranges))
+    yield place, fixed("end_mutex_group"), count
 
 
-def state(place, ranges):
-    """Yields the slots of the state."""
-    yield place, fixed("begin_state")
+def state(place, ranges, before):
+    """Yields the slots of the state, which comes after a list."""
+    yield place, fixed("begin_state"), before
     for size in ranges:
-        yield place, number(0, size - 1)
-    yield place, fixed("end_state")
+        yield place, number(0, size - 1), None
+    yield place, fixed("end_state"), None
 
 
 def goal(place, ranges):
     """Yields the slots of the goal."""
-    yield place, fixed("begin_goal")
-    yield from counted(place, numbers(FACT, ranges))
-    yield place, fixed("end_goal")
+    yield place, fixed("begin_goal"), None
+    count = yield from counted(place, numbers(FACT, ranges))
+    yield place, fixed("end_goal"), count
 
 
-def operator(place, ranges):
+def operator(place, ranges, all_counted):
     """Yields the slots of an operator."""
-    yield place, fixed("begin_operator")
-    yield place, name()
-    yield from counted(place, numbers(FACT, ranges))
-    yield from counted(place, numbers(EFFECT, ranges))
-    yield place, number(0)
-    yield place, fixed("end_operator")
+    yield place, fixed("begin_operator"), all_counted
+    yield place, name(), None
+    count = yield from counted(place, numbers(FACT, ranges))
+    count = yield from counted(place, numbers(EFFECT, ranges), before=count)
+    yield place, number(0), count
+    yield place, fixed("end_operator"), None
 
 
-def rule(place, ranges):
+def rule(place, ranges, all_counted):
     """Yields the slots of a rule."""
-    yield place, fixed("begin_rule")
-    yield from counted(place, numbers(FACT, ranges))
-    yield place, numbers(HEAD, ranges)
-    yield place, fixed("end_rule")
+    yield place, fixed("begin_rule"), all_counted
+    count = yield from counted(place, numbers(FACT, ranges))
+    yield place, numbers(HEAD, ranges), count
+    yield place, fixed("end_rule"), None
 
 
-def each(part, ranges, least=0):
-    """Yields the slots of a count, and of so many parts."""
+def each(part, ranges, least=0, before=None):
+    """Yields the slots of a count, and of so many parts. Returns the count."""
     one = part.__name__
-    for place in range(int((yield f"{one}s", number(least)))):
-        yield from part(f"{one} {place}", ranges)
+    line, held = yield f"{one}s", number(least), before
+    count = line, int(held)
+    for place in range(int(held)):
+        yield from part(f"{one} {place}", ranges, count)
+    return count
 
 
 def task_slots():
-    """Yields the slots of a task."""
+    """Yields the slots of a task. Returns the count of the last list."""
     ranges = []
     yield from one_number("version", 3, 3)
     yield from one_number("metric", 0, 1)
-    yield from each(variable, ranges, 1)
-    yield from each(group, ranges)
-    yield from state("state", ranges)
+    count = yield from each(variable, ranges, 1)
+    count = yield from each(group, ranges, before=count)
+    yield from state("state", ranges, count)
     yield from goal("goal", ranges)
-    yield from each(operator, ranges)
-    yield from each(rule, ranges)
+    count = yield from each(operator, ranges)
+    return (yield from each(rule, ranges, before=count))
 
 
 def plan_line(line):
@@ -215,36 +227,67 @@ def plan_line(line):
 
 def plan_slots():
     """Yields the slots of a plan, which are alike, up to the line of its cost. What is expected follows from the kind of fault."""
-    while not (yield "", ("", plan_line)).startswith(b";"):
+    while not (yield "", ("", plan_line), None)[1].startswith(b";"):
         pass
 
 
 def first_fault(slots, text):
     """Follows some bytes through the slots. Returns the first fault: its line, its kind, where that stands, what is expected there, what is
-    said of its words, and what was found; None where there is no fault."""
+    said of its words and of a count, and what was found; None where there is no fault."""
     here, at, line = next(slots), 0, 1
     while here:
-        place, (expected, judge) = here
+        place, (expected, judge), count = here
         end = text.find(b"\n", at)
         if end < 0:
-            return line, "end", place, expected, [], text[at:]
+            return line, "end", place, expected, count_said(count), text[at:]
         held = text[at:end].removesuffix(b"\r")
         wrong = judge(held)
         if wrong:
             kind, words = wrong
-            return line, kind, place, expected, words, held
-        at, line = end + 1, line + 1
+            return line, kind, place, expected, [*words, *count_said(count)], held
         try:
-            here = slots.send(held)
-        except StopIteration:
-            here = None
-    return (line, "trailing", "the end", "end of file", [], text[at : at + 1]) if text[at:] else None
+            here = slots.send((line, held))
+        except StopIteration as ended:
+            here, count = None, ended.value
+        at, line = end + 1, line + 1
+    return (line, "trailing", "the end", "end of file", count_said(count), text[at : at + 1]) if text[at:] else None
+
+
+def count_said(count):
+    """Returns the line of a count, if there is one."""
+    return ["line {} counts {}".format(*count)] if count else []
+
+
+def slots_by(what):
+    """Returns the slots of a task or of a plan."""
+    return task_slots() if what == "task" else plan_slots()
+
+
+def hints(what, text, line, kind, found):
+    """Yields the hints for a fault of a file; the first one is given."""
+    if line == 1 and text.startswith(COMPRESSED):
+        yield "the file is compressed"
+    if line == 1 and text.startswith(BYTE_ORDER_MARK):
+        yield "the file begins with a byte order mark"
+    if (what, line, kind, found) == ("plan", 1, "keyword", b"begin_version"):
+        yield "this is a task: the order is TASK PLAN"
+    if (what, line, kind) == ("task", 1, "keyword") and found.startswith((b"(", b";")):
+        yield "this is a plan or PDDL: the task is the file output.sas"
+    if (what, line, kind) == ("task", 2, "value"):
+        yield "only version 3 is read"
+    if (what, kind) == ("plan", "keyword") and found.startswith(b";"):
+        yield "comments aren't read"
+    if kind == "end" and first_fault(slots_by(what), text + b"\n") is None:
+        yield "only the last line end is missing"
+    if (what, kind, found) == ("plan", "end", b"") and line > 1:
+        yield "the cost line is missing"
+    if kind == "end" and text:
+        yield "the file is cut off"
 
 
 def shown(text):
-    """Returns a text as it is shown: its first bytes, and ` ..` after them if there are more, or a space at its end as `\\x20`."""
-    first = "".join(chr(byte) if 32 <= byte <= 126 and byte != 92 else f"\\x{byte:02x}" for byte in text[:SHOWN])
-    return f"{first} .." if text[SHOWN:] else re.sub(" $", r"\\x20", first)
+    """Returns a text that was found as it is shown."""
+    return texts.shown(text, SHOWN, lambda byte: 32 <= byte <= 126 and byte != 92)
 
 
 def found_line(kind, found):
@@ -256,12 +299,14 @@ def found_line(kind, found):
 
 def refusal(what, text):
     """Returns the lines about a file that is refused, a task or a plan; None where it isn't."""
-    fault = first_fault(task_slots() if what == "task" else plan_slots(), text)
+    fault = first_fault(slots_by(what), text)
     if fault is None:
         return None
     line, kind, place, expected, words, found = fault
     shown = [f"at {place}", f"expected {expected}", *words] if what == "task" else [f"expected {PLAN_EXPECTED[kind]}"]
-    return [f"{what} refused: line {line}: {kind}", *(f"  {it}" for it in (*shown, found_line(kind, found)))]
+    hint = next((f"hint {words}" for words in hints(what, text, line, kind, found)), None)
+    said = [*shown, found_line(kind, found), *([hint] if hint else [])]
+    return [f"{what} refused: line {line}: {kind}", *(f"  {it}" for it in said)]
 
 
 def after_file(said, text):
@@ -344,7 +389,7 @@ def slots_of(text):
     """Returns what is expected on each line of a task."""
     slots, all_expected = task_slots(), []
     here = next(slots)
-    for line in text.splitlines():
+    for line in enumerate(text.splitlines(), 1):
         all_expected.append(here[1][0])
         try:
             here = slots.send(line)

@@ -43,7 +43,7 @@ too; those that families.py makes at random, and its larger ones, as standard in
 
 program.json: words and devices, by these names.
 
-    words        the words after the program's name, each character a byte; FOLDER in one represents an empty folder
+    words        the words after the program's name, each character a byte; FOLDER in one, or in `error`, represents an empty folder
     files        files by their names, each character a byte: the program runs in a folder that has these alone
     pipes        named pipes beside the files, by their names. They are written one after another, each once: the program has to open
                  them in this order, and none a second time
@@ -401,8 +401,9 @@ def answer_among(program, case, folder):
 
 def faults(program, case, folder):
     """Returns what is wrong with the program's answer to a case."""
+    expected = {**case, "error": case["error"].replace("FOLDER", folder)} if case.get("error") else case
     try:
-        return list(differences(case, answer_among(program, case, folder)))
+        return list(differences(expected, answer_among(program, case, folder)))
     except subprocess.TimeoutExpired:
         return [f"no end within {SECONDS} seconds"]
 

@@ -23,7 +23,7 @@ import random
 
 from axioms import task_of, text_of, value_name
 from following import long_runs
-from reasons import fact_said, run_of
+from reasons import run_of
 from steps import cost_of, holds, verdict
 from texts import as_bytes, changed_lines, table
 from walks import plan_of, plan_text, walked_plans
@@ -39,7 +39,7 @@ FILES = ("t.sas", "p.txt")
 
 def initial_lines(run):
     """Returns the lines of the initial state of a run."""
-    return [f"initial {fact_said(run.task, var, value)}" for var, value in enumerate(run.states[0])]
+    return [f"initial {var} {value} {value_name(run.task, var, value)}" for var, value in enumerate(run.states[0])]
 
 
 def step_lines(run, step):

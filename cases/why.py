@@ -15,7 +15,7 @@ same, and so is the status; the lines after it begin with two spaces.
 """
 import random
 
-from axioms import task_of, text_of
+from axioms import task_of, text_of, value_name
 from following import long_runs, run_over, turning_names, turning_task
 from layers import REFUSED, after_refusal
 from reasons import reasons, reasons_of
@@ -116,19 +116,35 @@ def long_cases():
     than the first."""
     for made in long_runs():
         fault = made["output"].removesuffix("\n")
-        after = [] if fault.startswith("plan valid") else reasons_of(made["run"])
+        after = [] if fault.startswith("plan valid") else reasons_of(made["run"], plan_of(made["plan"])[1])
         yield case_of(made["name"], made["task"], made["plan"], [fault, *after])
 
 
 def alike(chance, name):
     """Returns a name that is like this one, or nearly."""
-    changed = (name.upper(), name.swapcase(), name.rstrip(), f"{name} ", f"{name}  ", f" {name}", f"{name}n", name[:-1])
+    changed = (
+        name.upper(), name.swapcase(), name.rstrip(), f"{name} ", f" {name}", f"{name}n", name[:-1],
+        name.replace(" ", "  "), name.replace(" ", ""), f"{name[:2]} {name[2:]}", f"   {name.replace(' ', '   ')}  ",
+    )
     return chance.choice(changed)
 
 
+def odd(chance, name):
+    """Returns a name with this one in it that isn't shown as it is: for its bytes, its length or a space at its end; or nearly."""
+    end = chance.choice(("", " ", "\x7f", "\\", "\xff", "  ", "x", "\t"))
+    long = f"{name}{'x' * (chance.randint(254, 258) - len(name) - len(end))}{end}"
+    return chance.choice((f"{name}\x1b[31m", f"\x00\x1f\x20\x7e\x7f\x80{name}", f"{name}{end}", f"  {name}  x", long, f"{long}{long}"))
+
+
 def renamed(chance, names):
-    """Returns other names for these: some with capitals, which step names have too."""
-    return {name: chance.choice((name, name, name.upper(), name.title())) for name in names}
+    """Returns other names for these: some with capitals, which step names have too, and some odd ones."""
+    return {name: chance.choice((name, name, name.upper(), name.title(), odd(chance, name))) for name in names}
+
+
+def named_values(chance, task):
+    """Returns names for the values of a task, some of them odd."""
+    names = [[value_name(task, var, value) for value in range(size)] for var, size in enumerate(task["ranges"])]
+    return [[odd(chance, name) if chance.random() < 0.3 else name for name in its] for its in names]
 
 
 def failing_goal(chance, task, state):
@@ -164,7 +180,8 @@ def walked_again(chance):
         goal = [] if chance.random() < 0.4 else failing_goal(chance, task, state)
         steps, cost = spoiled(chance, task, steps, cost)
         operators = [(names[name], *parts) for name, *parts in task["operators"]]
-        yield {**task, "goal": goal, "operators": operators}, [names.get(step, step) for step in steps], cost
+        said = {"names": named_values(chance, task)} if chance.random() < 0.3 else {}
+        yield {**task, **said, "goal": goal, "operators": operators}, [names.get(step, step) for step in steps], cost
 
 
 def turned(chance):
