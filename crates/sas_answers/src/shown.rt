@@ -70,7 +70,7 @@ fn are_plain(plain: PlainBytes, bytes: &[u8]) -> bool
 {
     let mut all = true;
     for byte in bytes {
-        all = all && is_plain(plain, *byte);
+        all &= is_plain(plain, *byte);
     }
     all
 }
@@ -79,7 +79,7 @@ fn are_plain(plain: PlainBytes, bytes: &[u8]) -> bool
 fn is_plain(plain: PlainBytes, byte: u8) -> bool
     ensures { result ≡ is_plain_byte plain byte }
 {
-    byte >= 32 && byte <= plain.last && byte != plain.but
+    (byte >= 32) & (byte <= plain.last) & (byte != plain.but)
 }
 
 /// Writes each byte as it is shown, and then `last` unchanged. Returns the end.
