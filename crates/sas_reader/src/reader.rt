@@ -214,6 +214,7 @@ impl<M: Machine> Reader<M> {
     }
 
     /// Takes the first lines of the piece that the machine accepts ahead, if any. Returns how many bytes it took.
+    #[inline(always)]
     fn take_front(&mut self, piece: &[u8]) -> Result<usize, Kind>
         requires some { 0 < length piece.now }
         requires room { self.old.taken + length piece.now ≤ self.old.limit }
@@ -233,7 +234,9 @@ impl<M: Machine> Reader<M> {
         Ok(front.bytes)
     }
 
-    /// Takes lines ahead, as many as the machine and the limit allow. Returns how many bytes it took.
+    /// Takes lines ahead, as many as the machine and the limit allow. Returns how many bytes it took. This loop is a function of its own in
+    /// the program, with all that it calls for each section.
+    #[inline(never)]
     fn take_fronts(&mut self, piece: &[u8]) -> Result<usize, Kind>
         ensures { TakesFrontOrStops M.behavior self.old piece.now self.new result }
     {

@@ -122,11 +122,12 @@ module _ {K : Type 0} (keeps : List (List ℕ) → SoFar → K → Type 0) (line
     pub unended : {L : Type 0} (now : L → List ℕ) (kind : Kind) (lacks : Type 0) (last : Option L) → IfSome last (λ l. IsLastLine m.judge (now l)) → IfNone last ((line : List ℕ) → IsLastLine m.judge line → ⊥)
         → (lacks ↔ (kind ≡ kinds.End) × IsSomeAnd last (λ l. without_return (kept_bytes found) ≡ now l)) → lacks ↔ EndsUnended task_format kind lines text
     unended now kind lacks None some none law = (λ l. absurd (law.0 l).1, λ (e, all). absurd (none (without_return text) (last_line (without_return text) all)))
-    unended now kind lacks (Some l) some none law =
-        (λ yes.
-        let says = law.0 yes in
-        let whole = whole_if (omega (arith, last_short (now l) some, ap length says.1, return_length (kept_bytes found))) in
-        (says.0, subst (λ (w : List ℕ). AreAllLines task_format (lines ++ w ∷ [])) (sym says.1 ∙ ap without_return whole) (all_lines (now l) some)),
-        λ (e, all).
-        let last = last_line (without_return text) all in
-        law.1 (e, ap without_return (kept_if (without_return text) last refl) ∙ one_last (without_return text) (now l) last some))
+    unended now kind lacks (Some l) some none law = (
+      λ yes.
+          let says = law.0 yes in
+          let whole = whole_if (omega (arith, last_short (now l) some, ap length says.1, return_length (kept_bytes found))) in
+          (says.0, subst (λ (w : List ℕ). AreAllLines task_format (lines ++ w ∷ [])) (sym says.1 ∙ ap without_return whole) (all_lines (now l) some)),
+      λ (e, all).
+          let last = last_line (without_return text) all in
+          law.1 (e, ap without_return (kept_if (without_return text) last refl) ∙ one_last (without_return text) (now l) last some),
+    )
