@@ -40,12 +40,12 @@ fn main() {
             tell("held trace", held.trace(plan));
             tell("elsewhere", std::thread::scope(|it| it.spawn(|| held.plan(plan)).join().unwrap()));
         }
-        Err(sas::ReadError::Refused(text)) => tell("read", Ok(sas::Answer { is_yes: false, text })),
+        Err(sas::ReadError::Refused(answer)) => tell("read", Ok(answer)),
         Err(sas::ReadError::Failed(error)) => tell("read", Err(error)),
     }
     match sas::Task::read(plan) {
         Ok(_) => println!("a plan is read as a task"),
-        Err(sas::ReadError::Refused(text)) => tell("read", Ok(sas::Answer { is_yes: false, text })),
+        Err(sas::ReadError::Refused(answer)) => tell("read", Ok(answer)),
         Err(sas::ReadError::Failed(error)) => tell("read", Err(error)),
     }
 }

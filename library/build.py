@@ -1,6 +1,6 @@
 #!/usr/bin/env python3
 """Builds the library, into library/out/: libsas.a and libsas.so, and beside them what a program includes, imports or looks for, sas.h,
-sas.hpp, sas.py, sas.pc and the package files of CMake.
+sas.hpp and what it includes, sas.py, sas.pc and the package files of CMake.
 
     python3 library/build.py [PROCESSORS]
     python3 library/build.py --over-gate
@@ -32,7 +32,7 @@ HEART = f"{CRATE}/out/lib{NAME}.a"
 SHARED = "libsas.so.1"
 # what is added to the heart
 ADDED = ("sas_memory", "sas_version")
-BESIDE = ("sas.h", "sas.hpp", "python/sas.py", "sas.pc", "sasConfig.cmake", "sasConfigVersion.cmake")
+BESIDE = ("sas.h", "sas.hpp", "sas_answers.hpp", "python/sas.py", "sas.pc", "sasConfig.cmake", "sasConfigVersion.cmake")
 
 
 def run(*command):
