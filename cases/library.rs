@@ -38,6 +38,7 @@ fn main() {
             tell("held", held.plan(plan));
             tell("held plan_why", held.plan_why(plan));
             tell("held trace", held.trace(plan));
+            tell("held operators", held.plan_operators(&[0], 1));
             tell("elsewhere", std::thread::scope(|it| it.spawn(|| held.plan(plan)).join().unwrap()));
         }
         Err(sas::ReadError::Refused(answer)) => tell("read", Ok(answer)),
