@@ -2,7 +2,6 @@
    plan of the task that is held, for this plan by the numbers of its operators, and for both files by `sas_plan`. Of the rounds the best
    counts; each asks about the plan COUNT times. The plan has to be valid. */
 #include "sas.h"
-#include <inttypes.h>
 #include <stdio.h>
 #include <stdlib.h>
 #include <string.h>
@@ -53,20 +52,25 @@ static struct bytes task, plan;
 static struct numbers by;
 static long count;
 
-/* Returns the operators of the plan, which its trace names. */
-static struct numbers numbers_of(void) {
-    struct numbers it = {NULL, 0, 0};
+/* Returns the trace of the plan. */
+static char *read_trace(void) {
     size_t room = 1 << 20;
-    char *trace = malloc(room + 1), *line = trace;
+    char *trace = malloc(room + 1);
     while (sas_trace(task.at, task.length, plan.at, plan.length, (uint8_t *)trace, room, &room) == SAS_ROOM_TOO_SHORT) {
-        line = trace = realloc(trace, room + 1);
+        trace = realloc(trace, room + 1);
     }
     trace[room] = 0;
-    it.at = malloc((plan.length + 1) * sizeof *it.at);
-    while (line != NULL && sscanf(line, "plan valid: %*u steps, cost %" SCNu64, &it.cost) != 1) {
-        it.count += sscanf(line, "step %*u %" SCNu32, &it.at[it.count]) == 1;
-        line = strchr(line, '\n');
-        line += line != NULL;
+    return trace;
+}
+
+/* Returns the operators of the plan and its cost, as the trace has them. */
+static struct numbers read_numbers(void) {
+    char *trace = read_trace(), *cost = NULL;
+    struct numbers it = {malloc((plan.length + 1) * sizeof *it.at), 0, 0};
+    for (char *line = strstr(trace, "\nstep "); line != NULL; line = strstr(line, "\nstep ")) {
+        line = strchr(line + strlen("\nstep "), ' ');
+        it.at[it.count++] = (uint32_t)strtoul(line, &cost, 10);
+        it.cost += strtoull(cost, NULL, 10);
     }
     free(trace);
     return it;
@@ -124,7 +128,7 @@ int main(int words_given, char **words) {
     }
     struct answer answer = {SAS_NO_TASK, 0, {0}};
     task = read_file(words[1]), plan = read_file(words[2]), count = atol(words[3]);
-    by = numbers_of();
+    by = read_numbers();
     for (long round = 0; round < atol(words[4]); round++) {
         if (!measure(&answer)) {
             return 1;
