@@ -32,7 +32,7 @@ OBJECT = f"{CRATE}/out/sas.o"
 GATE = f"{TOP}/gate.log"
 PLATFORM = "x86_64-linux"
 # documents that describe the source; a release has the others
-OF_SOURCE = ("ARCHITECTURE", "CONTRIBUTING", "DECISIONS", "PROMISES", "READING", "SPEED")
+OF_SOURCE = ("ARCHITECTURE", "CONTRIBUTING", "DECISIONS", "PROMISES", "RATTLE", "READING", "SPEED")
 # what stands between these lines of a document is about the source, and left out of a release
 ONLY_SOURCE = re.compile(rb"<!-- of the source -->\n.*?<!-- end of the source -->\n", re.DOTALL)
 PACKED = (
