@@ -37,6 +37,13 @@ impl<'a> Numbers<'a> {
     {
         Numbers { rest: Some(line) }
     }
+
+    /// Returns the bytes of the parts that are left, or `None` if none is left.
+    pub fn rest(&self) -> Option<&'a [u8]>
+        ensures { self.now ≡ parts_within 32 result }
+    {
+        self.rest
+    }
 }
 
 impl<'a> Iterator for Numbers<'a> {
