@@ -2,7 +2,8 @@
 ghost use Rattle.std.specs.Prelude.{◌≡◌, option_map, Some, IfOk};
 ghost use Rattle.sas_answers.specs.Answers.{VerdictAnswer, valid_answer, invalid_answer};
 ghost use Rattle.sas_answers.specs.Ending.{output_of};
-ghost use Rattle.sas_answers.specs.PlanWords.{valid_line, fault_words, step_words, goal_words, sum_words, invalid_line};
+ghost use Rattle.sas_answers.specs.PlanWords.{fault_words, step_words, goal_words, sum_words, invalid_line};
+ghost use Rattle.sas_answers.specs.ValidLine.{valid_line};
 
 use crate::{Answer, Status};
 use sas_axioms::Worklist;

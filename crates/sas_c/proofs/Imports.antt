@@ -16,7 +16,7 @@ pub use Rattle.std_alloc.proofs.ResultValues.{and_tt}
 pub use Rattle.std_alloc.proofs.boxed.Box.from_raw.Met.{met}
 pub use Rattle.std_alloc.specs.Box.Ownership.{box_owns}
 pub use Rattle.sas_answers.specs.Answers.{layers_verdict, VerdictAnswer, MutexAnswer}
-pub use Rattle.sas_answers.specs.PlanWords.{valid_line}
+pub use Rattle.sas_answers.specs.ValidLine.{valid_line}
 pub use Rattle.sas_core.specs.PlanParts.{PlanParts}
 pub use Rattle.sas_core.specs.declared.parts.Parts.{Parts}
 pub use Rattle.sas_lines.proofs.Splitting.{lines-append, lines-one, unfinished-text}
@@ -32,7 +32,8 @@ pub use Rattle.sas_answers.specs.declared.ending.ToolFault.TheVariants.{Memory, 
 pub use Rattle.sas_requests.proofs.Headlines.{ReportsValid, headline_of, reports_valid}
 pub use Rattle.sas_requests.proofs.Outputs.{same_output}
 pub use Rattle.sas_requests.proofs.PlanOutputs.{Refuses, plain_refuses}
-pub use Rattle.sas_requests.specs.Headline.{Headline, Invariants}
+pub use Rattle.sas_requests.specs.Headline.{Headline}
+pub use Rattle.sas_requests.specs.Invariants.{Invariants}
 pub use Rattle.sas_requests.specs.Output.{CheckOut, FileOut, TaskOut, UnlayeredAnswer, PlanOut, PlanOutBy, VerdictOut, plain_refusal}
 pub use Rattle.sas_requests.specs.declared.Request.{Request}
 pub use Rattle.sas_requests.specs.declared.Request.TheVariants.{Plan, Mutex}

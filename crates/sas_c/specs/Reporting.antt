@@ -6,7 +6,8 @@ use Rattle.sas_answers.specs.declared.ending.Status.TheVariants.{Yes, No}
 use Rattle.sas_answers.specs.declared.ending.ToolFault.{ToolFault}
 use Rattle.sas_answers.specs.declared.ending.ToolFault.TheVariants.{TooLong}
 use Rattle.sas_answers.specs.Ending.{Output}
-use Rattle.sas_requests.specs.Headline.{Headline, Invariants}
+use Rattle.sas_requests.specs.Headline.{Headline}
+use Rattle.sas_requests.specs.Invariants.{Invariants}
 
 -- the number of an answer that is written
 abbrev pub number_of_status : Status → ℕ

@@ -16,7 +16,7 @@ pub use Rattle.sas_core.specs.Names.{IsName}
 pub use Rattle.sas_core.specs.Numbers.{IsPlanCost}
 pub use Rattle.sas_core.specs.Plain.{IsPlain}
 pub use Rattle.sas_core.specs.PlanParts.{PlanParts}
-pub use Rattle.sas_core.specs.Plans.{WellNamed}
+pub use Rattle.sas_core.specs.WellNamed.{WellNamed}
 pub use Rattle.sas_core.specs.declared.plan.CostKind.{CostKind}
 pub use Rattle.sas_lines.proofs.Splitting.{lines-one, unfinished-one, return_length}
 pub use Rattle.sas_lines.proofs.Words.{NoSpace, NoSpace-decimal}

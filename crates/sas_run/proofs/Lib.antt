@@ -7,6 +7,7 @@ mod ChainsFrom
 mod FoundSteps
 mod LikelyOperators
 pub mod Determined
+mod OtherSenses
 pub mod Choosing
 pub mod NextStates
 pub mod PlanVerdicts

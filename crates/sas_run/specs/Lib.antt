@@ -1,5 +1,6 @@
 -- The modules that public contracts cite.
 pub mod Named
+pub mod Nameless
 pub mod Names
 pub mod Likely
 pub mod NameDigest
@@ -10,6 +11,8 @@ pub mod Chains
 pub mod Plans
 pub mod Verdicts
 pub mod Laws
+pub mod OtherSenses
+pub mod OtherSensesLaws
 pub mod Runs
 pub mod Running
 pub mod Given

@@ -2,7 +2,7 @@
 ghost use Rattle.std.specs.Prelude.{◌≡◌, ◌+◌, ◌<◌, ◌≤◌, [], length, IfOk, IfErr, slice_index, vec_capacity};
 ghost use Rattle.sas_core.specs.Grounded.{operator_at};
 ghost use Rattle.sas_core.specs.Variables.{IsState};
-ghost use Rattle.sas_meaning.specs.Reachable.{IsInitial};
+ghost use Rattle.sas_meaning.specs.InitialStates.{IsInitial};
 ghost use Rattle.sas_run.specs.Chains.{IsChain, AreStepOperators};
 ghost use Rattle.sas_run.specs.Names.{IsFirst};
 ghost use Rattle.sas_run.specs.Running.{IsSolution, IsFaultOrMemory, MakesStep, StepFails};

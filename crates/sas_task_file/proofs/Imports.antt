@@ -34,7 +34,7 @@ pub use Rattle.sas_lines.proofs.Words.{NoSpace, same_words, NoSpace-number, NoSp
 pub use Rattle.sas_lines.specs.FirstLines.{LinesStandFirst}
 unfoldable pub use Rattle.sas_lines.specs.Lines.{lines, unfinished}
 pub use Rattle.sas_lines.specs.Lines.{text}
-unfoldable pub use Rattle.sas_lines.specs.Parts.{parts}
+unfoldable pub use Rattle.sas_lines.specs.Segments.{segments}
 pub use Rattle.sas_lines.specs.Spelling.{signed_decimal, joined}
 pub use Rattle.sas_reader.proofs.About.{about_laws_of}
 pub use Rattle.sas_reader.proofs.Every.{laws_of}
