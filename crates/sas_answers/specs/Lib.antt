@@ -12,3 +12,4 @@ pub mod LayerWords
 pub mod PlanWords
 pub mod GroupWords
 pub mod Answers
+pub mod NumberedPlans

@@ -8,10 +8,13 @@ pub mod Shapes
 pub mod StepNames
 pub mod Chains
 pub mod Plans
+pub mod ByNumbers
 pub mod Verdicts
 pub mod Laws
 pub mod Runs
 pub mod Running
+pub mod Choosers
+pub mod NumberFaults
 pub mod Given
 pub mod PlainSteps
 pub mod Stepping
