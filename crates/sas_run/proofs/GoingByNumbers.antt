@@ -22,6 +22,17 @@ module _ (p : Parts) where
   pub goes_none : (s : List ℕ) → IsInitial p s → GoesThrough p [] s
   goes_none s starts = record { initial = s; starts = starts; goes = refl }
 
+  -- the first of some operators lead to a state
+  go_front : (s operators last : List ℕ) (k : ℕ) → GoThrough p s operators last → (there : List ℕ) × GoThrough p s (take k operators) there
+  go_front s operators last zero goes = (s, refl)
+  go_front s [] last (suc k) goes = (s, refl)
+  go_front s (o ∷ os) last (suc k) (there, its, by, rest) = let w = go_front there os last k rest in (w.0, (there, its, by, w.1))
+
+  pub goes_front : (operators last : List ℕ) (k : ℕ) → GoesThrough p operators last → (there : List ℕ) × GoesThrough p (take k operators) there
+  goes_front operators last k through =
+      let w = go_front through.initial operators last k through.goes in
+      (w.0, record { initial = through.initial; starts = through.starts; goes = w.1 })
+
   -- operators that names mean are those of the named steps
   led : (s : List ℕ) (names : List (List ℕ)) (operators last : List ℕ) → length operators ≡ length names
       → ((k : ℕ) (there : List ℕ) → k < length operators → GoThrough p s (take k operators) there → IsChosen p there (get_or names k []) (get_or operators k 0))
@@ -97,7 +108,7 @@ module _ (p : Parts) where
     go_on : (s operators last : List ℕ) (k : ℕ) (there : List ℕ) → GoThrough p s operators last → k < length operators → GoThrough p s (take k operators) there
         → (get_or operators k 0 < length p.operators) × ((next : List ℕ) × Step p there (operator_at p (get_or operators k 0)) next)
     go_on s [] last k there g lt h = absurd (omega arith)
-    go_on s (o ∷ os) last zero there g lt h = (g.1, g.0, subst (λ z. Step p z (operator_at p o) g.0) (sym h) g.2)
+    go_on s (o ∷ os) last zero there g lt h = (g.1, (g.0, subst (λ z. Step p z (operator_at p o) g.0) (sym h) g.2))
     go_on s (o ∷ os) last (suc k) there g lt h =
         go_on g.0 os last k there g.3 (omega arith) (subst (λ z. GoThrough p z (take k os) there) (step_is_one p s (operator_at p o) h.0 g.0 layered h.2 g.2) h.3)
 
@@ -122,7 +133,7 @@ module _ (p : Parts) where
         | inr other ↦
             let within : k < length operators = (let long = length-append operators (operator ∷ []) in omega arith) in
             let front : take k more ≡ take k operators = take-append-le k operators (operator ∷ []) (omega arith) in
-            let its : get_or more k 0 ≡ get_or operators k 0 = get_or_append_left operators (operator ∷ []) k 0 within in
+            let its : get_or more k 0 ≡ get_or operators k 0 = get_or_append_left operators (operator ∷ []) 0 k within in
             subst (λ o. Means k before (Found o)) (sym its) (makes.each k before within (subst (λ os. GoesThrough p os before) front goes))
       ]
 

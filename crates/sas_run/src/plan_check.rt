@@ -1,5 +1,5 @@
 // Checks whether a plan is valid.
-ghost use Rattle.std.specs.Prelude.{◌≡◌, ◌+◌, ◌<◌, ◌≤◌, [], length, IfOk, IfErr, IsErr, OnOk, vec_capacity};
+ghost use Rattle.std.specs.Prelude.{◌≡◌, ◌+◌, ◌^◌, ◌<◌, ◌≤◌, [], length, IfOk, IfErr, IsErr, OnOk, vec_capacity};
 ghost use Rattle.sas_core.specs.Grounded.{operator_at};
 ghost use Rattle.sas_core.specs.Variables.{IsState};
 ghost use Rattle.sas_meaning.specs.Reachable.{IsInitial};
@@ -235,6 +235,8 @@ fn make_steps<E: Settle<T> + Drop, T: Grounded, C: Chooser<T>>(
     ensures state { IsState layered.now.variables progress.new.state }
     ensures room { vec_capacity progress.old.operators ≤ vec_capacity progress.new.operators }
 {
+    // By its contract the task is well ranged and layered.
+    let _ = layered.task();
     for step in 0..chooser.steps() {
         match make_plan_step(layered, stepper, chooser, step, &mut progress.state) {
             Ok(operator) => progress.operators.push(operator).unwrap(),
@@ -259,6 +261,7 @@ fn make_plan_step<E: Settle<T> + Drop, T: Grounded, C: Chooser<T>>(
     requires follows { Follows E.follows layered.now stepper.old state.old }
     requires ready { C.ready chooser.now layered.now }
     requires exists { before < C.count chooser.now }
+    requires few { C.count chooser.now < 2 ^ 64 }
     requires state { IsState layered.now.variables state.old }
     ensures prepared { IsPrepared E.ready layered.now stepper.new }
     ensures noted { stepper.new.deleted.noted ≡ stepper.old.deleted.noted }
