@@ -89,7 +89,7 @@ def differs(got, expected):
 
 def with_own_names(task):
     """Returns the task with a name for each operator that no other has, and how many there are."""
-    parts = re.split(rb"(?<=\n)begin_operator\n.*\n", task)
+    parts = re.split(rb"(?<=\n)begin_operator\r?\n.*\n", task)
     front = (b"begin_operator\n%d\n" % place for place in range(len(parts) - 1))
     return parts[0] + b"".join(its + part for its, part in zip(front, parts[1:])), len(parts) - 1
 
@@ -147,7 +147,7 @@ TWO_MOVES, DISAGREEING, MINIMAL = "two_moves", "disagreeing", "minimal"
 LINES = (
     (TWO_MOVES, "the second operator of a name", [1], 1, YES, "plan valid: 1 steps, cost 1"),
     (TWO_MOVES, "the first operator of a name", [0], 1, NO, "plan invalid: goal fact 0 not reached"),
-    (TWO_MOVES, "both", [0, 1], 2, YES, "plan valid: 2 steps, cost 2"),
+    (TWO_MOVES, "the second behind the first", [0, 1], 2, NO, "plan invalid: step 2: not applicable"),
     (TWO_MOVES, "a number behind the last", [1, 2], 2, NO, "plan invalid: step 2: no operator of that number"),
     (TWO_MOVES, "the largest number", [LARGEST, 1], 2, NO, "plan invalid: step 1: no operator of that number"),
     (TWO_MOVES, "another cost", [1], 2, NO, "plan invalid: cost is 1, not 2"),
