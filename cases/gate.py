@@ -32,7 +32,12 @@ CASES = [
         ["cases/run.py", "sas"],
         ["cases/streams.py", "sas"],
     ],
-    [["cases/library.py", "sas", "library/out"], ["cases/packages.py"], ["cases/release.py", "sas"]],
+    [
+        ["cases/library.py", "sas", "library/out"],
+        ["cases/operators.py", "library/out"],
+        ["cases/packages.py"],
+        ["cases/release.py", "sas"],
+    ],
     [
         ["cases/reading.py"],
         ["cases/promises.py"],

@@ -587,7 +587,7 @@ def failed(*command, **more):
 
 
 KINDS = {"Global": None, "&[u8]": "const uint8_t *, size_t", "&mut [u8]": "uint8_t *, size_t", "&mut usize": "size_t *"}
-KINDS["&mut SasTask"] = "sas_task *"
+KINDS |= {"&mut SasTask": "sas_task *", "&[u32]": "const uint32_t *, size_t", "u64": "uint64_t"}
 
 
 def exports():
@@ -699,7 +699,7 @@ def driver_tests(_, library, folder):
         ran = ended(driver, "refused", *files)
         lines = dict(line.split(": ") for line in ran.stdout.decode().splitlines())
         wrong = [f"status {ran.returncode}"] * (ran.returncode != 0)
-        for name in (*REQUESTS, "task_read", *OVER_HELD):
+        for name in (*REQUESTS, "task_read", *OVER_HELD, "task_plan_operators"):
             well = re.fullmatch(r"[1-9]\d* refused, 0 wrong", lines.get(f"sas_{name}", ""))
             yield f"sas_{name}, memory refused, {os.path.basename(files[1])}", wrong if well else [*wrong, f"{lines}"]
     for files, count in ((examples[0], MANY), ((task, plans[0]), MANY // 100)):
