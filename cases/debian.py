@@ -37,15 +37,8 @@ Version: {}
 Description: stands for the C library of this machine
 
 """
-# why lintian's warnings and errors of these kinds stay: there is one package, also of what Debian has three for; its users report bugs to
-# nobody at Debian; and there is no licence yet
-KEPT = {
-    "package-name-doesnt-match-sonames",
-    "non-dev-pkg-with-shlib-symlink",
-    "lib-recommends-documentation",
-    "initial-upload-closes-no-bugs",
-    "copyright-does-not-refer-to-common-license-file",
-}
+# what lintian warns of and stays: one package has what Debian puts into three, and no licence has been chosen yet
+KEPT = {"package-name-doesnt-match-sonames", "link-to-shared-library-in-wrong-package", "copyright-without-copyright-notice"}
 
 
 def wanted():

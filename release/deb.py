@@ -7,7 +7,7 @@ and its SHA-256.
 FOLDER and PLATFORM are those of dist.py, which packs the release. The program is linked from the same object, but with the C library of
 the system, as Debian wants it. The package depends on the version of that library which the program and libsas.so ask for.
 
-`dpkg-deb` and `readelf` have to be there. The same files at the same commit, with the same compilers and the same `dpkg-deb`, give the
+`dpkg-deb`, `readelf` and `strip` have to be there. The same files at the same commit, with the same compilers and the same `dpkg-deb`, give the
 same bytes.
 """
 import gzip
@@ -26,9 +26,12 @@ from email.utils import formatdate
 import dist
 from dist import proving
 
-# what Debian calls a platform, and the folder of its libraries below /usr
-Debian = namedtuple("Debian", "architecture libraries")
-DEBIANS = {"x86_64-linux": Debian("amd64", "lib/x86_64-linux-gnu"), "aarch64-linux": Debian("arm64", "lib/aarch64-linux-gnu")}
+# what Debian calls a platform, the folder of its libraries below /usr, and the `strip` for them
+Debian = namedtuple("Debian", "architecture libraries strip")
+DEBIANS = {
+    "x86_64-linux": Debian("amd64", "lib/x86_64-linux-gnu", "strip"),
+    "aarch64-linux": Debian("arm64", "lib/aarch64-linux-gnu", "aarch64-linux-gnu-strip"),
+}
 DOCUMENTS = "usr/share/doc/sas"
 CONTROL = """\
 Package: sas
@@ -88,9 +91,9 @@ def install(platform, root, place):
     return dist.version_of()
 
 
-def fit(root, about, moment):
-    """Makes what is below a folder fit for Debian: what dpkg notes itself is left out, the page is compressed, and there are the licence
-    and the changes."""
+def fit(root, about, moment, strip):
+    """Makes what is below a folder fit for Debian: what dpkg notes itself is left out, the page is compressed, the library has no names
+    for debuggers, and there are the licence and the changes."""
     os.remove(f"{root}/{DOCUMENTS}/INSTALLED")
     page = f"{root}/usr/share/man/man1/sas.1"
     changes = CHANGES.format(date=formatdate(moment), **about).encode()
@@ -98,10 +101,10 @@ def fit(root, about, moment):
     os.remove(page)
     write(f"{root}/{DOCUMENTS}/changelog.gz", gzip.compress(changes, mtime=0))
     write(f"{root}/{DOCUMENTS}/copyright", COPYRIGHT)
-    for path in files_below(root):
-        if ".so." in path:
-            # a library is loaded, and not run
-            os.chmod(path, 0o644)
+    library, = (it for it in files_below(root) if ".so." in it)
+    dist.run(strip, "--strip-unneeded", "--remove-section=.comment", library)
+    # it is loaded, and not run
+    os.chmod(library, 0o644)
 
 
 def c_library(root):
@@ -147,7 +150,7 @@ def main(to=dist.TOP, platform=proving.NATIVE):
         os.mkdir(root, 0o755)
         about = {"version": install(platform, root, place), "architecture": debian.architecture, "maintainer": maintainer}
         about["c_library"] = c_library(root)
-        fit(root, about, moment)
+        fit(root, about, moment, debian.strip)
         control(root, about)
         path = os.path.join(to, f"sas_{about['version']}_{debian.architecture}.deb")
         packed(root, moment, path)

@@ -125,7 +125,8 @@ linker     {compiler}
 
 The toolchain builds the program and the library only where each function of theirs is proved to meet its contract. At this commit the
 contracts, definitions and proofs stand in the folder crates of the repository. Its document PROMISES has each promise, and READING says
-what must be believed. The program sas is linked statically; libsas.a and libsas.so require the C library of the machine.
+what must be believed. The program of a release is linked statically, that of a package of Debian isn't. libsas.a and libsas.so require the
+C library of the machine.
 """
 
 
