@@ -5,7 +5,8 @@
 kept. Then docs/READING.md is held against the definitions, docs/PROMISES.md against contracts and edits, pages and completions against the
 program, the commands that documents show are run, those for clusters with GNU parallel and Slurm too, each allocation is refused in turn,
 the calls of the crates are made, the program is run, with closed streams too, the library is built, called, and used by way of CMake,
-pkg-config, cargo and pip, and a release is packed and tried. The last line is 'N passed, M failed' of all together, and the exit status
+pkg-config, cargo and pip, a release and a package of Debian are packed and tried, and all is built and run for 64-bit ARM, for which two
+crates are proved once more. The last line is 'N passed, M failed' of all together, and the exit status
 is 0 exactly if M is 0. A command that doesn't end as its own last line says counts as one failure. gate.log keeps the last line for
 releases, with the commit and the toolchain.
 """
@@ -37,6 +38,7 @@ CASES = [
         ["cases/operators.py", "library/out"],
         ["cases/packages.py"],
         ["cases/release.py", "sas"],
+        ["cases/debian.py", "sas"],
     ],
     [
         ["cases/reading.py"],
@@ -45,6 +47,7 @@ CASES = [
         ["cases/shown.py", "sas"],
         ["cases/cluster.py", "sas"],
         ["cases/patterns.py"],
+        ["cases/arm.py", "sas"],
     ],
 ]
 RECORD = "gate.log"
@@ -95,7 +98,8 @@ def main():
         os.remove(RECORD)
     began_at = commit()
     # what an earlier run left of the library has a link, and `rt ci` takes none
-    shutil.rmtree("library/out", ignore_errors=True)
+    for folder in glob.glob("library/out*"):
+        shutil.rmtree(folder)
     parts = [counts(["rt", "ci"])]
     if os.path.isfile("crates/sas/out/sas"):
         shutil.copy("crates/sas/out/sas", "sas")

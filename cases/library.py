@@ -654,15 +654,20 @@ def symbol_tests(_, library, __):
     of, a name that is another's in a program that links the library, and a library that is loaded where its instructions aren't known."""
     if not compilers("nm"):
         return
-    found = symbols(os.path.join(library.folder, "libsas.a"))
-    undefined = {name for name, kind in found if kind in "Uvw"} - {name for name, kind in found if kind not in "Uvw"}
-    yield "what libsas.a wants", [] if undefined == UNDEFINED else [f"{sorted(undefined ^ UNDEFINED)} more or less"]
-    shown = {name for name, _ in symbols(os.path.join(library.folder, "libsas.so"), "-D", "--defined-only")}
-    names = declared(os.path.join(library.folder, "sas.h"))
-    yield "what libsas.so shows", [] if shown == names else [f"{sorted(shown ^ names)} more or less"]
+    yield from linked_tests(library.folder)
     if compilers("readelf"):
         said = ended("readelf", "-n", "-d", os.path.join(library.folder, "libsas.so")).stdout.decode()
         yield "what the loader reads", [it for it in ("x86 ISA needed: x86-64-v2", "soname: [libsas.so.1]") if it not in said]
+
+
+def linked_tests(folder):
+    """Yields which functions of others the library in a folder wants, and which of its own it shows."""
+    found = symbols(os.path.join(folder, "libsas.a"))
+    undefined = {name for name, kind in found if kind in "Uvw"} - {name for name, kind in found if kind not in "Uvw"}
+    yield "what libsas.a wants", [] if undefined == UNDEFINED else [f"{sorted(undefined ^ UNDEFINED)} more or less"]
+    shown = {name for name, _ in symbols(os.path.join(folder, "libsas.so"), "-D", "--defined-only")}
+    names = declared(os.path.join(folder, "sas.h"))
+    yield "what libsas.so shows", [] if shown == names else [f"{sorted(shown ^ names)} more or less"]
 
 
 def built_driver(library, folder):
@@ -960,17 +965,22 @@ def builder_tests(_, __, ___):
 
 
 def processor_tests(_, __, folder):
-    """Yields what `make lib` hands on to build.py. It could show a number of processors that is lost."""
-    for name in ("Makefile", "library/build.py"):
+    """Yields what `make lib` hands on to build.py. It could show a number of processors that is lost, or a platform."""
+    for name in ("Makefile", "library/build.py", "crates.txt"):
         os.makedirs(os.path.dirname(os.path.join(folder, name)), exist_ok=True)
         shutil.copy(os.path.join(TOP, name), os.path.join(folder, name))
+    # what library/build.py imports is the file of the repository, and what it runs says its arguments
+    shutil.copy(os.path.join(TOP, "build.py"), os.path.join(folder, "whole.py"))
     with open(os.path.join(folder, "build.py"), "w", encoding="utf-8") as file:
-        file.write("import sys\nif __name__ == '__main__':\n    sys.exit(' '.join(sys.argv[1:]))\n")
-    env = {name: value for name, value in os.environ.items() if name not in ("MAKEFLAGS", "MFLAGS", "MAKELEVEL", "JOBS")}
-    for words, processors in ((["JOBS=1"], 1), (["JOBS=3"], 3), ([], int(ended("nproc").stdout))):
+        file.write("import sys\nfrom whole import *\nif __name__ == '__main__':\n    sys.exit(' '.join(sys.argv[1:]))\n")
+    env = {name: value for name, value in os.environ.items() if name not in ("MAKEFLAGS", "MFLAGS", "MAKELEVEL", "JOBS", "CC", "AR")}
+    calls = [(["JOBS=1"], "1 x86_64-linux"), (["JOBS=3"], "3 x86_64-linux"), ([], f"{int(ended('nproc').stdout)} x86_64-linux")]
+    if compilers("aarch64-linux-gnu-gcc"):
+        calls.append((["JOBS=2", "PLATFORM=aarch64-linux"], "2 aarch64-linux"))
+    for words, handed in calls:
         ran = ended("make", "-s", "lib", *words, cwd=folder, env=env)
         said = ran.stderr.decode().partition("\n")[0]
-        yield f"make lib {words}", [] if said == f"sas_c {processors}" else [f"{ran}"]
+        yield f"make lib {words}", [] if said == f"sas_c {handed}" else [f"{ran}"]
 
 
 # the page of the library, and its sections about languages: how their programs are marked, the end of their files' names, and what
