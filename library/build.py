@@ -1,6 +1,6 @@
 #!/usr/bin/env python3
 """Builds the library, into library/out/: libsas.a and libsas.so, and beside them what a program includes, imports or looks for, sas.h,
-sas.hpp, sas.py, sas.pc and the package files of CMake.
+sas.hpp, the package of Python, sas.pc and the package files of CMake.
 
     python3 library/build.py [PROCESSORS]
     python3 library/build.py --over-gate
@@ -32,7 +32,7 @@ HEART = f"{CRATE}/out/lib{NAME}.a"
 SHARED = "libsas.so.1"
 # what is added to the heart
 ADDED = ("sas_memory", "sas_version")
-BESIDE = ("sas.h", "sas.hpp", "python/sas.py", "sas.pc", "sasConfig.cmake", "sasConfigVersion.cmake")
+BESIDE = ("sas.h", "sas.hpp", "sas.pc", "sasConfig.cmake", "sasConfigVersion.cmake")
 
 
 def run(*command):
@@ -105,6 +105,7 @@ def main():
     link()
     for name in BESIDE:
         shutil.copy(f"{HERE}/{name}", NEW)
+    shutil.copytree(f"{HERE}/python/sas", f"{NEW}/sas", ignore=shutil.ignore_patterns("__pycache__"))
     shutil.rmtree(OUT, ignore_errors=True)
     os.rename(NEW, OUT)
     print("built library/out/libsas.a and library/out/libsas.so")

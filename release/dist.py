@@ -45,11 +45,13 @@ PACKED = (
     "examples/*",
     "library/examples/*",
     "library/python/*.*",
+    "library/python/sas/*",
     "library/rust/*.toml",
     "library/rust/build.rs",
     "library/rust/src/*",
     "library/rust/tests/*",
     "library/out/*",
+    "library/out/sas/*",
 )
 BUILT = "library/out/"
 PROGRAMS = ("sas", "install.sh", "library/out/libsas.so.1")
