@@ -562,8 +562,7 @@ def help_tests(_, sas, __):
         members = vars(it).items() if isinstance(it, type) else ()
         bare = [its for its, value in members if not its.startswith("_") and not getattr(value, "__doc__", None)]
         yield f"help, what {name} has", [its for its in bare if not isinstance(getattr(it, its), it)]
-    wide = [line for line in text.splitlines() if len(line) > 160]
-    yield "help, wide lines", wide
+    yield "help, types", re.findall("ForwardRef.*", text)
 
 
 def version_tests(program, sas, folder):

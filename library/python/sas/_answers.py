@@ -1,6 +1,4 @@
 """Answers, and the exceptions of calls."""
-from __future__ import annotations
-
 import enum
 import re
 from typing import Iterator, List, NamedTuple, Optional, Pattern

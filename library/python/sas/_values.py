@@ -1,6 +1,4 @@
 """What the texts of answers say, as values: facts, the steps of a trace, and the reasons why a plan isn't valid."""
-from __future__ import annotations
-
 import re
 from typing import Iterator, List, NamedTuple, Optional, Tuple
 
