@@ -99,6 +99,7 @@ def run(request: str, words: Sequence[str]) -> int:
     why = False
     try:
         files, why = _files_of(request, words)
+        _replace_closed()
         answer = _plans(*files) if request == "plans" else _answer(request, files, why)
         write_out(answer.text)
         return YES if answer else NO
@@ -108,6 +109,14 @@ def run(request: str, words: Sequence[str]) -> int:
     except MemoryError:
         write_error("sas: out of memory")
         return FAULT
+
+
+def _replace_closed() -> None:
+    """Opens /dev/null for each standard stream that was closed at the start. A file would take its place, and be read or written as it."""
+    file = 0
+    while file <= 2:
+        file = os.open(os.devnull, os.O_RDWR)
+    os.close(file)
 
 
 def _files_of(request: str, words: Sequence[str]) -> Tuple[List[str], bool]:
