@@ -1,6 +1,7 @@
 #!/usr/bin/env python3
 """Builds the library, into library/out/: libsas.a and libsas.so, and beside them what a program includes, imports or looks for, sas.h,
-sas.hpp, sas.py, sas.pc and the package files of CMake. For another PLATFORM, such as aarch64-linux, the folder is library/out-PLATFORM/.
+sas.hpp, the package of Python, sas.pc and the package files of CMake. For another PLATFORM, such as aarch64-linux, the folder is
+library/out-PLATFORM/.
 
     python3 library/build.py [PROCESSORS [PLATFORM]]
     python3 library/build.py --over-gate [PLATFORM]
@@ -28,7 +29,7 @@ NAME = "sas_c"
 SHARED = "libsas.so.1"
 # what is added to the heart
 ADDED = ("sas_memory", "sas_version")
-BESIDE = ("sas.h", "sas.hpp", "python/sas.py", "sas.pc", "sasConfig.cmake", "sasConfigVersion.cmake")
+BESIDE = ("sas.h", "sas.hpp", "sas.pc", "sasConfig.cmake", "sasConfigVersion.cmake")
 
 
 def run(*command):
@@ -95,6 +96,7 @@ def main(processors=str(os.cpu_count()), platform=proving.NATIVE):
     link(compiler, platform, new)
     for name in BESIDE:
         shutil.copy(f"{HERE}/{name}", new)
+    shutil.copytree(f"{HERE}/python/sas", f"{new}/sas", ignore=shutil.ignore_patterns("__pycache__"))
     shutil.rmtree(out, ignore_errors=True)
     os.rename(new, out)
     shown = os.path.relpath(out, TOP)

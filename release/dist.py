@@ -48,6 +48,7 @@ PACKED = (
     "examples/*",
     "library/examples/*",
     "library/python/*.*",
+    "library/python/sas/*",
     "library/rust/*.toml",
     "library/rust/build.rs",
     "library/rust/src/*",
@@ -137,7 +138,8 @@ def names(platform):
     found = [it for it in found if it not in [f"docs/{name}.md" for name in OF_SOURCE]]
     found = {it: f"{TOP}/{it}" for it in found if known is None or it in known.split("\0")}
     library = TOP + ("/library/out" if platform == proving.NATIVE else f"/library/out-{platform}")
-    return found | {f"{BUILT}{it}": f"{library}/{it}" for it in os.listdir(library)}
+    built = [it for it in glob.glob("**", root_dir=library, recursive=True) if os.path.isfile(f"{library}/{it}")]
+    return found | {f"{BUILT}{it}": f"{library}/{it}" for it in built}
 
 
 def released(name, path):
