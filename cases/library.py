@@ -820,11 +820,13 @@ def lines_of_wrappers(sas, task, plan):
     said += answer_lines("empty", sas.plan(b"", b""))
     came, refused = sas.check(task), sas.check(plan)
     held = sas.plan(task, plan) if came else None
+    by_numbers = sas.Task(task).plan_operators([0], 1) if came else None
 
     def each(name, is_held):
         """Returns the answers about a plan of a task, in the order of the calls."""
         names = (name, "held plan_why", "held trace")
-        return [(word, answer_of(sas, it, task, plan) if is_held else None) for word, it in zip(names, OVER_BOTH)]
+        answers = [(word, answer_of(sas, it, task, plan) if is_held else None) for word, it in zip(names, OVER_BOTH)]
+        return [*answers, ("held operators", by_numbers if is_held else None)]
 
     moved = [("moved from", None), ("moved to", held)]
     first = [*each("none", False), ("read", came), *each("held" if came else "not held", bool(came))]
@@ -911,12 +913,23 @@ def number_tests(_, library, folder):
         yield f"Python, number {number}", [] if set(came) == {exception} else [f"{came}"]
 
 
+# calls with operators of several types and with none, none of which is made
+OPERATORS = "auto judge = [](auto &it, auto &other, int made) { sas::Task task; return made && task.plan_operators(it, 1)"
+OPERATORS += " && task.plan_operators(other, 1) && task.plan_operators({0, 1}, 2) && task.plan_operators({}, 0); };"
 # code in C++ and how it is compiled, each with a part of the compiler's message if it is refused
 DIALECTS = (
     ("bytes", "-std=c++17", "std::vector<std::byte> it; std::vector<unsigned char> other; return sas::plan(it, other) ? 1 : 0;", None),
     ("a pointer", "-std=c++17", "sas::Task task; return task.read({nullptr, 0}) ? 1 : 0;", None),
     ("spans", "-std=c++20", "std::span<const std::byte> it; std::span<char> other; return sas::plan(it, other) ? 1 : 0;", None),
     ("numbers", "-std=c++17", "std::vector<int> it; return sas::check(it) ? 1 : 0;", "could not convert"),
+    ("operators", "-std=c++17", f"{OPERATORS} std::vector<std::uint32_t> it; std::uint32_t other[] = {{1}}; return judge(it, other, 0);", None),
+    ("spans of operators", "-std=c++20",
+     f"{OPERATORS} std::span<const std::uint32_t> it; std::array<std::uint32_t, 2> other{{}}; return judge(it, other, 0);", None),
+    ("operators that are signed", "-std=c++17", "sas::Task task; std::vector<int> it; return task.plan_operators(it, 0) ? 1 : 0;", "sas::Operators"),
+    ("the reason of a temporary", "-std=c++17", 'const auto it = sas::plan("", "").reason(); return it == "line 1: end" ? 0 : 1;', None),
+    ("steps of a temporary", "-std=c++17", 'for (auto &it : sas::trace("", "").trace_steps()) return int(it.op); return 0;', "use of deleted function"),
+    ("reasons of a temporary", "-std=c++17", 'return sas::plan_why("", "").reasons().step ? 1 : 0;', "use of deleted function"),
+    ("steps for an algorithm", "-std=c++20", "static_assert(std::input_iterator<sas::Steps>); return 0;", None),
     ("an answer that isn't used", "-std=c++17", 'sas::check(""); return 0;', "unused-result"),
     ("an earlier standard", "-std=c++14", "return 0;", "sas.hpp requires C++17"),
 )
@@ -928,7 +941,7 @@ def dialect_tests(_, library, folder):
     path = os.path.join(folder, "dialect.cpp")
     for name, standard, code, refusal in DIALECTS if compilers("g++") else ():
         with open(path, "w", encoding="utf-8") as file:
-            file.write("#include <sas.hpp>\n#include <vector>\n" + "#include <span>\n" * (standard == "-std=c++20"))
+            file.write("#include <sas.hpp>\n#include <array>\n#include <vector>\n" + "#include <span>\n" * (standard == "-std=c++20"))
             file.write(f"int main() {{ {code} }}\n")
         words = [standard, *C_WARNINGS, "-I", library.folder, path, os.path.join(library.folder, "libsas.a"), "-o", f"{path}.out"]
         wrong = failed("g++", *words)
@@ -943,7 +956,8 @@ NO_EXCEPTIONS = """
 #include <cstdio>
 int main() {
     sas::Task task("");
-    std::printf("%d %d %d\\n", int(sas::check("").status), int(task.plan("").status), task.is_held());
+    const sas::Answer answer = sas::check(""), other = task.plan_operators({1}, 1);
+    std::printf("%d %d %d %d\\n", int(answer.status), int(answer.verdict()), int(other.status), task.is_held());
 }
 """
 
@@ -957,9 +971,10 @@ def no_exception_tests(_, library, folder):
     for compiler in compilers("g++", "clang++"):
         words = ["-std=c++17", "-fno-exceptions", *C_WARNINGS, "-I", library.folder, path, f"{stub}/libsas.a", "-o", f"{path}.out"]
         yield f"C++ without exceptions, by {compiler}", failed(compiler, *words)
-        for number, status in ((YES, 0), (NO, 1), (OUT_OF_MEMORY, 2), (INPUT_TOO_LONG, 3), (NO_TASK, 4)):
+        # without an answer the verdict is none, the last one
+        for number, status, verdict in ((YES, 0, 3), (NO, 1, 4), (OUT_OF_MEMORY, 2, 5), (INPUT_TOO_LONG, 3, 5), (NO_TASK, 4, 5)):
             said = ended(f"{path}.out", env={**os.environ, "STUB": str(number)}).stdout.decode()
-            yield f"C++ without exceptions, number {number}", [] if said == f"{status} {status} 0\n" else [said]
+            yield f"C++ without exceptions, number {number}", [] if said == f"{status} {verdict} {status} 0\n" else [said]
 
 
 def refused_code_tests(_, library, folder):

@@ -1,6 +1,6 @@
 #!/usr/bin/env python3
 """Builds the library, into library/out/: libsas.a and libsas.so, and beside them what a program includes, imports or looks for, sas.h,
-sas.hpp, the package of Python, sas.pc and the package files of CMake. For another PLATFORM, such as aarch64-linux, the folder is
+sas.hpp and what it includes, the package of Python, sas.pc and the package files of CMake. For another PLATFORM, such as aarch64-linux, the folder is
 library/out-PLATFORM/.
 
     python3 library/build.py [PROCESSORS [PLATFORM]]
@@ -29,7 +29,7 @@ NAME = "sas_c"
 SHARED = "libsas.so.1"
 # what is added to the heart
 ADDED = ("sas_memory", "sas_version")
-BESIDE = ("sas.h", "sas.hpp", "sas.pc", "sasConfig.cmake", "sasConfigVersion.cmake")
+BESIDE = ("sas.h", "sas.hpp", "sas_answers.hpp", "sas.pc", "sasConfig.cmake", "sasConfigVersion.cmake")
 
 
 def run(*command):
