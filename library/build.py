@@ -1,7 +1,7 @@
 #!/usr/bin/env python3
 """Builds the library, into library/out/: libsas.a and libsas.so, and beside them what a program includes, imports or looks for, sas.h,
-sas.hpp and what it includes, the package of Python, sas.pc and the package files of CMake. For another PLATFORM, such as aarch64-linux, the folder is
-library/out-PLATFORM/.
+sas.hpp and what it includes, the package of Python, sas.pc and the package files of CMake. For another PLATFORM, such as aarch64-linux,
+the folder is library/out-PLATFORM/.
 
     python3 library/build.py [PROCESSORS [PLATFORM]]
     python3 library/build.py --over-gate [PLATFORM]
