@@ -23,7 +23,7 @@ class Program:
 
     def __init__(self, path, folder, task):
         self.path, self.task, self.plan = path, os.path.join(folder, "task"), os.path.join(folder, "plan")
-        self.version = text(self.printed("--version", statuses=(0, 2)).strip())
+        self.version = text(self.printed("--version", statuses=(0, 2)).strip())  # on standard error, as status 2 says
         self.write(self.task, task)
 
     def write(self, path, data):
@@ -37,7 +37,7 @@ class Program:
             raise NoAnswer("%s can't be run: %s" % (self.path, fault.strerror)) from fault
         if ran.returncode not in statuses:
             raise NoAnswer("%s: %s" % (self.path, text(ran.stderr.strip(), 1000) or "it ended with status %d" % ran.returncode))
-        return ran.stdout
+        return ran.stdout or ran.stderr
 
     def answers(self, plan):
         """Returns the reasons and the trace of a plan."""

@@ -32,6 +32,11 @@ class Plan:
         self.rest = names[len(self.steps):]
 
 
+def differences(rows):
+    """Returns the rows with the difference to the row before in the first place, which takes less room."""
+    return [[row[0] - before[0], *row[1:]] for before, row in zip([[0]] + rows, rows)]
+
+
 def task_data(task, moves, plans):
     """Returns what the page needs of a task: of variables the values that occur, the operators, and the moves of all plans."""
     facts = [fact for conditions in task.conditions.values() for fact in conditions] + task.goal
@@ -42,12 +47,12 @@ def task_data(task, moves, plans):
     for var, value in facts:
         used[var].add(value)
     places = {number: place for place, number in enumerate(moves.operators)}
+    operators = [[number, cost, text(name), task.requires[number]] for number, (cost, name) in moves.operators.items()]
     return {
         "counts": task.counts, "goal": task.goal, "rules": task.conditions, "initial": moves.initial,
         "variables": [[text(name), layer, {value: text(names[value]) for value in sorted(values)}]
                       for (name, layer, names), values in zip(task.variables, used)],
-        "operators": [[number, cost, text(name), task.requires[number]] for number, (cost, name) in moves.operators.items()],
-        "moves": [[places[operator], *changes] for operator, *changes in moves.found],
+        "operators": differences(operators), "moves": differences([[places[operator], *changes] for operator, *changes in moves.found]),
     }
 
 

@@ -59,10 +59,11 @@ class Picture {
 
   // Returns the context of a canvas of this size, empty.
   sheet(canvas, w, h) {
-    const ratio = devicePixelRatio || 1, g = canvas.getContext("2d");
-    Object.assign(canvas, { width: Math.round(w * ratio), height: Math.round(h * ratio) });
+    const ratio = devicePixelRatio || 1, g = canvas.getContext("2d"), [width, height] = [Math.round(w * ratio), Math.round(h * ratio)];
+    if (canvas.width !== width || canvas.height !== height) Object.assign(canvas, { width, height });
     Object.assign(canvas.style, { width: w + "px", height: h + "px" });
     g.setTransform(ratio, 0, 0, ratio, 0, 0);
+    g.clearRect(0, 0, w, h);
     g.textBaseline = "middle";
     return g;
   }

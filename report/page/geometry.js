@@ -62,11 +62,11 @@ class Grid {
   get right() { return this.labels + this.across.room; }
 
   layout(columns, tail) {
-    const { across, down } = this;
+    const { across, down } = this, isWhole = across.size <= across.least;
     Object.assign(this, { labels: clamp(this.box.clientWidth * .22, 110, 250), tail });
     across.measure(this.labels + tail, columns);
     down.measure(HEAD + 2, this.rows.length);
-    across.size = clamp(across.size, across.least, Math.max(WIDEST, across.least));
+    across.size = clamp(isWhole ? 0 : across.size, across.least, Math.max(WIDEST, across.least));
     down.size = clamp(down.size, Math.min(USUAL, down.least), USUAL);
     across.layout();
     down.layout();

@@ -48,7 +48,7 @@ class Page {
     style.height = high + "px";
     style.height = clamp(high - (document.documentElement.scrollHeight - innerHeight), Math.min(high, 230), high) + "px";
     this.layout();
-    if (run.failing && this.picture.grid.wide < 12) this.zoom(90);
+    if (run.failing && this.picture.grid.wide < 12) this.zoom(WIDEST);
   }
 
   layout() {

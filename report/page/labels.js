@@ -41,23 +41,26 @@ class Variable {
 // Gives each key a colour, the same in all rows. The most common keys have their own, and keys that follow each other differ while that
 // can be. Returns a name of each key with its colour.
 function colour(variables, runs) {
-  const values = variables.flatMap(it => Object.values(it.values)), beside = new Map(), found = new Map(Object.entries(QUIET)), uses = Array(COLOURS + 1).fill(0);
+  const values = variables.flatMap(it => Object.values(it.values)), found = new Map(Object.entries(QUIET)), uses = Array(COLOURS + 1).fill(0);
   const keys = new Map();
-  for (const { key, short } of values) if (!(key in QUIET)) keys.set(key, [...(keys.get(key) || []), short]);
-  for (const key of keys.keys()) beside.set(key, new Set());
+  for (const { key, short } of values) {
+    if (!keys.has(key) && !found.has(key)) keys.set(key, { key, shorts: new Set(), count: 0, beside: new Set() });
+    if (!found.has(key)) keys.get(key).shorts.add(short);
+    if (!found.has(key)) keys.get(key).count++;
+  }
   for (const run of runs) {
     run.variable.forEach((v, k) => {
-      const [one, other] = [run.old[k], run.fresh[k]].map(it => variables[v].values[it].key);
-      if (beside.has(one) && beside.has(other)) { beside.get(one).add(other); beside.get(other).add(one); }
+      const them = variables[v].values, one = keys.get(them[run.old[k]].key), other = keys.get(them[run.fresh[k]].key);
+      if (one && other) { one.beside.add(other.key); other.beside.add(one.key); }
     });
   }
-  const sorted = [...keys].sort(([, a], [, b]) => b.length - a.length);
-  for (const [key] of sorted) {
+  const sorted = [...keys.values()].sort((a, b) => b.count - a.count);
+  for (const { key, beside } of sorted) {
     const near = Array(COLOURS + 1).fill(0), least = (a, b) => near[a] - near[b] || uses[a] - uses[b] || a - b;
-    for (const other of beside.get(key)) near[found.get(other) || 0]++;
+    for (const other of beside) near[found.get(other) || 0]++;
     found.set(key, uses.map((_, c) => c).slice(1).sort(least)[0]);
     uses[found.get(key)]++;
   }
   for (const value of values) value.colour = found.get(value.key);
-  return sorted.map(([key, shorts]) => [new Set(shorts).size === 1 ? shorts[0] : key, found.get(key)]);
+  return sorted.map(({ key, shorts }) => [shorts.size === 1 ? [...shorts][0] : key, found.get(key)]);
 }

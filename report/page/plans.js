@@ -26,8 +26,8 @@ class Overview {
     while (front < least && same(front + 1, front + 1)) front++;
     while (back < least - front && same(a.total - back, b.total - back)) back++;
     Object.assign(this, { front, end: Math.max(a.total, b.total) - back });
-    const isSame = front === a.total && front === b.total, last = back ? `, and so are the last ${group(back)}` : "";
-    get("parts").textContent = isSame ? "They have the same steps." : `The first ${group(front)} steps are the same${last}.`;
+    const isSame = front === a.total && front === b.total, last = back ? ` Steps at the end that are the same: ${group(back)}.` : "";
+    get("parts").textContent = isSame ? "They have the same steps." : `They part at step ${group(front + 1)}.${last}`;
     this.list.count = this.end + back;
     this.list.reveal(Math.min(front + 4, this.list.count - 1));
   }

@@ -39,7 +39,7 @@ class Reasons {
   }
 
   since(step, name) {
-    this.rows.lastChild.append(step ? make("td", "", this.link(step), " ", make("bdi", "name", name)) : make("td", "", "the initial state"));
+    this.rows.lastChild.append(make("td", "since", ...(step ? [this.link(step), " ", make("bdi", "name", name)] : ["the initial state"])));
     if (this.rules.has(this.actual)) this.derive();
   }
 
