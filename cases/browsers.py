@@ -94,7 +94,7 @@ class Chromium(Browser):
         features = [{"name": "prefers-color-scheme", "value": "dark" if is_dark else "light"}]
         self.request("POST", "/goog/cdp/execute", {"cmd": "Emulation.setEmulatedMedia", "params": {"features": features}})
 
-    def end(self):
+    def close(self):
         with contextlib.suppress(OSError, RuntimeError):
             self.request("DELETE", "", None)
         self.driver.terminate()
@@ -152,7 +152,7 @@ class Firefox(Browser):
         self.run(script)
         self.send("Marionette:SetContext", {"value": "content"})
 
-    def end(self):
+    def close(self):
         with contextlib.suppress(OSError, RuntimeError, ValueError):
             self.send("Marionette:Quit", {"flags": ["eForceQuit"]})
         self.socket.close()

@@ -28,6 +28,7 @@ class Page {
 
   // Shows the plan and the step of the address.
   follow() {
+    clearTimeout(this.noting);
     const [, plan, step] = /^#(?:plan-(\d+)-?)?(?:step-(\d+))?$/.exec(location.hash) || [], i = plan ? plan - 1 : this.overview ? -1 : 0, run = this.runs[i];
     get("plans").hidden = i in this.runs;
     get("back").hidden = !this.overview || !(i in this.runs);
@@ -63,7 +64,8 @@ class Page {
 
   select(t) {
     const { run, picture } = this, selected = picture.selected = clamp(t, 0, run.total), text = group(run.cost[Math.min(selected, run.judged)]);
-    history.replaceState(null, "", `#${this.prefix}step-${selected}`);
+    clearTimeout(this.noting);  // browsers allow some 200 addresses in ten seconds
+    this.noting = setTimeout(() => history.replaceState(null, "", `#${this.prefix}step-${selected}`), 300);
     get("spent").replaceChildren(make("b", "", text), " of " + group(run.cost[run.judged]));
     picture.grid.across.reveal(selected);
     this.panels.choose(selected);

@@ -34,7 +34,7 @@ class List {
   }
 
   reveal(k) {
-    this.draw();
+    this.side.measure(0, this.count);
     this.side.reveal(k);
     this.draw();
   }
