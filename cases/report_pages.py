@@ -47,7 +47,7 @@ from sas_text import plan_pieces, task_pieces
 
 SEED = 72
 # random tasks with axioms whose plans have at least so many steps, and the most variables that the page shows at once
-TASKS, STEPS, VARIABLES = 12, 3, 12
+TASKS, STEPS, VARIABLES = 8, 3, 12
 # bounds for 100,000 steps over 5,000 variables, and what was measured on four processors: 2.3 s, 92 MB, 720 kB, 1 s and 0.06 s
 LARGE = {"seconds": 25, "megabytes": 200, "bytes": 1000000, "picture": 15, "key": 1}
 # plans of examples, by short names
@@ -513,7 +513,7 @@ def several(browser, reports):
     """Several plans are listed, and two of them are compared."""
     task, plan = example("valid")
     short, late = example("short")[1], plan.replace(b"(put f2 feed)", b"(put f2 link)")
-    page, status = reports.page(task, ("a.plan", plan), ("b.plan", short), ("c.plan", late), ("d.plan", b"x"))
+    page, status = reports.page(task, ("a.plan", plan), ("b.plan", short), ("c.plan", late), ("d.plan", b"x\n"))
     shown_in(browser, page)
     wrong = differs("status", status, 1)
     rows = browser.run("return [...document.querySelectorAll('#listed tr')].map(row => [...row.cells].map(cell => cell.textContent))")
@@ -603,7 +603,7 @@ def large_page(browser, reports):
     first = shown_in(browser, reports.large)
     timed = f"""{PRESS} {FRAMES} return (async () => {{
         const took = [];
-        for (const key of ["ArrowRight", "End", "ArrowLeft", "PageUp", "f", "ArrowRight", "f", ..."++++++++++++++++", "Home", "End"]) {{
+        for (const key of ["ArrowRight", "End", "ArrowLeft", "PageUp", "f", "ArrowRight", "f", ..."+".repeat(32), "Home", "End"]) {{
           await frame();
           const began = performance.now();
           press(key);

@@ -22,15 +22,16 @@ class Program:
     """`sas`, run over copies of the files, so that all its answers are of the same bytes."""
 
     def __init__(self, path, folder, task):
-        self.path, self.task, self.plan = path, os.path.join(folder, "task"), os.path.join(folder, "plan")
-        self.version = text(self.printed("--version", statuses=(0, 2)).strip())  # on standard error, as status 2 says
-        self.write(self.task, task)
+        self.path, self.folder = path, folder
+        self.task = self.copy("task", task)
+        self.version = text(self.printed([0, 2], "--version").strip())
 
-    def write(self, path, data):
-        with open(path, "wb") as file:
+    def copy(self, name, data):
+        with open(os.path.join(self.folder, name), "wb") as file:
             file.write(data)
+        return file.name
 
-    def printed(self, *words, statuses=(0, 1)):
+    def printed(self, statuses, *words):
         try:
             ran = subprocess.run([self.path, *words], stdin=subprocess.DEVNULL, stdout=subprocess.PIPE, stderr=subprocess.PIPE, check=False)
         except OSError as fault:
@@ -41,8 +42,8 @@ class Program:
 
     def answers(self, plan):
         """Returns the reasons and the trace of a plan."""
-        self.write(self.plan, plan)
-        return self.printed("plan", "--why", self.task, self.plan), self.printed("trace", self.task, self.plan)
+        files = self.task, self.copy("plan", plan)
+        return self.printed([0, 1], "plan", "--why", *files), self.printed([0, 1], "trace", *files)
 
 
 class Library:
@@ -64,14 +65,14 @@ def read(name):
 
 
 def options(words):
-    found = argparse.ArgumentParser(prog="sas-report", description=ABOUT, epilog=STATUSES)
-    found.add_argument("task", metavar="TASK", help="the task, output.sas; - is standard input")
-    found.add_argument("plans", metavar="PLAN", nargs="+", help="a plan, sas_plan; several are listed and compared")
-    found.add_argument("-o", metavar="FILE", default="report.html", help="the report (report.html); - is standard output")
-    found.add_argument("--sas", metavar="PROGRAM", help="the program sas (beside sas-report, or on the PATH)")
-    given = found.parse_args(words)
+    parser = argparse.ArgumentParser(prog="sas-report", description=ABOUT, epilog=STATUSES)
+    parser.add_argument("task", metavar="TASK", help="the task, output.sas; - is standard input")
+    parser.add_argument("plans", metavar="PLAN", nargs="+", help="a plan, sas_plan; several are listed and compared")
+    parser.add_argument("-o", metavar="FILE", default="report.html", help="the report (report.html); - is standard output")
+    parser.add_argument("--sas", metavar="PROGRAM", help="the program sas (beside sas-report, or on the PATH)")
+    given = parser.parse_args(words)
     if [given.task, *given.plans].count("-") > 1:
-        found.error("standard input used twice")
+        parser.error("standard input used twice")
     return given
 
 
@@ -84,18 +85,13 @@ def program(given):
 
 def report(given, module):
     """Writes the report, and returns whether every plan is valid."""
-    task = read(given.task)
-    plans = [(os.path.basename(name), read(name)) for name in given.plans]
+    task, plans = read(given.task), [(text(os.fsencode(os.path.basename(name))), read(name)) for name in given.plans]
     with tempfile.TemporaryDirectory(prefix="sas-report") as folder:
         sas = Library(module, task) if module and not given.sas else Program(program(given.sas), folder, task)
-        answers = [(text(os.fsencode(label)), plan, *sas.answers(plan)) for label, plan in plans]
+        answers = [(label, plan, *sas.answers(plan)) for label, plan in plans]
     written = page(sas.version, text(os.fsencode(os.path.basename(given.task))), task, answers).encode()
-    if given.o == "-":
-        sys.stdout.buffer.write(written)
-        sys.stdout.flush()
-    else:
-        with open(given.o, "wb") as file:
-            file.write(written)
+    with open(sys.stdout.fileno() if given.o == "-" else given.o, "wb", closefd=given.o != "-") as file:
+        file.write(written)
     return all(why.startswith(b"plan valid: ") for _, _, why, _ in answers)
 
 
@@ -105,7 +101,7 @@ def main(words=None, module=None):
     try:
         return 0 if report(given, module) else 1
     except OSError as fault:
-        message = "%s%s" % (fault.strerror or fault, ": %s" % text(os.fsencode(fault.filename)) if fault.filename else "")
+        message = str(fault.strerror) + (": " + text(os.fsencode(fault.filename)) if fault.filename else "")
     except (NoAnswer, MemoryError, ValueError) as fault:
         message = str(fault) or "out of memory"
     print("sas-report: " + message, file=sys.stderr)

@@ -1,4 +1,4 @@
-"""What a page needs of the files and of what `sas` prints: names as text, a task, the moves of a plan."""
+"""What a page needs of the files and of a trace: names as text, a task, and what the steps of plans do."""
 import io
 
 SHOWN = 256  # bytes of a name, as in the reasons of `sas`
@@ -19,19 +19,15 @@ def lines(data):
     return (line[:-2] if line.endswith(b"\r\n") else line.rstrip(b"\n") for line in io.BytesIO(data))
 
 
-def numbers(line):
-    return [int(word) for word in line.split()]
-
-
 class Task:
-    """A task that `sas` has accepted as well formed.
+    """A task that `sas` has accepted as well formed. A fact is a variable and its value.
 
     Attributes:
         variables: Of each its name, its axiom layer, and the names of its values, in bytes.
-        goal: Its facts. A fact is a pair of numbers, a variable and its value.
-        requires: Of each operator that is wanted the facts that it requires: prevail conditions and old values.
+        goal: Its facts.
+        requires: Of each operator that is wanted what it requires: prevail conditions and old values.
         conditions: Of each axiom rule that is wanted its conditions.
-        counts: What the page says about its size.
+        counts: The numbers that the page has of it.
     """
 
     def __init__(self, data, operators, rules):
@@ -43,9 +39,10 @@ class Task:
         groups = self.number()
         for _ in range(groups):
             self.skip(1)
-            self.skip(self.number() + 1)
+            self.listed()
+            self.skip(1)
         self.skip(len(self.variables) + 3)
-        self.goal = self.facts()
+        self.goal = [numbers(line) for line in self.listed()]
         self.skip(1)
         every, self.requires = self.number(), {}
         for number in range(every):
@@ -53,9 +50,8 @@ class Task:
         count, self.conditions = self.number(), {}
         for number in range(count):
             self.rule(number, rules)
-        derived = sum(layer >= 0 for _, layer, _ in self.variables)
-        self.counts = {"variables": len(self.variables), "derived": derived, "operators": every, "axiom rules": count,
-                       "mutex groups": groups, "metric": metric}
+        self.counts = {"variables": len(self.variables), "derived": sum(layer >= 0 for _, layer, _ in self.variables),
+                       "operators": every, "axiom rules": count, "mutex groups": groups, "metric": metric}
 
     def skip(self, count):
         for _ in range(count):
@@ -66,9 +62,6 @@ class Task:
 
     def listed(self):
         return [next(self.rows) for _ in range(self.number())]
-
-    def facts(self):
-        return [tuple(numbers(line)) for line in self.listed()]
 
     def variable(self):
         self.skip(1)
@@ -81,26 +74,27 @@ class Task:
         prevail, effects = self.listed(), self.listed()
         self.skip(2)
         if number in wanted:
-            olds = [(var, old) for var, old, _ in (numbers(line)[-3:] for line in effects) if old >= 0]
-            self.requires[number] = list(dict.fromkeys([tuple(numbers(line)) for line in prevail] + olds))
+            facts = [numbers(line) for line in prevail] + [fact for fact in (numbers(line)[-3:-1] for line in effects) if fact[1] >= 0]
+            self.requires[number] = list(dict.fromkeys(facts))
 
     def rule(self, number, wanted):
         self.skip(1)
         conditions = self.listed()
         self.skip(2)
         if number in wanted:
-            self.conditions[number] = [tuple(numbers(line)) for line in conditions]
+            self.conditions[number] = [numbers(line) for line in conditions]
 
-    def value(self, var, value):
-        return text(self.variables[var][2][value])
+
+def numbers(line):
+    return tuple(map(int, line.split()))
 
 
 class Moves:
-    """What the steps of plans do, each thing once: an operator, and the variables that it changed, each with its new value.
+    """What the steps of plans do, each thing once: an operator, and each variable that changes with its new value.
 
     Attributes:
         initial: The value of each variable in the initial state.
-        found: The number of each move, by its operator, variables and new values.
+        found: The number of each move.
         operators: The cost and the name of each operator that occurs.
     """
 
@@ -108,21 +102,20 @@ class Moves:
         self.initial, self.found, self.operators = [], {}, {}
 
     def steps(self, trace):
-        """Returns the moves of a trace, a number for each step."""
+        """Returns the move of each step of a trace."""
         steps, initial, move = [], [], []
-        for line in lines(trace):
+        for line in trace.splitlines():
             if line.startswith(b"change "):
                 _, var, _, value, _ = line.split(b" ", 4)
                 move += int(var), int(value)
-                continue
-            if move:
-                steps.append(self.found.setdefault(tuple(move), len(self.found)))
-            move = []
-            if line.startswith(b"step "):
-                _, _, operator, cost, name = line.split(b" ", 4)
-                move.append(int(operator))
-                self.operators[move[0]] = int(cost), name
             elif line.startswith(b"initial "):
                 initial.append(int(line.split(b" ", 3)[2]))
+            else:  # a step, or the verdict
+                if move:
+                    steps.append(self.found.setdefault(tuple(move), len(self.found)))
+                word, _, operator, cost, name = (line + b"    ").split(b" ", 4)
+                move = [int(operator)] if word == b"step" else []
+                if move:
+                    self.operators[move[0]] = int(cost), name[:-4]
         self.initial = initial or self.initial
         return steps

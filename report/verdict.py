@@ -17,22 +17,17 @@ SENTENCES = (
 )
 SIGNS = {"valid": "✓", "invalid": "✕", "refused": "!"}
 PLACE = re.compile(r"(?:(?:plan|task) refused: | +operator \d+ | +rule \d+ | +)line (\d+)(?: counts|:| )")
-LONGEST = 400  # lines of reasons that stand in the page as text; the script shows all
+LONGEST = 400  # lines of reasons that are in the page as text; the script shows all
 
 
 def kind(verdict):
-    """Returns whether a plan is valid, invalid, or refused, as its task may be."""
+    """Returns whether a plan is valid, invalid or refused."""
     return verdict.split(" ")[1].rstrip(":")
 
 
 def sentence(verdict):
     matches = ((re.fullmatch(pattern, verdict), words) for pattern, words in SENTENCES)
     return next((words.format(*found.groups()) for found, words in matches if found), "")
-
-
-def bdi(words):
-    """Returns a name as HTML. Its direction of writing doesn't reach what stands beside it."""
-    return "<bdi>%s</bdi>" % html.escape(words)
 
 
 def excerpt(data, answer):
@@ -50,13 +45,19 @@ def excerpt(data, answer):
     return '<div class="excerpt" aria-label="The file">%s</div>' % "".join(rows) if rows else ""
 
 
-def article(number, plan, task_name, refused):
+def bdi(words):
+    """Returns a name as HTML. Its direction of writing doesn't reach what is beside it."""
+    return "<bdi>%s</bdi>" % html.escape(words)
+
+
+def article(number, label, task_name, answer, refused):
     """Returns the HTML of a plan, a part of the page. `refused` has the bytes of the file that is refused, or None."""
-    lead, *reasons = plan.answer
-    shown = reasons[:LONGEST] + ["  .."] * (len(reasons) > LONGEST)
-    why = '<pre class="printed">%s</pre>' % html.escape("\n".join(shown)) if reasons else ""
+    verdict, *reasons = answer
+    printed = reasons[:LONGEST] + ["  .."] * (len(reasons) > LONGEST)
+    why = '<pre class="printed">%s</pre>' % html.escape("\n".join(printed)) if reasons else ""
     return """<article id="plan-%d" class="%s">
 <header><div class="sign" aria-hidden="true">%s</div><div class="lead"><p class="files">%s for %s</p><h1>%s</h1><p>%s</p></div></header>
 <section class="why" aria-label="Why">%s%s</section>
-</article>""" % (number, kind(lead), SIGNS[kind(lead)], bdi(plan.label), bdi(task_name), html.escape(lead), html.escape(sentence(lead)),
-                why, excerpt(refused, plan.answer) if refused is not None else "")
+</article>
+""" % (number, kind(verdict), SIGNS[kind(verdict)], bdi(label), bdi(task_name), html.escape(verdict), html.escape(sentence(verdict)), why,
+       "" if refused is None else excerpt(refused, answer))
