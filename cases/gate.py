@@ -36,6 +36,7 @@ CASES = [
     [
         ["cases/library.py", "sas", "library/out"],
         ["cases/operators.py", "library/out"],
+        ["cases/values.py"],
         ["cases/python.py", "sas", "library/out"],
         ["cases/packages.py"],
         ["cases/release.py", "sas"],
@@ -48,6 +49,7 @@ CASES = [
         ["cases/shown.py", "sas"],
         ["cases/cluster.py", "sas"],
         ["cases/patterns.py"],
+        ["cases/report_pages.py", "sas"],
         ["cases/arm.py", "sas"],
     ],
 ]

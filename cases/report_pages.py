@@ -45,7 +45,7 @@ sys.path.insert(0, os.path.join(TOP, "bench"))
 from gripper import Gripper
 from sas_text import plan_pieces, task_pieces
 
-SEED = 72
+SEED = 7
 # random tasks with axioms whose plans have at least so many steps, and the most variables that the page shows at once
 TASKS, STEPS, VARIABLES = 8, 3, 12
 # bounds for 100,000 steps over 5,000 variables, and what was measured on four processors: 2.3 s, 92 MB, 720 kB, 1 s and 0.06 s

@@ -49,13 +49,15 @@ PACKED = (
     "library/examples/*",
     "library/python/*.*",
     "library/python/sas/*",
+    "report/*",
+    "report/page/*",
     "library/rust/*.toml",
     "library/rust/build.rs",
     "library/rust/src/*",
     "library/rust/tests/*",
 )
 BUILT = "library/out/"
-PROGRAMS = ("sas", "install.sh", "library/out/libsas.so.1")
+PROGRAMS = ("sas", "install.sh", "report/sas-report", "library/out/libsas.so.1")
 
 
 def printed(*command, cwd=TOP):
@@ -134,7 +136,8 @@ C library of the machine.
 def names(platform):
     """Returns the names of what is packed, each with its path: no file that the repository doesn't know, but for what was built."""
     known = printed("git", "ls-files", "-z")
-    found = [it for pattern in PACKED for it in glob.glob(pattern, root_dir=TOP) if os.path.isfile(f"{TOP}/{it}")]
+    found = [it for pattern in PACKED for it in glob.glob(pattern, root_dir=TOP)]
+    found = [it for it in found if os.path.isfile(f"{TOP}/{it}") or os.path.islink(f"{TOP}/{it}")]
     found = [it for it in found if it not in [f"docs/{name}.md" for name in OF_SOURCE]]
     found = {it: f"{TOP}/{it}" for it in found if known is None or it in known.split("\0")}
     library = TOP + ("/library/out" if platform == proving.NATIVE else f"/library/out-{platform}")
@@ -144,7 +147,7 @@ def names(platform):
 
 def released(name, path):
     """Returns what a release holds of a file under a name."""
-    held = bytes_of(path)
+    held = b"" if os.path.islink(path) else bytes_of(path)
     return ONLY_SOURCE.sub(b"", held) if name.endswith(".md") else held
 
 

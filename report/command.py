@@ -77,10 +77,12 @@ def options(words):
 
 
 def program(given):
-    """Returns where `sas` is: as it was given, else beside this command or in the folder above, else on the PATH."""
-    here = os.path.dirname(os.path.realpath(sys.argv[0]))
-    places = [shutil.which(os.path.join(folder, "sas")) for folder in (here, os.path.dirname(here))]
-    return given or next(filter(None, places), "sas")
+    """Returns where `sas` is: as it was given, else beside this command or in the folder above, else on the PATH. Under another name than
+    `sas-report`, such as `NAME-report`, it looks for `NAME`."""
+    here, command = os.path.split(os.path.realpath(sys.argv[0]))
+    name = command[:-len("-report")] if command.endswith("-report") else "sas"
+    places = [shutil.which(os.path.join(folder, name)) for folder in (here, os.path.dirname(here))]
+    return given or next(filter(None, places), name)
 
 
 def report(given, module):
