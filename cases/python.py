@@ -38,6 +38,7 @@ from texts import TOP, as_bytes, table
 SECONDS = 60
 # cases that limit the program itself, or end before their input does; a call of the library gets its input as a whole
 OF_PROGRAM = ("memory", "stack", "file", "open", "input_ends", "streamed", "front", "pipes")
+OF_STREAMS = ("closed", "output_to")
 # of the cases that are made at random, the part that is given to a command: one in so many
 EVERY = 25
 VERSIONS = [f"python3.{number}" for number in range(8, 16)]
@@ -310,9 +311,16 @@ def command_tests(_, sas, folder):
     whole = [*run.whole_cases(), *run.plan_cases(folder), *run.group_cases(), *table_cases(run.verdict_cases(), "verdicts.json")]
     made = [*run.line_cases(), *run.verdict_cases(), *run.why_cases(), *run.trace_cases(), *run.plans_cases()]
     made += [*run.refusal_cases(), *run.layer_cases(), *run.reason_cases()]
-    for case in (*whole, *made[::EVERY]):
-        if case["words"] and not any(word in case for word in OF_PROGRAM):
+    for case in (*whole, *made[::EVERY], *with_folder(table("program.json"), tempfile.mkdtemp(dir=folder))):
+        if case["words"] and not any(word in case for word in (*OF_PROGRAM, *OF_STREAMS)):
             yield f"python -m sas, {case['name']}", wrong_command(main, case, place)
+
+
+def with_folder(cases, empty):
+    """Yields the cases with the name of an empty folder."""
+    for case in cases:
+        error = {"error": case["error"].replace("FOLDER", empty)} if case.get("error") else {}
+        yield {**case, **error, "words": [word.replace("FOLDER", empty) for word in case["words"]]}
 
 
 def table_cases(cases, name):
@@ -321,16 +329,16 @@ def table_cases(cases, name):
     return [case for case in cases if case["name"].rpartition(", plan ")[0] in names]
 
 
-def process_tests(_, sas, folder):
-    """Yields the cases of program.json by `python -m sas`, each in a new process with its streams. They could show an error that has
-    another line, and a stream that is closed or full and isn't noticed."""
+def stream_tests(_, sas, folder):
+    """Yields the cases of program.json about streams by `python -m sas`, each in a process that begins with these. They could show one that
+    is closed or full and isn't noticed, and a file that takes its place."""
     program = os.path.join(folder, "module")
     path = os.path.dirname(os.path.dirname(sas.__file__))
     write(program, f"#!/bin/sh\nPYTHONPATH='{path}' exec '{sys.executable}' -B -I -c '{BY_PATH}' '{path}' \"$@\"\n".encode())
     os.chmod(program, 0o755)
     empty = tempfile.mkdtemp(dir=folder)
     for case in table("program.json"):
-        if case["words"] and not any(word in case for word in OF_PROGRAM):
+        if case["words"] and any(word in case for word in OF_STREAMS) and not any(word in case for word in OF_PROGRAM):
             yield f"python -m sas, {case['name']}", run.faults(program, case, empty)
 
 
@@ -586,7 +594,7 @@ TESTS = (
     none_tests,
     number_tests,
     file_tests,
-    process_tests,
+    stream_tests,
     command_tests,
     table_tests,
     interrupt_tests,
