@@ -33,6 +33,7 @@ import time
 import report
 import run
 from library import FUSES, LAMPS, differs, ended, is_there, package_in, read
+from shown import shown
 from texts import TOP, as_bytes, table
 
 SECONDS = 60
@@ -589,6 +590,25 @@ def version_tests(program, sas, folder):
         yield f"{python}, values", [] if ran.returncode == 0 else [f"{ran}"]
 
 
+# the page with a section about tables, and the commands of the sections before that make its folders
+GUIDE, SECTION, MAKING = "docs/GUIDE.md", "## Make a table of many plans", ("cp examples/fuses.plan", "mkdir -p runs", "for r in a/fuses")
+
+
+def guide_tests(program, sas, folder):
+    """Yields the commands that the guide shows of tables. They could show a page that is wrong."""
+    section = read(GUIDE).decode().partition(f"\n{SECTION}\n")[2].partition("\n## ")[0]
+    commands = "".join(re.findall("```console\n(.*?)```", section, re.DOTALL)).split("$ ")[1:]
+    shutil.copytree(os.path.join(TOP, "examples"), os.path.join(folder, "examples"))
+    shutil.copy(program, os.path.join(folder, "sas"))
+    for case in shown(GUIDE):
+        if case["command"].startswith(MAKING):
+            ended("bash", "-c", case["command"], cwd=folder)
+    for command, _, output in (it.partition("\n") for it in commands):
+        ran = ended("bash", "-c", command, cwd=folder, env=environment(sas))
+        yield f"{GUIDE}: {command}", differs((True, ran.stdout + ran.stderr), (True, output.encode()))
+    yield f"{GUIDE}, {SECTION}", [] if len(commands) == 2 else [f"{commands}"]
+
+
 TESTS = (
     value_tests,
     none_tests,
@@ -601,6 +621,7 @@ TESTS = (
     type_tests,
     help_tests,
     version_tests,
+    guide_tests,
 )
 
 
