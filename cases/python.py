@@ -192,6 +192,10 @@ def number_tests(_, sas, __):
         own = array.array("I", numbers)
         held.plan_operators(own, 4)
         yield "numbers, an array that can grow after the call", [] if fault_of(lambda: own.append(1)) is None else ["it can't"]
+    with sas.Task(read("cases/tasks/two_moves.sas")) as held:
+        answers = [held.plan_operators([number], 1).text for number in (0, 1)] + [held.plan(b"(move)\n; cost = 1 (unit cost)\n").text]
+        lines = [b"plan invalid: goal fact 0 not reached\n", b"plan valid: 1 steps, cost 1\n", b"plan invalid: goal fact 0 not reached\n"]
+        yield "numbers, operators of one name", [] if answers == lines else [f"{answers}"]
     for path in ("examples/fuses.sas", "examples/elevator.sas", "cases/tasks/minimal.sas", "examples/blocks-4-0.sas"):
         counts = dict(re.findall(rb"^(variables|operators) (\d+)$", sas.show(read(path)).text, re.MULTILINE))
         said = f"{int(counts[b'variables'])} variables, {int(counts[b'operators'])} operators>"
