@@ -33,11 +33,13 @@ import time
 import report
 import run
 from library import FUSES, LAMPS, differs, ended, is_there, package_in, read
+from shown import shown
 from texts import TOP, as_bytes, table
 
 SECONDS = 60
 # cases that limit the program itself, or end before their input does; a call of the library gets its input as a whole
 OF_PROGRAM = ("memory", "stack", "file", "open", "input_ends", "streamed", "front", "pipes")
+OF_STREAMS = ("closed", "output_to")
 # of the cases that are made at random, the part that is given to a command: one in so many
 EVERY = 25
 VERSIONS = [f"python3.{number}" for number in range(8, 16)]
@@ -190,6 +192,10 @@ def number_tests(_, sas, __):
         own = array.array("I", numbers)
         held.plan_operators(own, 4)
         yield "numbers, an array that can grow after the call", [] if fault_of(lambda: own.append(1)) is None else ["it can't"]
+    with sas.Task(read("cases/tasks/two_moves.sas")) as held:
+        answers = [held.plan_operators([number], 1).text for number in (0, 1)] + [held.plan(b"(move)\n; cost = 1 (unit cost)\n").text]
+        lines = [b"plan invalid: goal fact 0 not reached\n", b"plan valid: 1 steps, cost 1\n", b"plan invalid: goal fact 0 not reached\n"]
+        yield "numbers, operators of one name", [] if answers == lines else [f"{answers}"]
     for path in ("examples/fuses.sas", "examples/elevator.sas", "cases/tasks/minimal.sas", "examples/blocks-4-0.sas"):
         counts = dict(re.findall(rb"^(variables|operators) (\d+)$", sas.show(read(path)).text, re.MULTILINE))
         said = f"{int(counts[b'variables'])} variables, {int(counts[b'operators'])} operators>"
@@ -310,9 +316,16 @@ def command_tests(_, sas, folder):
     whole = [*run.whole_cases(), *run.plan_cases(folder), *run.group_cases(), *table_cases(run.verdict_cases(), "verdicts.json")]
     made = [*run.line_cases(), *run.verdict_cases(), *run.why_cases(), *run.trace_cases(), *run.plans_cases()]
     made += [*run.refusal_cases(), *run.layer_cases(), *run.reason_cases()]
-    for case in (*whole, *made[::EVERY]):
-        if case["words"] and not any(word in case for word in OF_PROGRAM):
+    for case in (*whole, *made[::EVERY], *with_folder(table("program.json"), tempfile.mkdtemp(dir=folder))):
+        if case["words"] and not any(word in case for word in (*OF_PROGRAM, *OF_STREAMS)):
             yield f"python -m sas, {case['name']}", wrong_command(main, case, place)
+
+
+def with_folder(cases, empty):
+    """Yields the cases with the name of an empty folder."""
+    for case in cases:
+        error = {"error": case["error"].replace("FOLDER", empty)} if case.get("error") else {}
+        yield {**case, **error, "words": [word.replace("FOLDER", empty) for word in case["words"]]}
 
 
 def table_cases(cases, name):
@@ -321,16 +334,16 @@ def table_cases(cases, name):
     return [case for case in cases if case["name"].rpartition(", plan ")[0] in names]
 
 
-def process_tests(_, sas, folder):
-    """Yields the cases of program.json by `python -m sas`, each in a new process with its streams. They could show an error that has
-    another line, and a stream that is closed or full and isn't noticed."""
+def stream_tests(_, sas, folder):
+    """Yields the cases of program.json about streams by `python -m sas`, each in a process that begins with these. They could show one that
+    is closed or full and isn't noticed, and a file that takes its place."""
     program = os.path.join(folder, "module")
     path = os.path.dirname(os.path.dirname(sas.__file__))
     write(program, f"#!/bin/sh\nPYTHONPATH='{path}' exec '{sys.executable}' -B -I -c '{BY_PATH}' '{path}' \"$@\"\n".encode())
     os.chmod(program, 0o755)
     empty = tempfile.mkdtemp(dir=folder)
     for case in table("program.json"):
-        if case["words"] and not any(word in case for word in OF_PROGRAM):
+        if case["words"] and any(word in case for word in OF_STREAMS) and not any(word in case for word in OF_PROGRAM):
             yield f"python -m sas, {case['name']}", run.faults(program, case, empty)
 
 
@@ -582,18 +595,38 @@ def version_tests(program, sas, folder):
         yield f"{python}, values", [] if ran.returncode == 0 else [f"{ran}"]
 
 
+# the page with a section about tables, and the commands of the sections before that make its folders
+GUIDE, SECTION, MAKING = "docs/GUIDE.md", "## Make a table of many plans", ("cp examples/fuses.plan", "mkdir -p runs", "for r in a/fuses")
+
+
+def guide_tests(program, sas, folder):
+    """Yields the commands that the guide shows of tables. They could show a page that is wrong."""
+    section = read(GUIDE).decode().partition(f"\n{SECTION}\n")[2].partition("\n## ")[0]
+    commands = "".join(re.findall("```console\n(.*?)```", section, re.DOTALL)).split("$ ")[1:]
+    shutil.copytree(os.path.join(TOP, "examples"), os.path.join(folder, "examples"))
+    shutil.copy(program, os.path.join(folder, "sas"))
+    for case in shown(GUIDE):
+        if case["command"].startswith(MAKING):
+            ended("bash", "-c", case["command"], cwd=folder)
+    for command, _, output in (it.partition("\n") for it in commands):
+        ran = ended("bash", "-c", command, cwd=folder, env=environment(sas))
+        yield f"{GUIDE}: {command}", differs((True, ran.stdout + ran.stderr), (True, output.encode()))
+    yield f"{GUIDE}, {SECTION}", [] if len(commands) == 2 else [f"{commands}"]
+
+
 TESTS = (
     value_tests,
     none_tests,
     number_tests,
     file_tests,
-    process_tests,
+    stream_tests,
     command_tests,
     table_tests,
     interrupt_tests,
     type_tests,
     help_tests,
     version_tests,
+    guide_tests,
 )
 
 

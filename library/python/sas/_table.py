@@ -19,7 +19,7 @@ from typing import Any, Dict, Iterable, Iterator, List, NamedTuple, Optional, Se
 from . import Answer, InputTooLong, Refused, Task, check_why
 from ._files import read
 from ._program import FAULT, INVALID_ARGUMENTS, NO, YES, Stopped, write_error, write_out
-from ._workers import Team
+from ._workers import Team, uninterrupted
 
 ABOUT = """\
 Judges many plans, and prints a row for each: as CSV, or as JSON lines. A file that can't be read has a row, too.
@@ -90,8 +90,9 @@ def _print(works: Sequence[Work], arguments: argparse.Namespace, counts: Dict[st
         with closing(results):
             for rows in results:
                 progress.clear()
-                write_out(written(rows))
-                counts.update(collections.Counter(row["verdict"] for row in rows))
+                with uninterrupted():
+                    write_out(written(rows))
+                    counts.update(collections.Counter(row["verdict"] for row in rows))
                 progress.show(sum(counts.values()))
     finally:
         progress.clear()

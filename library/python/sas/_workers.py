@@ -1,10 +1,11 @@
 """Work that several processes share."""
 from __future__ import annotations
 
+import contextlib
 import multiprocessing
 import multiprocessing.connection
 import signal
-from typing import Any, Callable, Dict, Generator, Generic, Sequence, TypeVar
+from typing import Any, Callable, Dict, Generator, Generic, Iterator, Sequence, TypeVar
 
 W = TypeVar("W")
 R = TypeVar("R")
@@ -13,16 +14,25 @@ R = TypeVar("R")
 _FORK = multiprocessing.get_context("fork")
 
 
+@contextlib.contextmanager
+def uninterrupted() -> Iterator[None]:
+    """Lets an interrupt wait until the end of the block."""
+    before = signal.pthread_sigmask(signal.SIG_BLOCK, {signal.SIGINT})
+    try:
+        yield
+    finally:
+        signal.pthread_sigmask(signal.SIG_SETMASK, before)
+
+
 class _Process:
     """A process that does one work after another. An interrupt doesn't reach it."""
 
     def __init__(self, do: Callable[[Any], Any]) -> None:
         self.number = -1
         self.end, other = _FORK.Pipe()
-        before = signal.pthread_sigmask(signal.SIG_BLOCK, {signal.SIGINT})
         self._process = _FORK.Process(target=_do_each, args=(do, other, self.end), daemon=True)
-        self._process.start()
-        signal.pthread_sigmask(signal.SIG_SETMASK, before)
+        with uninterrupted():
+            self._process.start()
         other.close()
 
     def stop(self) -> int:
