@@ -299,7 +299,9 @@ def shown(line):
 # In a browser. READY is true once the script has come to its end
 
 
-READY = "return document.querySelectorAll('dl.numbers').length > 0 || document.getElementById('trouble').textContent !== ''"
+READY = """const is_shown = selector => !document.querySelector(selector).hidden;
+    return !document.querySelector(".printed") && (is_shown("main") || is_shown("#plans") || document.querySelector(".refused") !== null)
+        || document.getElementById("trouble").textContent !== "";"""
 STATE = "[...document.querySelectorAll('#state .row')].map(row => row.lastChild.title)"
 PRESS = "const press = key => document.body.dispatchEvent(new KeyboardEvent('keydown', {key, bubbles: true}));"
 FRAMES = "const frame = () => new Promise(requestAnimationFrame);"
@@ -553,7 +555,7 @@ def edges(browser, reports):
         browser.press("ArrowRight", "f", "End", "f", "+", "Home")
         wrong += differs(f"{name}: after keys", heading(browser), "Initial state")
     if isinstance(browser, Chromium):  # its scripts see the classes of the page
-        sums = "return String(new Run({moves: [[0]], operators: [[0, 2147483647, '', []]], initial: [], variables: []}, {steps: Array(5e6).fill(0), rest: [], answer: []}, []).cost[5e6])"
+        sums = "return String(new Run({moves: [[0]], operators: [[0, 2147483647, '', []]], initial: [], variables: [], goal: []}, {steps: Array(5e6).fill(0), rest: [], answer: []}, []).cost[5e6])"
         wrong += differs("a sum of costs", browser.run(sums), str(5000000 * (2**31 - 1)))
     return wrong
 

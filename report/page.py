@@ -31,6 +31,12 @@ class Plan:
         names = [] if kind(self.answer[0]) == "refused" else [text(line[1:-1]) for line in lines(data) if line.startswith(b"(")]
         self.rest = names[len(self.steps):]
 
+    def numbers(self, moves):
+        costs = {number: moves.operators[move[0]][0] for move, number in moves.found.items()}
+        cost = sum(costs[step] for step in self.steps)
+        judged = {"went through": len(self.steps), "cost so far": cost} if self.rest else {"cost": cost}
+        return {} if kind(self.answer[0]) == "refused" else {"steps": len(self.steps) + len(self.rest), **judged}
+
 
 def differences(rows):
     """Returns the rows with the difference to the row before in the first place, which takes less room."""
@@ -76,7 +82,8 @@ def page(version, task_name, task_bytes, answers):
         {"label": plan.label, "answer": plan.answer, "steps": plan.steps, "rest": [names.setdefault(it, len(names)) for it in plan.rest]}
         for plan in plans], "names": list(names)}
     refused = [{"task refused": task_bytes, "plan refused": plan.data}.get(plan.answer[0][:12]) for plan in plans]
-    articles = [article(i, plan.label, task_name, plan.answer, it) for i, (plan, it) in enumerate(zip(plans, refused), 1)]
+    articles = [article(i, plan.label, task_name, plan.answer, it, [plan.numbers(moves), task.counts if task else {}])
+                for i, (plan, it) in enumerate(zip(plans, refused), 1)]
     title = "%s %s" % (SIGNS[kind(first)], plans[0].label) if len(plans) == 1 else "%d plans of %s" % (len(plans), task_name)
     parts = {"title": html.escape(title), "version": html.escape(version), "articles": "".join(articles), "style": part("style.css"),
              "script": "".join(part(name + ".js") for name in SCRIPTS),

@@ -50,14 +50,16 @@ def bdi(words):
     return "<bdi>%s</bdi>" % html.escape(words)
 
 
-def article(number, label, task_name, answer, refused):
+def article(number, label, task_name, answer, refused, numbers):
     """Returns the HTML of a plan, a part of the page. `refused` has the bytes of the file that is refused, or None."""
     verdict, *reasons = answer
     printed = reasons[:LONGEST] + ["  .."] * (len(reasons) > LONGEST)
     why = '<pre class="printed">%s</pre>' % html.escape("\n".join(printed)) if reasons else ""
+    pairs = ["".join("<div><dt>%s</dt><dd>%s</dd></div>" % (label, format(it, ",")) for label, it in group.items()) for group in numbers if group]
+    lists = "".join('<dl class="numbers">%s</dl>' % group for group in pairs)
     return """<article id="plan-%d" class="%s">
-<header><div class="sign" aria-hidden="true">%s</div><div class="lead"><p class="files">%s for %s</p><h1>%s</h1><p>%s</p></div></header>
+<header><div class="sign" aria-hidden="true">%s</div><div class="lead"><p class="files">%s for %s</p><h1>%s</h1><p>%s</p></div>%s</header>
 <section class="why" aria-label="Why">%s%s</section>
 </article>
-""" % (number, kind(verdict), SIGNS[kind(verdict)], bdi(label), bdi(task_name), html.escape(verdict), html.escape(sentence(verdict)), why,
+""" % (number, kind(verdict), SIGNS[kind(verdict)], bdi(label), bdi(task_name), html.escape(verdict), html.escape(sentence(verdict)), lists, why,
        "" if refused is None else excerpt(refused, answer))

@@ -8,7 +8,7 @@ const group = number => number.toLocaleString("en");
 class Picture {
   constructor(box, map) {
     Object.assign(this, { box, map, canvas: box.querySelector("canvas"), bars: document.createElement("canvas"), grid: new Grid(box) });
-    Object.assign(this, { selected: 0, hover: null, drawn: "", colours: {}, family: getComputedStyle(document.body).fontFamily });
+    Object.assign(this, { selected: 0, drawn: "", colours: {}, family: getComputedStyle(document.body).fontFamily });
   }
 
   // Takes the colours of the page, which may have turned dark.
@@ -19,20 +19,15 @@ class Picture {
     this.hatch = this.tile(7, 7, g => { for (let i = 0; i < 7; i++) this.fill(g, "line", i, 6 - i, 1.4, 1.4); });
   }
 
-  tile(w, h, draw) {
-    const canvas = Object.assign(document.createElement("canvas"), { width: w, height: h }), g = canvas.getContext("2d");
+  tile(width, height, draw) {
+    const canvas = Object.assign(document.createElement("canvas"), { width, height }), g = canvas.getContext("2d");
     draw(g);
     return g.createPattern(canvas, "repeat");
   }
 
-  show(run, variables) {
-    Object.assign(this, { run, variables, goal: new Map() });
-    for (const [v, k] of run.task.goal) this.goal.set(v, [...new Set(this.goal.get(v)).add(k)]);
-  }
-
   layout() {
     this.drawn = "";
-    this.grid.layout(this.run.total + 1, this.goal.size ? 132 : 12);
+    this.grid.layout(this.run.total + 1, this.run.goal.size ? 132 : 12);
   }
 
   draw() {
@@ -42,18 +37,17 @@ class Picture {
     const g = this.g = this.sheet(this.canvas, w, h), key = [w, h, grid.across.offset, grid.down.offset, devicePixelRatio].join();
     this.foot = Math.min(h, grid.y(grid.rows.length));
     this.visible = grid.visible();
-    if (key !== this.drawn) this.drawBars(w, h);  // a selection leaves the bars as they are
+    if (key !== this.drawn) {  // a selection leaves the bars as they are
+      const bars = this.sheet(this.bars, w, h);
+      this.font(bars, clamp(grid.high - 10, 11, 12));
+      for (const row of this.visible) this.drawRow(bars, grid.rows[row], grid.y(row));
+    }
     this.drawn = key;
-    g.save();
-    g.beginPath();
-    g.rect(grid.labels, 0, grid.right - grid.labels, h);
-    g.clip();
     g.drawImage(this.bars, 0, 0, w, h);
     this.drawFault();
     this.drawAxis();
     this.drawSelection();
-    g.restore();
-    this.drawLabels(w);
+    this.drawLabels(w, h);
     this.drawMap();
   }
 
@@ -81,21 +75,15 @@ class Picture {
     let shown = text, keep = Math.min(text.length, Math.floor(room / 4));
     if (text.length > keep || g.measureText(text).width > room) {
       while (keep > 1 && g.measureText(text.slice(0, keep) + "…").width > room) keep--;
-      shown = text.slice(0, keep) + "…";
+      shown = keep > 1 ? text.slice(0, keep) + "…" : "";
     }
     g.fillStyle = this.colours[colour];
-    if (shown === text || keep > 1) g.fillText(shown, x, y);
-  }
-
-  drawBars(w, h) {
-    const { grid } = this, g = this.sheet(this.bars, w, h);
-    this.font(g, clamp(grid.high - 10, 11, 12));
-    for (const row of this.visible) this.drawRow(g, grid.rows[row], grid.y(row));
+    g.fillText(shown, x, y);
   }
 
   // A bar for each value, as long as it holds. Where a pixel has several, there are fine stripes.
   drawRow(g, v, y) {
-    const { grid, run } = this, variable = this.variables[v], pad = variable.layer >= 0 ? grid.high * .15 : grid.high > 8 ? 1 : 0;
+    const { grid, run } = this, { layer, values } = this.variables[v], pad = layer >= 0 ? grid.high * .15 : grid.high > 8 ? 1 : 0;
     const top = Math.round(y + pad), tall = Math.max(1, Math.round(y + grid.high - pad) - top);
     let t = Math.max(0, grid.column(grid.labels)), k = run.after(v, t), busy = -1;
     const crowd = end => {
@@ -103,7 +91,8 @@ class Picture {
       busy = -1;
     };
     while (t <= run.judged && grid.x(t) < grid.right) {
-      const stop = k < run.from[v + 1] ? run.when[k] : run.judged + 1, left = Math.max(grid.labels, grid.x(t)), end = Math.min(grid.right, grid.x(stop));
+      const stop = k < run.from[v + 1] ? run.when[k] : run.judged + 1;
+      const left = Math.max(grid.labels, grid.x(t)), end = Math.min(grid.right, grid.x(stop));
       if (end - left < 1 && stop <= run.judged) {
         if (busy < 0) busy = Math.floor(left);
         t = Math.max(stop, grid.column(Math.floor(left) + 1) + 1);
@@ -112,38 +101,34 @@ class Picture {
       }
       crowd(left);
       const start = Math.round(left), wide = Math.round(end) - start - (grid.wide > 4 && stop <= run.judged ? 1 : 0);
-      const value = variable.values[run.before(v, k)];
-      this.fill(g, "v" + value.colour, start, top, wide, tall);
-      if (grid.high >= 13 && wide > 26) this.write(g, value.colour ? "onvalue" : "onempty", value.short, start + 5, y + grid.high / 2, wide - 8);
+      const { colour, short } = values[run.before(v, k)];
+      this.fill(g, "v" + colour, start, top, wide, tall);
+      if (grid.high >= 13 && wide > 26) this.write(g, colour ? "onvalue" : "onempty", short, start + 5, y + grid.high / 2, wide - 8);
       t = stop;
       k++;
     }
     crowd(Math.min(grid.x(t), grid.right));
   }
 
-  shorts(v, values, between) { return values.map(k => this.variables[v].values[k].short).join(between); }
-
   // What the failing step requires of a variable, or the two values that it would set.
   fault(v) {
-    const { missing, clash } = this.run;
-    return missing.has(v) ? "requires " + this.shorts(v, missing.get(v), " or ") : clash.has(v) ? "sets " + this.shorts(v, clash.get(v), " and ") : "";
+    const { missing, clash } = this.run, shorts = them => them.get(v).map(k => this.variables[v].values[k].short);
+    return missing.has(v) ? "requires " + shorts(missing).join(" or ") : clash.has(v) ? "sets " + shorts(clash).join(" and ") : "";
   }
 
   // The failing step, and the steps after it, which weren't judged. Or the goal facts that don't hold at the end.
   drawFault() {
-    const { g, grid, run } = this, tall = this.foot - HEAD, left = grid.x(run.judged + 1), next = Math.max(left + 2, grid.x(run.judged + 2));
-    const start = run.failing ? left : left - 6, wide = run.failing ? next - left - 1 : 6;
-    if (run.total > run.failing && run.failing) this.fill(g, this.hatch, next, HEAD, grid.right - next, tall);
+    const { g, grid, run } = this, end = grid.x(run.judged + 1), wide = run.failing ? Math.max(1, grid.wide - 1) : 6;
+    const left = run.failing ? end : end - wide, tall = this.foot - HEAD;
     if (run.failing) this.fill(g, "badtint", left, HEAD, wide, tall);
+    if (run.failing) this.fill(g, this.hatch, left + wide + 1, HEAD, grid.x(run.total + 1) - left - wide - 1, tall);
     this.font(g, clamp(grid.high - 10, 11, 12), 600);
     for (const row of this.visible) {
       const text = this.fault(grid.rows[row]), y = grid.y(row);
-      if (!text) continue;
-      this.fill(g, "bad", start, y + 1, wide, Math.max(1, grid.high - 2));
-      if (grid.high >= 13 && run.failing) this.write(g, "card", text, left + 6, y + grid.high / 2, wide - 9);
+      if (text) this.fill(g, "bad", left, y + 1, wide, Math.max(1, grid.high - 2));
+      if (grid.high >= 13) this.write(g, "card", text, left + 6, y + grid.high / 2, wide - 9);
     }
-    g.strokeStyle = this.colours.bad;
-    g.lineWidth = 1.5;
+    [g.strokeStyle, g.lineWidth] = [this.colours.bad, 1.5];
     if (run.failing) g.strokeRect(left + .75, HEAD, wide - 1.5, tall);
   }
 
@@ -153,8 +138,8 @@ class Picture {
     const every = EVERY.find(n => n * grid.wide >= need), first = Math.ceil(Math.max(0, grid.column(grid.labels)) / every) * every;
     this.fill(g, "card", grid.labels, 0, grid.right - grid.labels, HEAD);
     for (let t = first; t <= run.total && grid.x(t) < grid.right; t += every) {
-      const left = Math.max(grid.x(t), grid.labels), room = Math.min(grid.x(t + 1), grid.right) - left - 8, isFailing = t && t === run.failing;
-      const number = (isFailing ? "✕ " : "") + group(t), colour = isFailing ? "bad" : "quiet";
+      const left = Math.max(grid.x(t), grid.labels), room = Math.min(grid.x(t + 1), grid.right) - left - 8;
+      const [mark, colour] = t && t === run.failing ? ["✕ ", "bad"] : ["", "quiet"], number = mark + group(t);
       this.font(g, 11, 600);
       if (isNamed) {
         this.write(g, colour, number, left + 5, 13, room);
@@ -167,29 +152,27 @@ class Picture {
   }
 
   drawSelection() {
-    const { g, grid, foot } = this, left = grid.x(this.selected), wide = Math.max(2, grid.wide - (grid.wide > 4 ? 1 : 0)), text = group(this.selected);
+    const { g, grid, foot } = this, left = grid.x(this.selected), wide = Math.max(2, grid.wide - (grid.wide > 4 ? 1 : 0));
     if (left + wide <= grid.labels || left >= grid.right) return;
-    g.strokeStyle = this.colours.accent;
-    g.lineWidth = 2;
+    [g.strokeStyle, g.lineWidth] = [this.colours.accent, 2];
     if (grid.wide >= 6) g.strokeRect(left - .5, 3, wide, foot - 4); else this.fill(g, "accent", left, 30, 2, foot - 30);
     if (grid.wide >= 60) return;
     this.font(g, 11, 600);
-    const half = g.measureText(text).width / 2 + 7, middle = clamp(left + wide / 2, grid.labels + half, grid.right - half);
-    g.fillStyle = this.colours.accent;
-    g.beginPath();
-    g.roundRect(middle - half, 24, 2 * half, 18, 9);
-    g.fill();
-    this.write(g, "card", text, middle - half + 7, 33.5, 2 * half);
+    const text = group(this.selected), full = g.measureText(text).width + 14;
+    const start = clamp(left + (wide - full) / 2, grid.labels, grid.right - full);
+    this.fill(g, "accent", start, 24, full, 18);
+    this.write(g, "card", text, start + 7, 33.5, full);
   }
 
   // The labels of the rows, and what the goal requires of them.
-  drawLabels(w) {
-    const { g, grid, run } = this, thin = Math.max(1, Math.ceil(13 / grid.high)), isWide = grid.labels >= 200, room = grid.labels - (isWide ? 88 : 24);
-    for (const row of this.visible) {
-      const v = grid.rows[row], { name, label, quiet, layer } = this.variables[v], middle = grid.y(row) + Math.max(grid.high, 13) / 2;
-      if (this.hover && this.hover.row === row) this.fill(g, "soft", 0, grid.y(row), grid.labels - 4, grid.high);
+  drawLabels(w, h) {
+    const { g, grid, run } = this, thin = Math.max(1, Math.ceil(13 / grid.high)), isWide = grid.labels >= 200;
+    const room = grid.labels - (isWide ? 88 : 24), sides = [[0, grid.labels, "Step"], [grid.right, grid.tail, run.goal.size ? "Goal" : ""]];
+    for (const [x, wide] of sides) this.fill(g, "card", x, 0, wide, h);
+    for (const row of this.visible.filter(row => row % thin === 0)) {
+      const v = grid.rows[row], { name, label, quiet, layer, values } = this.variables[v];
+      const middle = grid.y(row) + Math.max(grid.high, 13) / 2;
       const fails = !run.failing && run.missing.has(v), mark = run.failing ? "" : fails ? "✕ " : "✓ ";
-      if (row % thin) continue;
       this.font(g, 11);
       if (isWide) this.write(g, "quiet", name, grid.labels - 10 - Math.min(56, g.measureText(name).width), middle, 56);
       this.font(g, clamp(grid.high - 9, 11, 13), 400, layer < 0 ? "" : "italic");
@@ -197,12 +180,12 @@ class Picture {
       const used = g.measureText(label).width + 7;
       this.write(g, "quiet", quiet, 14 + used, middle, room - used);
       this.font(g, clamp(grid.high - 10, 10, 12), fails ? 700 : 400);
-      const wanted = this.goal.has(v) ? mark + this.shorts(v, this.goal.get(v), " and ") : "";
+      const wanted = run.goal.has(v) ? mark + run.goal.get(v).map(k => values[k].short).join(" and ") : "";
       this.write(g, run.failing ? "quiet" : fails ? "bad" : "good", wanted, grid.right + 12, middle, grid.tail - 16);
     }
-    for (const [x, wide, word] of [[0, grid.labels, "Step"], [grid.right, grid.tail, this.goal.size ? "Goal" : ""]]) {
+    this.font(g, 11, 600);
+    for (const [x, wide, word] of sides) {
       this.fill(g, "card", x, 0, wide, HEAD);
-      this.font(g, 11, 600);
       this.write(g, "quiet", word, x + 13, 33, wide);
     }
     this.fill(g, "line", 0, HEAD - 1, w, 1);
@@ -226,12 +209,12 @@ class Picture {
     if (run.failing) this.fill(g, this.hatch, x(run.failing), 6, grid.right - x(run.failing), base - 6);
     if (run.failing) this.fill(g, "bad", x(run.failing), 6, 2, base - 6);
     g.strokeStyle = this.colours.quiet;
-    if (grid.across.most >= 1) g.strokeRect(x(grid.across.offset / grid.wide) + .5, 3.5, Math.max(3, span * span / grid.across.length) - 1, base - 3);
+    const start = x(grid.across.offset / grid.wide), seen = Math.max(3, span * span / grid.across.length);
+    if (grid.across.most >= 1) g.strokeRect(start + .5, 3.5, seen - 1, base - 3);
     this.fill(g, "line", grid.labels, base, span, 1);
     this.fill(g, "accent", x(this.selected + .5) - .75, 4, 1.5, base - 4);
-    const t = Math.min(this.selected, run.judged);
     g.beginPath();
-    g.arc(x(t + .5), y(t), 3.5, 0, 7);
+    g.arc(x(Math.min(this.selected, run.judged) + .5), y(Math.min(this.selected, run.judged)), 3.5, 0, 7);
     g.fill();
   }
 }

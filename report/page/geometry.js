@@ -17,9 +17,7 @@ class Side {
   get scale() { return this.most / (Math.min(this.length, LONGEST) - this.room) || 1; }
   get least() { return this.room / this.count; }
 
-  measure(fixed, count) {
-    Object.assign(this, { fixed, count, room: Math.max(1, this.box[this.client] - fixed) });
-  }
+  measure(fixed, count) { Object.assign(this, { fixed, count, room: Math.max(1, this.box[this.client] - fixed) }); }
 
   layout() {
     this.spacer.style[this.style] = Math.min(this.length, LONGEST) + this.fixed + "px";
@@ -41,9 +39,8 @@ class Side {
 
   // Scrolls so that item k is in view: as little as possible, or into the middle if it is far away.
   reveal(k) {
-    const start = k * this.size, end = start + this.size, far = this.room / 2;
-    if (start < this.offset) this.to(this.offset - start > far ? start - far : start);
-    else if (end > this.offset + this.room) this.to(end - this.offset - this.room > far ? start - far : end - this.room);
+    const start = k * this.size, least = start + this.size - this.room, near = clamp(this.offset, least, start);
+    this.to(Math.abs(near - this.offset) > this.room / 2 ? start - this.room / 2 : near);
   }
 }
 
@@ -79,14 +76,14 @@ class Grid {
 
   // The rows in view. Of several on one pixel it is the first.
   visible() {
-    const first = Math.max(0, this.row(HEAD)), count = Math.min(this.rows.length, this.row(this.box.clientHeight) + 1) - first;
-    const rows = Array.from({ length: Math.max(0, count) }, (_, i) => first + i);
+    const first = Math.max(0, this.row(HEAD)), end = Math.min(this.rows.length, this.row(this.box.clientHeight) + 1);
+    const rows = Array.from({ length: Math.max(0, end - first) }, (_, i) => first + i);
     return rows.filter(row => row === first || Math.floor(this.y(row)) > Math.floor(this.y(row - 1)));
   }
 
   // What is at a place of the box: a step, or -1; a row, or -1; whether it is in the column of the goal.
   place(x, y) {
-    const t = this.column(x), row = this.row(y), isInside = x >= this.labels && x < this.right && t >= 0 && t < this.across.count;
+    const t = this.column(x), row = this.row(y), isInside = x >= this.labels && x < this.right && t < this.across.count;
     return { x, t: isInside ? t : -1, row: y > HEAD && row < this.rows.length ? row : -1, isGoal: x >= this.right };
   }
 }

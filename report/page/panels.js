@@ -66,14 +66,15 @@ class Panels {
 
   explain(t, most) {
     const { run } = this, [number, cost, , requires] = run.operator(t), layer = k => Math.sign(this.variables[run.variable[k]].layer);
-    const since = step => step ? linkTo(`${this.prefix}step-${step}`, "since step " + group(step)) : make("span", "quiet", "from the start");
     const changes = Array.from({ length: run.at[t + 1] - run.at[t] }, (_, i) => run.at[t] + i).sort((a, b) => layer(a) - layer(b));
-    const change = (v, k) => make("div", "change", this.label(v), this.fact(v, run.old[k], "old", "name"), make("span", "quiet", "→"), this.fact(v, run.fresh[k], "new", "name"));
+    const since = step => step ? linkTo(`${this.prefix}step-${step}`, "since step " + group(step)) : make("span", "quiet", "from the start");
+    const required = ([v, k]) => make("div", "fact", this.fact(v, k, "", "name"), since(run.since(v, t - 1)));
+    const changed = k => make("div", "change", this.label(run.variable[k]), this.fact(run.variable[k], run.old[k], "old", "name"),
+      make("span", "quiet", "→"), this.fact(run.variable[k], run.fresh[k], "new", "name"));
     const more = Object.assign(make("button", "", "Show all"), { onclick: () => this.describe(Infinity), hidden: changes.length + requires.length <= most });
     return [make("p", "quiet", `operator ${group(number)} · cost ${group(cost)}, ${group(run.cost[t])} so far`),
-      make("h4", "", requires.length ? "Requires" : "Requires nothing"),
-      ...requires.slice(0, most).map(([v, k]) => make("div", "fact", this.fact(v, k, "", "name"), since(run.since(v, t - 1)))),
-      make("h4", "", changes.length ? "Changes" : "Changes nothing"), ...changes.slice(0, most).map(k => change(run.variable[k], k)), more];
+      make("h4", "", requires.length ? "Requires" : "Requires nothing"), ...requires.slice(0, most).map(required),
+      make("h4", "", changes.length ? "Changes" : "Changes nothing"), ...changes.slice(0, most).map(changed), more];
   }
 
   value(v) {
