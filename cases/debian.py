@@ -58,7 +58,7 @@ def packing_tests(place, sas):
     that isn't root's, or is called otherwise than its version."""
     path, again = (pack("deb.py", os.path.join(place, it)) for it in ("first", "second"))
     yield "the same bytes twice", differs(bytes_of(path) == bytes_of(again), True)
-    version = ended(sas, "--version")[1].decode().split()[-1]
+    version = ended(sas, "--version")[2].decode().split()[-1]
     yield "the name", differs(os.path.basename(path), f"sas_{version}_amd64.deb")
     fields = ended("dpkg-deb", "-f", path, "Package", "Version", "Architecture")[1].decode()
     yield "the fields", differs(fields, f"Package: sas\nVersion: {version}\nArchitecture: amd64\n")

@@ -4,7 +4,7 @@
     python3 cases/run.py ./sas [EMULATOR]
 
 EMULATOR is what runs the program where the machine can't, such as qemu-aarch64-static. A case that limits memory or the stack would limit
-the emulator, so it is left out there, and so are those whose size makes them take too long.
+the emulator, so it is left out there. All others take about an hour of processor time there.
 
 tasks.json: task files, and what is printed of each, as it stands and with CR LF at the end of each line. `print` prints
 it as it stands, and does so with CR LF at the end of one line alone. Cut off after any byte it ends early, on its last
@@ -100,7 +100,7 @@ LIMITS = (
     ("file", 512, "trap '' XFSZ; ulimit -f {}"),
     ("open", 1, "ulimit -n {}"),
 )
-# what an emulator can't be tried with: it has memory of its own, and is slower by far
+# what would limit an emulator, which has memory of its own
 UNEMULATED = ("memory", "stack")
 CLOSING = {"input": "exec <&-", "output": "exec >&-", "error": "exec 2>&-"}
 
@@ -413,28 +413,27 @@ def faults(program, case, folder):
         return [f"no end within {SECONDS} seconds"]
 
 
-def cases_in(folder):
-    """Returns all cases, those that take longest first. Plan files are written into the folder."""
+def cases_in(folder, one_of=1):
+    """Returns all cases, those that take longest first, or one of so many of those that are made by the thousand. Plan files are written
+    into the folder."""
     files = [*whole_cases(), *line_cases(), *plan_cases(folder), *group_cases()]
     plans = [*verdict_cases(), *why_cases(), *trace_cases(), *plans_cases()]
     reasons = [*reason_cases(), *layer_cases(), *refusal_cases()]
-    made = [*cut_cases(), *plans, *family_cases(), *reasons, *table("program.json")]
+    made = [*files, *map(with_why, files), *cut_cases(), *plans, *family_cases(), *reasons]
     large = [*nets_cases(), *idle_cases(), *lengthy_cases(), *plenty_cases(), *crowded_cases(), *large_cases()]
-    return [*large, *files, *map(with_why, files), *made]
+    return [*large, *made[::one_of], *table("program.json")]
 
 
-def judged(*program):
-    """Runs the program, whose words may begin with those of an emulator, on the cases. Returns them, and what is wrong with each."""
+def judged(program, emulator=(), one_of=1):
+    """Runs the program on the cases, or under an emulator on one of so many of them. Returns them, and what is wrong with each."""
     with tempfile.TemporaryDirectory() as plans, tempfile.TemporaryDirectory() as folder:
-        cases = cases_in(plans)
-        if program[1:]:
-            cases = [it for it in cases if not any(name in it for name in UNEMULATED)]
+        cases = [it for it in cases_in(plans, one_of) if not emulator or not any(name in it for name in UNEMULATED)]
         with ThreadPoolExecutor(os.cpu_count()) as pool:
-            return cases, list(pool.map(lambda case: faults(program, case, folder), cases))
+            return cases, list(pool.map(lambda case: faults([*emulator, program], case, folder), cases))
 
 
 def main(sas, *emulator):
-    report.end(*judged(*emulator, os.path.abspath(sas)))
+    report.end(*judged(os.path.abspath(sas), emulator))
 
 
 if __name__ == "__main__":
