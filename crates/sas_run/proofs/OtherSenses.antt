@@ -1,5 +1,5 @@
 -- A valid plan is valid in the usual sense, and in Fast Downward's search.
-use Rattle.sas_run.proofs.Imports.{◌≡◌, ℕ, List, [], ◌∷◌, sym, ◌∙◌, subst, AllZip, Operator, Parts, operator_at, IsLayered, Step, IsInitial, FastDownwardStep, step_there, is_one_there, IsNamed, LeadTo, OperatorsLead, ReachGoal, ValidIsUsuallyValid, ValidInFastDownward, EndsInFastDownward}
+use Rattle.sas_run.proofs.Imports.{◌≡◌, ℕ, List, [], ◌∷◌, sym, ◌∙◌, subst, AllZip, Operator, Parts, PlanParts, operator_at, IsLayered, Step, FastDownwardStep, step_there, is_one_there, IsNamed, LeadTo, IsValid, OperatorsLead, ValidIsUsuallyValid, ValidInFastDownward, EndsInFastDownward}
 use Rattle.sas_run.proofs.Determined.{initial_is_one}
 
 -- the operators of executable steps have their names
@@ -31,12 +31,16 @@ usually_valid p plan operators valid = record {
   cost = valid.cost;
 }
 
+lead_there : (p : Parts) (plan : PlanParts) (operators : List ℕ) (valid : IsValid p plan operators)
+    → OperatorsLead p (FastDownwardStep p) valid.leads.initial operators valid.last
+lead_there p plan operators valid = lead p (FastDownwardStep p) (step_there p) valid.leads.initial plan.steps operators valid.last valid.leads.goes
+
 pub valid_there : ValidInFastDownward
 valid_there p plan operators valid = record {
   initial = valid.leads.initial;
   starts = valid.leads.starts;
   last = valid.last;
-  lead = lead p (FastDownwardStep p) (step_there p) valid.leads.initial plan.steps operators valid.last valid.leads.goes;
+  lead = lead_there p plan operators valid;
   goal = valid.goal;
 }
 
@@ -51,4 +55,4 @@ pub ends_there : EndsInFastDownward
 ends_there p plan operators initial last layered valid starts leads =
     one_end p layered valid.leads.initial operators last valid.last
     (subst (λ x. OperatorsLead p (FastDownwardStep p) x operators last) (initial_is_one p layered initial valid.leads.initial starts valid.leads.starts) leads)
-    (valid_there p plan operators valid).lead
+    (lead_there p plan operators valid)
