@@ -13,3 +13,4 @@ pub mod ValidLine
 pub mod PlanWords
 pub mod GroupWords
 pub mod Answers
+pub mod NumberedPlans

@@ -1,5 +1,5 @@
 -- The lines of concatenated bytes.
-use Rattle.sas_lines.proofs.Imports.{◌≡◌, ℕ, suc, ◌≤◌, ◌≢◌, Bool, true, false, ◌==◌, if◌then◌else◌, length, List, [], ◌∷◌, ◌++◌, refl, sym, ap, ◌∙◌, arith, AllByRecursion, append-nil, segments, onto_first, without_return, lines_among, rest_among, lines, unfinished, text, NoEnd}
+use Rattle.sas_lines.proofs.Imports.{◌≡◌, ℕ, suc, ◌+◌, ◌≤◌, ◌≢◌, Bool, true, false, ◌==◌, if◌then◌else◌, length, List, [], ◌∷◌, ◌++◌, refl, sym, ap, ◌∙◌, arith, AllByRecursion, append-nil, segments, onto_first, without_return, lines_among, rest_among, lines, unfinished, text, NoEnd}
 use Rattle.sas_lines.proofs.Separated.{Without-append, segments-first, segments-only, segments-some, front, segments-append, last-without}
 
 -- ---- segments in a row
@@ -69,6 +69,11 @@ unfinished-plain bytes byte h = unfinished-part bytes (byte ∷ []) (h, tt)
 -- ---- up to a line end
 
 -- one line
+pub return_length : (line : List ℕ) → length line ≤ length (without_return line) + 1
+return_length [] = omega arith
+return_length (b ∷ []) = omega arith
+return_length (b ∷ c ∷ line) = let more = return_length (c ∷ line) in omega (arith, more)
+
 pub lines-one : (w : List ℕ) → NoEnd w → lines (w ++ 10 ∷ []) ≡ without_return w ∷ []
 unfolding lines segments
 lines-one w h = ap lines_among (segments-first 10 w [] h)

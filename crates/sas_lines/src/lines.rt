@@ -25,7 +25,7 @@ pub struct FirstLine<'a> {
 
 /// Returns the line without a CR at its end, since that CR is part of the line end.
 #[tactic(auto, using(crate::proofs::Found::return_at, crate::proofs::Found::no_return_at))]
-fn without_return(line: &[u8]) -> &[u8]
+pub fn without_return(line: &[u8]) -> &[u8]
     ensures { result.now ≡ without_return line.now }
 {
     match line {

@@ -38,6 +38,13 @@ impl<'a> Numbers<'a> {
     {
         Numbers { rest: Some(line) }
     }
+
+    /// Returns the bytes of the segments that are left, or `None` if none is left.
+    pub fn rest(&self) -> Option<&'a [u8]>
+        ensures { self.now ≡ segments_within 32 result }
+    {
+        self.rest
+    }
 }
 
 impl<'a> Iterator for Numbers<'a> {

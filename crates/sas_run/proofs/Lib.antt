@@ -19,6 +19,9 @@ pub mod PlainSteps
 pub mod NamedAlike
 pub mod Going
 pub mod PlanStates
+pub mod GoingByNumbers
+pub mod NumberVerdicts
+pub mod MadeSteps
 pub mod Runs
 pub mod Endings
 pub mod Executing

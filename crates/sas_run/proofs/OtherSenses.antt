@@ -1,6 +1,7 @@
 -- A valid plan is valid in the usual sense, and in Fast Downward's search.
-use Rattle.sas_run.proofs.Imports.{◌≡◌, ℕ, List, [], ◌∷◌, sym, ◌∙◌, subst, AllZip, Operator, Parts, PlanParts, operator_at, IsLayered, Step, FastDownwardStep, step_there, is_one_there, IsNamed, LeadTo, IsValid, OperatorsLead, ValidIsUsuallyValid, ValidInFastDownward, EndsInFastDownward}
+use Rattle.sas_run.proofs.Imports.{◌≡◌, ℕ, List, [], ◌∷◌, sym, ◌∙◌, subst, AllZip, Parts, PlanParts, operator_at, IsLayered, FastDownwardStep, step_there, is_one_there, IsNamed, LeadTo, IsValid, OperatorsLead, ValidIsUsuallyValid, ValidInFastDownward, EndsInFastDownward}
 use Rattle.sas_run.proofs.Determined.{initial_is_one}
+use Rattle.sas_run.proofs.GoingByNumbers.{led_on, leads_on_numbers}
 
 -- the operators of executable steps have their names
 named : (p : Parts) (s : List ℕ) (names : List (List ℕ)) (operators last : List ℕ) → LeadTo p s names operators last → AllZip (IsNamed p) names operators
@@ -9,31 +10,20 @@ named p s [] (operator ∷ operators) last goes = absurd goes
 named p s (name ∷ names) [] last goes = absurd goes
 named p s (name ∷ names) (operator ∷ operators) last (next, chosen, step, rest) = (chosen.of_name, named p next names operators last rest)
 
--- they lead to the same state, by steps of any kind that each step is of
-lead : (p : Parts) (IsStep : List ℕ → Operator → List ℕ → Type 0) → ((s : List ℕ) (o : Operator) (next : List ℕ) → Step p s o next → IsStep s o next)
-    → (s : List ℕ) (names : List (List ℕ)) (operators last : List ℕ) → LeadTo p s names operators last → OperatorsLead p IsStep s operators last
-lead p IsStep is s [] [] last goes = goes
-lead p IsStep is s [] (operator ∷ operators) last goes = absurd goes
-lead p IsStep is s (name ∷ names) [] last goes = absurd goes
-lead p IsStep is s (name ∷ names) (operator ∷ operators) last (next, chosen, step, rest) =
-    (next, is s (operator_at p operator) next step, lead p IsStep is next names operators last rest)
-
 pub usually_valid : ValidIsUsuallyValid
 usually_valid p plan operators valid = record {
   names = named p valid.leads.initial plan.steps operators valid.last valid.leads.goes;
-  reach = record {
-    initial = valid.leads.initial;
-    starts = valid.leads.starts;
+  valid = record {
     last = valid.last;
-    lead = lead p (Step p) (λ s o next step. step) valid.leads.initial plan.steps operators valid.last valid.leads.goes;
+    through = leads_on_numbers p plan.steps operators valid.last valid.leads;
     goal = valid.goal;
+    costs = valid.cost;
   };
-  cost = valid.cost;
 }
 
 lead_there : (p : Parts) (plan : PlanParts) (operators : List ℕ) (valid : IsValid p plan operators)
     → OperatorsLead p (FastDownwardStep p) valid.leads.initial operators valid.last
-lead_there p plan operators valid = lead p (FastDownwardStep p) (step_there p) valid.leads.initial plan.steps operators valid.last valid.leads.goes
+lead_there p plan operators valid = led_on p (FastDownwardStep p) (step_there p) valid.leads.initial plan.steps operators valid.last valid.leads.goes
 
 pub valid_there : ValidInFastDownward
 valid_there p plan operators valid = record {
@@ -47,7 +37,7 @@ valid_there p plan operators valid = record {
 -- in Fast Downward the same operators lead to one state
 one_end : (p : Parts) → IsLayered p → (s : List ℕ) (operators a b : List ℕ) → OperatorsLead p (FastDownwardStep p) s operators a → OperatorsLead p (FastDownwardStep p) s operators b → a ≡ b
 one_end p layered s [] a b to_a to_b = to_a ∙ sym to_b
-one_end p layered s (operator ∷ operators) a b (next, step, rest) (other, step', rest') =
+one_end p layered s (operator ∷ operators) a b (next, its, step, rest) (other, _, step', rest') =
     one_end p layered next operators a b rest
     (subst (λ x. OperatorsLead p (FastDownwardStep p) x operators b) (is_one_there p s (operator_at p operator) other next layered step' step) rest')
 

@@ -9,12 +9,15 @@ pub mod Shapes
 pub mod StepNames
 pub mod Chains
 pub mod Plans
+pub mod ByNumbers
 pub mod Verdicts
 pub mod Laws
 pub mod OtherSenses
 pub mod OtherSensesLaws
 pub mod Runs
 pub mod Running
+pub mod Choosers
+pub mod NumberFaults
 pub mod Given
 pub mod PlainSteps
 pub mod Stepping

@@ -6,7 +6,8 @@ use Rattle.sas_meaning.specs.Layers.{IsLayered}
 use Rattle.sas_meaning.specs.InitialStates.{IsInitial}
 use Rattle.sas_meaning.specs.FastDownward.{FastDownwardStep}
 use Rattle.sas_run.specs.Plans.{IsValid}
-use Rattle.sas_run.specs.OtherSenses.{OperatorsLead, ReachGoal, IsUsuallyValid}
+use Rattle.sas_run.specs.ByNumbers.{OperatorsLead}
+use Rattle.sas_run.specs.OtherSenses.{ReachGoal, IsUsuallyValid}
 
 -- a valid plan is valid in the usual sense; the converse doesn't hold, since the first applicable
 -- operator of a name may lead elsewhere

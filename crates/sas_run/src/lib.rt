@@ -2,6 +2,7 @@
 #![tactic(auto)]
 
 mod chains;
+mod choosers;
 mod deletions;
 mod digest;
 mod execution;
@@ -23,6 +24,7 @@ mod stepper;
 mod steps;
 
 pub use chains::next_in;
+pub use choosers::{Chooser, NumberedPlan};
 pub use execution::Execution;
 pub use laws::verdict_laws;
 pub use loaded_task::LoadedTask;

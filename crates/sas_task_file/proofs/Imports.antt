@@ -30,7 +30,7 @@ pub use Rattle.sas_core.specs.declared.parts.Variable.{Variable}
 pub use Rattle.sas_lines.proofs.Beginnings.{lines_stand_first}
 pub use Rattle.sas_lines.proofs.EndedLines.{text_of_both}
 pub use Rattle.sas_lines.proofs.Splitting.{lines-plain, unfinished-end, Plain}
-pub use Rattle.sas_lines.proofs.Words.{NoSpace, same_words, NoSpace-number, NoSpace-signed, same_signed, ten_pos, words-joined, joined-words}
+pub use Rattle.sas_lines.proofs.Words.{NoSpace, same_words, NoSpace-number, NoSpace-signed, same_signed, ten_pos, words-first, words-joined, joined-words}
 pub use Rattle.sas_lines.specs.FirstLines.{LinesStandFirst}
 unfoldable pub use Rattle.sas_lines.specs.Lines.{lines, unfinished}
 pub use Rattle.sas_lines.specs.Lines.{text}
