@@ -70,7 +70,6 @@ pub use Rattle.sas_run.specs.Named.{IsNamed}
 pub use Rattle.sas_run.specs.Nameless.{is_nameless, nameless_steps}
 pub use Rattle.sas_run.specs.Names.{IsNextNamed, IsLowestNamed, AreFirsts}
 pub use Rattle.sas_run.specs.NumberFaults.{IsStuck, IsMissed, IsFaultByNumbers}
-pub use Rattle.sas_run.specs.OtherSenses.{ReachGoal, IsUsuallyValid}
 pub use Rattle.sas_run.specs.OtherSensesLaws.{ValidIsUsuallyValid, ValidInFastDownward, EndsInFastDownward}
 pub use Rattle.sas_run.specs.PlainSteps.{AreMade, IsPlainStep, OldHolds}
 pub use Rattle.sas_run.specs.Plans.{IsApplicable, NoneApplicable, IsChosen, LeadTo, LeadsTo, IsValid, cost_of_all}

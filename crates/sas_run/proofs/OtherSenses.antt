@@ -1,5 +1,5 @@
 -- A valid plan is valid in the usual sense, and in Fast Downward's search.
-use Rattle.sas_run.proofs.Imports.{◌≡◌, ℕ, List, [], ◌∷◌, sym, ◌∙◌, subst, AllZip, Parts, operator_at, IsLayered, IsInitial, FastDownwardStep, step_there, is_one_there, IsNamed, LeadTo, OperatorsLead, ValidIsUsuallyValid, ValidInFastDownward, EndsInFastDownward}
+use Rattle.sas_run.proofs.Imports.{◌≡◌, ℕ, List, [], ◌∷◌, sym, ◌∙◌, subst, AllZip, Parts, PlanParts, operator_at, IsLayered, FastDownwardStep, step_there, is_one_there, IsNamed, LeadTo, IsValid, OperatorsLead, ValidIsUsuallyValid, ValidInFastDownward, EndsInFastDownward}
 use Rattle.sas_run.proofs.Determined.{initial_is_one}
 use Rattle.sas_run.proofs.GoingByNumbers.{led_on, leads_on_numbers}
 
@@ -21,12 +21,16 @@ usually_valid p plan operators valid = record {
   };
 }
 
+lead_there : (p : Parts) (plan : PlanParts) (operators : List ℕ) (valid : IsValid p plan operators)
+    → OperatorsLead p (FastDownwardStep p) valid.leads.initial operators valid.last
+lead_there p plan operators valid = led_on p (FastDownwardStep p) (step_there p) valid.leads.initial plan.steps operators valid.last valid.leads.goes
+
 pub valid_there : ValidInFastDownward
 valid_there p plan operators valid = record {
   initial = valid.leads.initial;
   starts = valid.leads.starts;
   last = valid.last;
-  lead = led_on p (FastDownwardStep p) (step_there p) valid.leads.initial plan.steps operators valid.last valid.leads.goes;
+  lead = lead_there p plan operators valid;
   goal = valid.goal;
 }
 
@@ -42,4 +46,4 @@ unfolding valid_there
 ends_there p plan operators initial last layered valid starts leads =
     one_end p layered valid.leads.initial operators last valid.last
     (subst (λ x. OperatorsLead p (FastDownwardStep p) x operators last) (initial_is_one p layered initial valid.leads.initial starts valid.leads.starts) leads)
-    (valid_there p plan operators valid).lead
+    (lead_there p plan operators valid)
