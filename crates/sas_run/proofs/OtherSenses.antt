@@ -42,7 +42,6 @@ one_end p layered s (operator ∷ operators) a b (next, its, step, rest) (other,
     (subst (λ x. OperatorsLead p (FastDownwardStep p) x operators b) (is_one_there p s (operator_at p operator) other next layered step' step) rest')
 
 pub ends_there : EndsInFastDownward
-unfolding valid_there
 ends_there p plan operators initial last layered valid starts leads =
     one_end p layered valid.leads.initial operators last valid.last
     (subst (λ x. OperatorsLead p (FastDownwardStep p) x operators last) (initial_is_one p layered initial valid.leads.initial starts valid.leads.starts) leads)
