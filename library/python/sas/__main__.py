@@ -17,8 +17,8 @@ from typing import Sequence
 from . import __version__
 from ._program import INVALID_ARGUMENTS, REQUESTS, run, write_error
 
-# a command that may be installed beside the library: a module, whose function `main` takes the words and returns the exit status
-_REPORT = "sas.report"
+# a package that may be installed in this one, and its module whose function `main` takes the words and this package
+_REPORT, _COMMAND = "sas.report", "sas.report.command"
 
 
 def main(words: Sequence[str]) -> int:
@@ -29,7 +29,7 @@ def main(words: Sequence[str]) -> int:
     if command == "table":
         return int(importlib.import_module("sas._table").main(rest))
     if command == "report" and importlib.util.find_spec(_REPORT):
-        return int(importlib.import_module(_REPORT).main(rest))
+        return int(importlib.import_module(_COMMAND).main(list(rest), importlib.import_module("sas")))
     if command == "report":
         write_error("python -m sas report: it isn't installed")
     else:
