@@ -18,9 +18,10 @@ import copy
 import ctypes
 import functools
 import glob
-import importlib.util
+import importlib
 import mmap
 import os
+import pathlib
 import pickle
 import random
 import re
@@ -85,7 +86,7 @@ class Library:
         self.folder = folder
         self.calls = ctypes.CDLL(os.path.join(folder, "libsas.so"))
         self.calls.sas_task_free.restype = None
-        self.sas = module_of(os.path.join(folder, "sas.py"))
+        self.sas = package_in(folder)
 
     def call(self, name, given, length):
         """Makes a call with a room of so many bytes, between others that nothing may change. Returns its number, the size
@@ -108,12 +109,15 @@ def raw(given):
     return [ctypes.c_char_p(given), ctypes.c_size_t(len(given))]
 
 
-def module_of(path):
-    """Returns the module that is in a file."""
-    about = importlib.util.spec_from_file_location("sas", path)
-    module = importlib.util.module_from_spec(about)
-    about.loader.exec_module(module)
-    return module
+def package_in(folder):
+    """Returns the package of Python that is in a folder. The first one that is loaded stays the one that is imported by its name."""
+    first = {name: sys.modules.pop(name) for name in list(sys.modules) if name.partition(".")[0] == "sas"}
+    sys.path.insert(0, folder)
+    try:
+        return importlib.import_module("sas")
+    finally:
+        sys.path.remove(folder)
+        sys.modules.update(first)
 
 
 def read(name):
@@ -336,7 +340,13 @@ def python_tests(_, library, folder):
     empty = sas.plan(b"", b"")
     yield "Python, nothing", [it for view in (bytearray(), memoryview(b"")) for it in differs(sas.plan(view, view), empty)]
     for name, exception, call in (
-        ("a text", TypeError, lambda: sas.check(task.decode())),
+        ("numbers of operators that are bytes", TypeError, lambda: sas.Task(task).plan_operators(b"abcd", 0)),
+        ("numbers of operators that are text", TypeError, lambda: sas.Task(task).plan_operators("abcd", 0)),
+        ("a number of an operator below 0", OverflowError, lambda: sas.Task(task).plan_operators([-1], 0)),
+        ("a number of an operator with 33 bits", OverflowError, lambda: sas.Task(task).plan_operators([1 << 32], 0)),
+        ("a cost below 0", OverflowError, lambda: sas.Task(task).plan_operators([], -1)),
+        ("a cost with 65 bits", OverflowError, lambda: sas.Task(task).plan_operators([], 1 << 64)),
+        ("numbers of operators of a task that was closed", sas.NoTask, lambda: closed(sas, task).plan_operators([], 0)),
         ("each second byte", TypeError, lambda: sas.check(memoryview(task)[::2])),
         ("a task that is refused", sas.Refused, lambda: sas.Task(plan)),
         ("a task that isn't layered", sas.Refused, lambda: sas.Task(read(f"{LAMPS}.sas"))),
@@ -346,6 +356,9 @@ def python_tests(_, library, folder):
         ("a task that is copied deeply", TypeError, lambda: copy.deepcopy(sas.Task(task))),
     ):
         yield f"Python, {name}", [] if raised(call) is exception else [f"{raised(call)}"]
+    for name, given in (("a text", task.decode()), ("a path", pathlib.Path(path)), ("a path as a text", path)):
+        said = message(lambda given=given: sas.check(given)), message(lambda given=given: sas.Task(task).plan(given))
+        yield f"Python, {name}", [] if said == ('give the bytes: open(path, "rb").read()',) * 2 else [f"{said}"]
     with contextlib.suppress(sas.Refused):
         closed(sas, task).close()
     with ThreadPoolExecutor(4) as pool, sas.Task(task) as held:
@@ -384,7 +397,7 @@ def version_tests(program, library, _):
     """Yields the version of the library. They could show one that isn't that of the program."""
     ran = ended(program, "--version")
     expected = (ran.stdout + ran.stderr).split()[-1].decode()
-    for name, version in (("the library", library.sas.version()), ("sas.py", library.sas.__version__)):
+    for name, version in (("the library", library.sas.version()), ("the package of Python", library.sas.__version__)):
         yield f"version of {name}", [] if version == expected else [f"{version}, not {expected}"]
 
 
@@ -395,29 +408,36 @@ def answer_tests(_, library, __):
     doorway = read(f"{DOORWAY}.sas")
     # the value's name of the task that is printed is the line of a valid plan
     printed = task.replace(b"Atom handempty()", b"plan valid: 1 steps, cost 1")
+    no_operator, group = "step 1: no operator of that name", "group 0 not shown: operator 4"
     for name, answer, expected in (
-        ("valid", sas.plan(task, plan), (True, 4, 4, None)),
-        ("valid, traced", sas.trace(task, plan), (True, 4, 4, None)),
-        ("invalid", sas.plan(doorway, plan), (False, None, None, "step 1: no operator of that name")),
-        ("invalid, with reasons", sas.plan_why(doorway, plan), (False, None, None, "step 1: no operator of that name")),
-        ("invalid, traced", sas.trace(doorway, plan), (False, None, None, "step 1: no operator of that name")),
-        ("refused plan", sas.plan(task, b"(take f1)\n"), (False, None, None, "line 2: end")),
-        ("refused task", sas.show(plan), (False, None, None, "line 1: keyword")),
-        ("not layered", sas.check_why(read(f"{LAMPS}.sas")), (False, None, None, "rule 0: layer order")),
-        ("groups", sas.mutex(doorway), (False, None, None, "group 0 not shown: operator 4")),
-        ("groups with reasons", sas.mutex_why(doorway), (False, None, None, "group 0 not shown: operator 4")),
-        ("layered", sas.check(task), (True, None, None, None)),
-        ("printed", sas.print_task(printed), (True, None, None, None)),
+        ("valid", sas.plan(task, plan), ("valid", None, 4, 4, None)),
+        ("valid, traced", sas.trace(task, plan), ("valid", None, 4, 4, None)),
+        ("invalid", sas.plan(doorway, plan), ("invalid", None, None, None, no_operator)),
+        ("invalid, with reasons", sas.plan_why(doorway, plan), ("invalid", None, None, None, no_operator)),
+        ("invalid, traced", sas.trace(doorway, plan), ("invalid", None, None, None, no_operator)),
+        ("another cost", sas.plan(task, plan.replace(b"= 4", b"= 5")), ("invalid", None, None, 5, "cost is 4, not 5")),
+        ("refused plan", sas.plan(task, b"junk\n"), ("refused", "plan", None, None, "line 1: keyword")),
+        ("refused plan, traced", sas.trace(task, b"(take f1)\n"), ("refused", "plan", None, None, "line 2: end")),
+        ("refused task", sas.plan(b"junk\n", plan), ("refused", "task", None, None, "line 1: keyword")),
+        ("refused task, shown", sas.show(plan), ("refused", "task", None, None, "line 1: keyword")),
+        ("not layered", sas.check_why(read(f"{LAMPS}.sas")), ("refused", "task", None, None, "rule 0: layer order")),
+        ("groups", sas.mutex(doorway), ("no", None, None, None, group)),
+        ("groups with reasons", sas.mutex_why(doorway), ("no", None, None, None, group)),
+        ("no groups", sas.mutex(read("cases/tasks/minimal.sas")), ("yes", None, None, None, None)),
+        ("layered", sas.check(task), ("yes", None, None, None, None)),
+        ("printed", sas.print_task(printed), ("yes", None, None, None, None)),
+        ("shown", sas.show(printed), ("yes", None, None, None, None)),
+        ("steps", sas.steps(b"(plan valid: 1 steps, cost 1)\n; cost = 1 (unit cost)\n"), ("yes", None, None, None, None)),
     ):
         is_yes, text = answer
-        got = bool(answer), answer.steps, answer.cost, answer.reason
-        yield f"Python, {name}", [] if got == expected and (is_yes, text) == (answer.is_yes, answer.text) else [f"{got}, not {expected}"]
-    sys.modules["sas"] = sas
-    for it in (sas.plan(task, plan), sas.Refused(b"task refused: \xff\n"), sas.NoTask("a"), sas.InputTooLong("b")):
+        got = answer.verdict, answer.refused_file, answer.steps, answer.cost, answer.reason
+        same = (is_yes, text, bool(answer)) == (answer.is_yes, answer.text, answer.is_yes)
+        yield f"Python, {name}", [] if got == expected and same else [f"{got}, not {expected}"]
+        yield f"Python, {name}, printed", differs((is_yes, f"{answer}\n" if text else ""), (is_yes, text.decode()))
+    for it in (sas.plan_why(doorway, plan), sas.Refused(b"task refused: \xff\n"), sas.NoTask("a"), sas.InputTooLong("b")):
         copies = pickle.loads(pickle.dumps(it)), copy.copy(it), copy.deepcopy(it)
         same = all((type(one), repr(one), str(one), vars_of(one)) == (type(it), repr(it), str(it), vars_of(it)) for one in copies)
         yield f"Python, copies of {it!r}", [] if same else [f"{copies}"]
-    del sys.modules["sas"]
 
 
 def vars_of(it):
@@ -492,7 +512,7 @@ def process_tests(_, library, folder):
 
 def found_tests(_, library, folder):
     """Yields where the module in Python looks for the library. They could show one that is installed and isn't found."""
-    shutil.copy(os.path.join(library.folder, "sas.py"), folder)
+    shutil.copytree(os.path.join(library.folder, "sas"), os.path.join(folder, "sas"))
     env = {name: value for name, value in os.environ.items() if name not in ("LIBSAS", "LD_LIBRARY_PATH")}
     for name, more, status in (
         ("nowhere", {}, 1),
@@ -511,6 +531,15 @@ def closed(sas, task):
     held = sas.Task(task)
     held.close()
     return held
+
+
+def message(call):
+    """Returns the message of the TypeError that a call ends with."""
+    try:
+        call()
+    except TypeError as fault:
+        return str(fault)
+    return None
 
 
 def raised(call):
@@ -587,7 +616,7 @@ def failed(*command, **more):
 
 
 KINDS = {"Global": None, "&[u8]": "const uint8_t *, size_t", "&mut [u8]": "uint8_t *, size_t", "&mut usize": "size_t *"}
-KINDS["&mut SasTask"] = "sas_task *"
+KINDS |= {"&mut SasTask": "sas_task *", "&[u32]": "const uint32_t *, size_t", "u64": "uint64_t"}
 
 
 def exports():
@@ -654,15 +683,20 @@ def symbol_tests(_, library, __):
     of, a name that is another's in a program that links the library, and a library that is loaded where its instructions aren't known."""
     if not compilers("nm"):
         return
-    found = symbols(os.path.join(library.folder, "libsas.a"))
-    undefined = {name for name, kind in found if kind in "Uvw"} - {name for name, kind in found if kind not in "Uvw"}
-    yield "what libsas.a wants", [] if undefined == UNDEFINED else [f"{sorted(undefined ^ UNDEFINED)} more or less"]
-    shown = {name for name, _ in symbols(os.path.join(library.folder, "libsas.so"), "-D", "--defined-only")}
-    names = declared(os.path.join(library.folder, "sas.h"))
-    yield "what libsas.so shows", [] if shown == names else [f"{sorted(shown ^ names)} more or less"]
+    yield from linked_tests(library.folder)
     if compilers("readelf"):
         said = ended("readelf", "-n", "-d", os.path.join(library.folder, "libsas.so")).stdout.decode()
         yield "what the loader reads", [it for it in ("x86 ISA needed: x86-64-v2", "soname: [libsas.so.1]") if it not in said]
+
+
+def linked_tests(folder):
+    """Yields which functions of others the library in a folder wants, and which of its own it shows."""
+    found = symbols(os.path.join(folder, "libsas.a"))
+    undefined = {name for name, kind in found if kind in "Uvw"} - {name for name, kind in found if kind not in "Uvw"}
+    yield "what libsas.a wants", [] if undefined == UNDEFINED else [f"{sorted(undefined ^ UNDEFINED)} more or less"]
+    shown = {name for name, _ in symbols(os.path.join(folder, "libsas.so"), "-D", "--defined-only")}
+    names = declared(os.path.join(folder, "sas.h"))
+    yield "what libsas.so shows", [] if shown == names else [f"{sorted(shown ^ names)} more or less"]
 
 
 def built_driver(library, folder):
@@ -699,7 +733,7 @@ def driver_tests(_, library, folder):
         ran = ended(driver, "refused", *files)
         lines = dict(line.split(": ") for line in ran.stdout.decode().splitlines())
         wrong = [f"status {ran.returncode}"] * (ran.returncode != 0)
-        for name in (*REQUESTS, "task_read", *OVER_HELD):
+        for name in (*REQUESTS, "task_read", *OVER_HELD, "task_plan_operators"):
             well = re.fullmatch(r"[1-9]\d* refused, 0 wrong", lines.get(f"sas_{name}", ""))
             yield f"sas_{name}, memory refused, {os.path.basename(files[1])}", wrong if well else [*wrong, f"{lines}"]
     for files, count in ((examples[0], MANY), ((task, plans[0]), MANY // 100)):
@@ -870,13 +904,13 @@ def number_tests(_, library, folder):
                 others = [line for line in lines if not line.endswith(f" {word}")]
                 yield f"library.{language}, number {number}", others if len(lines) > len(IN_ORDER) else [f"{ran}"]
     os.environ["LIBSAS"] = os.path.join(stub, "libsas.so")
-    sas = module_of(os.path.join(library.folder, "sas.py"))
+    sas = package_in(library.folder)
     del os.environ["LIBSAS"]
     for number, exception in ((OUT_OF_MEMORY, MemoryError), (INPUT_TOO_LONG, sas.InputTooLong), (NO_TASK, sas.NoTask)):
         # the library that is loaded sees no change that Python alone makes of its environment
         ctypes.CDLL(None).setenv(b"STUB", str(number).encode(), 1)
         came = [raised(lambda it=it: answer_of(sas, it, *inputs_of(it, b"", b""))) for it in IN_ORDER] + [raised(lambda: sas.Task(b""))]
-        yield f"sas.py, number {number}", [] if set(came) == {exception} else [f"{came}"]
+        yield f"Python, number {number}", [] if set(came) == {exception} else [f"{came}"]
 
 
 # calls with operators of several types and with none, none of which is made
@@ -975,17 +1009,22 @@ def builder_tests(_, __, ___):
 
 
 def processor_tests(_, __, folder):
-    """Yields what `make lib` hands on to build.py. It could show a number of processors that is lost."""
-    for name in ("Makefile", "library/build.py"):
+    """Yields what `make lib` hands on to build.py. It could show a number of processors that is lost, or a platform."""
+    for name in ("Makefile", "library/build.py", "crates.txt"):
         os.makedirs(os.path.dirname(os.path.join(folder, name)), exist_ok=True)
         shutil.copy(os.path.join(TOP, name), os.path.join(folder, name))
+    # what library/build.py imports is the file of the repository, and what it runs says its arguments
+    shutil.copy(os.path.join(TOP, "build.py"), os.path.join(folder, "whole.py"))
     with open(os.path.join(folder, "build.py"), "w", encoding="utf-8") as file:
-        file.write("import sys\nif __name__ == '__main__':\n    sys.exit(' '.join(sys.argv[1:]))\n")
-    env = {name: value for name, value in os.environ.items() if name not in ("MAKEFLAGS", "MFLAGS", "MAKELEVEL", "JOBS")}
-    for words, processors in ((["JOBS=1"], 1), (["JOBS=3"], 3), ([], int(ended("nproc").stdout))):
+        file.write("import sys\nfrom whole import *\nif __name__ == '__main__':\n    sys.exit(' '.join(sys.argv[1:]))\n")
+    env = {name: value for name, value in os.environ.items() if name not in ("MAKEFLAGS", "MFLAGS", "MAKELEVEL", "JOBS", "CC", "AR")}
+    calls = [(["JOBS=1"], "1 x86_64-linux"), (["JOBS=3"], "3 x86_64-linux"), ([], f"{int(ended('nproc').stdout)} x86_64-linux")]
+    if compilers("aarch64-linux-gnu-gcc"):
+        calls.append((["JOBS=2", "PLATFORM=aarch64-linux"], "2 aarch64-linux"))
+    for words, handed in calls:
         ran = ended("make", "-s", "lib", *words, cwd=folder, env=env)
         said = ran.stderr.decode().partition("\n")[0]
-        yield f"make lib {words}", [] if said == f"sas_c {processors}" else [f"{ran}"]
+        yield f"make lib {words}", [] if said == f"sas_c {handed}" else [f"{ran}"]
 
 
 # the page of the library, and its sections about languages: how their programs are marked, the end of their files' names, and what

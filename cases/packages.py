@@ -9,13 +9,17 @@ line that begins with `without`.
 
 No proof knows these packages. One that names a file that isn't there, or lacks one, would be found here alone.
 """
+import glob
+import io
 import os
+import platform
 import re
 import shlex
 import shutil
 import subprocess
 import sys
 import tempfile
+import zipfile
 
 import report
 from pages import is_there
@@ -67,6 +71,9 @@ plan valid: 4 steps, cost 4
 plan invalid: step 5: no operator of that number
 """
 SHARED = "libsas.so.1"
+# pip without a network, and without what is installed elsewhere
+PIP = ("-m", "pip", "--disable-pip-version-check", "--isolated")
+PIP_INSTALL = (*PIP, "install", "-q", "--no-index")
 
 
 def ended(*command, **more):
@@ -153,28 +160,86 @@ def cargo_tests(top, place):
 
 
 def pip_tests(top, place):
-    """Yields what pip installs. It could show a module that doesn't find its library, a package that another one has to build, and one
-    that is installed without the library."""
-    site = os.path.join(place, "site")
-    pip = [sys.executable, "-m", "pip", "install", "-q", "--no-index", "--disable-pip-version-check"]
-    if ended(sys.executable, "-m", "pip", "--version")[0] != 0:
-        print("without pip")
+    """Yields the wheel, and what pip installs in fresh environments. They could show a package that doesn't find its library, a wheel
+    that is never the same twice or is refused by pip, and one that is installed without the library."""
+    if ended(sys.executable, "-m", "pip", "--version")[0] != 0 or ended(sys.executable, "-c", "import ensurepip, venv")[0] != 0:
+        print("without pip and venv")
         return
-    yield "pip", wrong(*pip, "--target", site, os.path.join(top, "library/python"))
-    env = {**os.environ, "PYTHONPATH": site}
-    yield "pip, the program", wrong_held(top, sys.executable, os.path.join(top, "library/examples/held.py"), env=env, cwd=place)
-    command = "import sas, importlib.metadata as it; about = it.metadata('sas')"
-    command += "; print(sas.__file__, sas.__version__ == about['Version'], about['Summary'])"
-    summary = re.search('^description = "(.+)"$', text_of(os.path.join(top, "library/python/pyproject.toml")), re.MULTILINE)[1]
-    got, expected = ended(sys.executable, "-c", command, env=env, cwd=place), (0, f"{site}/sas.py True {summary}\n")
-    yield "pip, the module", [] if got == expected else [f"{got}"]
+    yield from wheel_tests(top, place)
+    source = os.path.join(top, "library/python")
+    for name, words in (("a wheel", glob.glob(os.path.join(place, "first/*.whl"))), ("a folder", [source]), ("-e", ["-e", source])):
+        yield from environment_tests(top, os.path.join(place, f"environment of {name}"), f"pip, {name}", words)
     bare, none = os.path.join(place, "bare/python"), os.path.join(place, "none")
-    shutil.copytree(os.path.join(top, "library/python"), bare, ignore=shutil.ignore_patterns("__pycache__"))
-    status, said = ended(*pip, "--target", none, bare)
-    lines = [it.strip() for it in said.splitlines()]
-    line = f"run make lib first: there is no {os.path.join(place, 'bare/out/libsas.so')}"
-    yield "pip, without the library", [] if status and line in lines and "Traceback" not in said else [f"status {status}: {said}"]
-    yield "pip, without the library, nothing is installed", os.listdir(none) if os.path.isdir(none) else []
+    shutil.copytree(source, bare, ignore=shutil.ignore_patterns("__pycache__"))
+    for words in ((bare,), ("-e", bare)):
+        status, said = ended(sys.executable, *PIP_INSTALL, "--target", none, *words)
+        lines = [it.strip() for it in said.splitlines()]
+        line = f"run make lib first: there is no {os.path.join(place, 'bare/out/libsas.so')}"
+        well = status and line in lines and "Traceback" not in said
+        yield f"pip, without the library, {words[0]}", [] if well else [f"status {status}: {said}"]
+        yield f"pip, without the library, {words[0]}, nothing is installed", os.listdir(none) if os.path.isdir(none) else []
+
+
+def wheel_tests(top, place):
+    """Yields the wheel, made twice."""
+    held = []
+    for name in ("first", "second"):
+        folder = os.path.join(place, name)
+        words = ["wheel", "-q", "--no-index", "-w", folder, os.path.join(top, "library/python")]
+        yield f"pip wheel, {name}", wrong(sys.executable, *PIP, *words)
+        held += [(it, bytes_of(folder, it)) for it in os.listdir(folder)]
+    yield "pip wheel, the same bytes twice", [] if len(held) == 2 and held[0] == held[1] else [f"{[name for name, _ in held]}"]
+    with zipfile.ZipFile(io.BytesIO(held[0][1])) as wheel:
+        files = {it: wheel.read(it) for it in wheel.namelist()}
+        modes = {it.filename: it.external_attr >> 16 & 0o777 for it in wheel.infolist()}
+    version = re.search('^__version__ = "(.*)"$', text_of(os.path.join(top, "library/python/sas/__init__.py")), re.MULTILINE)[1]
+    about, program = f"sas-{version}.dist-info", f"sas-{version}.data/scripts/sas"
+    yield "pip wheel, its name", [] if held[0][0] == f"sas-{version}-py3-none-linux_{platform.machine()}.whl" else [held[0][0]]
+    package = files_below(os.path.join(top, "library/python/sas"))
+    expected = package | {"sas/libsas.so", *(f"{about}/{it}" for it in ("METADATA", "WHEEL", "RECORD"))}
+    built = os.path.exists(os.path.join(top, "sas"))
+    yield "pip wheel, its files", sorted(set(files) ^ (expected | {program} if built else expected))
+    library, command = bytes_of(top, "library/out/libsas.so"), bytes_of(top, "sas") if built else None
+    same = files["sas/libsas.so"] == library and files.get(program) == command and modes.get(program) in (0o755, None)
+    yield "pip wheel, what was built", [] if same else ["it isn't that"]
+    summary = re.search('^description = "(.+)"$', text_of(os.path.join(top, "library/python/pyproject.toml")), re.MULTILINE)[1]
+    lines = f"\nName: sas\nVersion: {version}\nSummary: {summary}\nRequires-Python: >=3.8\n"
+    yield "pip wheel, METADATA", [] if lines.encode() in files[f"{about}/METADATA"] else [f"{files[f'{about}/METADATA']}"]
+
+
+def files_below(folder):
+    """Returns the files of a package, by their names in a wheel."""
+    above = os.path.dirname(folder)
+    paths = (os.path.join(at, it) for at, _, names in os.walk(folder, followlinks=True) for it in names)
+    return {os.path.relpath(path, above) for path in paths if "__pycache__" not in path}
+
+
+def environment_tests(top, folder, name, words):
+    """Yields what pip installs of these words into a fresh environment, and that it removes it."""
+    yield f"{name}, an environment", wrong(sys.executable, "-m", "venv", folder)
+    python = os.path.join(folder, "bin/python")
+    before = sorted(os.walk(folder))
+    yield f"{name}, installed", wrong(python, *PIP_INSTALL, *words)
+    env = {key: value for key, value in os.environ.items() if key not in ("PYTHONPATH", "LIBSAS", "LD_LIBRARY_PATH")}
+    more = {"env": {**env, "PYTHONDONTWRITEBYTECODE": "1"}, "cwd": folder}
+    yield f"{name}, a program", wrong_held(top, python, os.path.join(top, "library/examples/held.py"), **more)
+    command = "import sas, importlib.metadata as it; about = it.metadata('sas')"
+    command += "; print(sas.__file__, sas.version() == sas.__version__ == about['Version'], bool(about['Summary']))"
+    status, said = ended(python, "-c", command, **more)
+    place = os.path.join(top, "library/python/sas") if "-e" in words else glob.glob(f"{folder}/lib/python3*/site-packages/sas")[0]
+    yield f"{name}, the package", [] if (status, said) == (0, f"{place}/__init__.py True True\n") else [f"{status}, {said}"]
+    files = [os.path.join(top, f"examples/fuses.{it}") for it in ("sas", "plan")]
+    commands = [[python, "-m", "sas"], *([[os.path.join(folder, "bin/sas")]] if os.path.exists(os.path.join(top, "sas")) else [])]
+    for command in commands:
+        got = ended(*command, "plan", *files, **more)
+        yield f"{name}, {os.path.basename(command[0])}", [] if got == (0, "plan valid: 4 steps, cost 4\n") else [f"{got}"]
+    yield f"{name}, removed", wrong(python, *PIP, "uninstall", "-q", "-y", "sas")
+    yield f"{name}, nothing is left", [] if sorted(os.walk(folder)) == before else ["files are left"]
+
+
+def bytes_of(*path):
+    with open(os.path.join(*path), "rb") as file:
+        return file.read()
 
 
 def package_tests(top, place):

@@ -139,7 +139,7 @@ def version_cases(sas):
         ("library/sas.h", r'^#define SAS_VERSION "(.*)"$'),
         ("library/sas.pc", r"^Version: (.*)$"),
         ("library/sasConfigVersion.cmake", r'^set\(PACKAGE_VERSION "(.*)"\)$'),
-        ("library/python/sas.py", r'^__version__ = "(.*)"$'),
+        ("library/python/sas/__init__.py", r'^__version__ = "(.*)"$'),
         ("library/rust/Cargo.toml", r'^version = "(.*)"$'),
         (PAGE, r"^This page is that of version (.*)\.$"),
     ):

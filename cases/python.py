@@ -1,0 +1,698 @@
+#!/usr/bin/env python3
+"""Tests the package of Python beyond its calls, which library.py tests: the values of answers, numbers of operators, files, the commands
+of `python -m sas`, its tables, types and help.
+
+    python3 cases/python.py SAS LIBRARY
+
+SAS is the program, and LIBRARY the folder that library/build.py made. Each function of this script that makes tests says which mistake
+they could show that no proof does: the proofs know no Python. What isn't there of mypy, numpy and other versions of Python is named in a
+line that begins with `without`.
+
+Each test that fails has a line, and the last line is 'N passed, M failed'. The exit status is 0 where none failed.
+"""
+import array
+import bz2
+import csv
+import gzip
+import importlib
+import io
+import itertools
+import json
+import lzma
+import os
+import pathlib
+import pydoc
+import random
+import re
+import shutil
+import signal
+import subprocess
+import sys
+import tempfile
+import time
+
+import report
+import run
+from library import FUSES, LAMPS, differs, ended, is_there, package_in, read
+from shown import shown
+from texts import TOP, as_bytes, table
+
+SECONDS = 60
+# cases that limit the program itself, or end before their input does; a call of the library gets its input as a whole
+OF_PROGRAM = ("memory", "stack", "file", "open", "input_ends", "streamed", "front", "pipes")
+OF_STREAMS = ("closed", "output_to")
+# of the cases that are made at random, the part that is given to a command: one in so many
+EVERY = 25
+VERSIONS = [f"python3.{number}" for number in range(8, 16)]
+FUSES_FILES = [os.path.join(TOP, f"{FUSES}.{it}") for it in ("sas", "plan")]
+LATER = (b"  later\n", b"  later 1 of 2\n", b"    later 1 requires 0 0 x\n", b"  \n", b"    \n")
+VALID, NO_ANSWER = b"plan valid: 4 steps, cost 4\n", "no answer"
+COLUMNS = "task,plan,verdict,refused_file,steps,cost,reason"
+
+
+def value_cases():
+    """Yields the cases whose answers have values."""
+    cases = (*run.verdict_cases(), *run.why_cases(), *run.trace_cases(), *run.layer_cases(), *run.refusal_cases())
+    return (case for case in cases if case["status"] in (0, 1) and not case.get("front") and case["words"][0] in ("plan", "trace", "check"))
+
+
+def verdict_line(answer):
+    """Returns the line of the verdict, made of values."""
+    if answer.verdict == "valid":
+        return f"plan valid: {answer.steps} steps, cost {answer.cost}"
+    if answer.verdict == "refused":
+        return f"{answer.refused_file} refused: {answer.reason}"
+    if answer.verdict == "yes":
+        return "task layered"
+    if answer.failing_step is not None:
+        return f"plan invalid: step {answer.failing_step}: {answer.reason.partition(': ')[2]}"
+    if answer.goal_fact is not None:
+        return f"plan invalid: goal fact {answer.goal_fact} not reached"
+    return f"plan invalid: cost is {answer.sum}, not {answer.cost}"
+
+
+def fact_line(fact):
+    return b"%d %d %s" % fact
+
+
+def trace_lines(answer):
+    """Yields the lines of a trace before its verdict, made of values."""
+    for fact in answer.initial:
+        yield b"initial " + fact_line(fact)
+    for number, step in enumerate(answer.trace_steps, 1):
+        yield b"step %d %d %d %s" % (number, step.operator, step.cost, step.name)
+        yield from (b"change %d %d %d %s" % change for change in step.changes)
+
+
+def cause_lines(cause):
+    """Yields the lines of a cause."""
+    yield b"requires " + fact_line(cause.required)
+    yield b"actual " + fact_line(cause.actual)
+    yield b"since step %d %s" % cause.since if cause.since else b"since the initial state"
+    for rule in cause.rules:
+        yield b"rule %d %s " % (rule.number, b"derives" if rule.is_firing else b"requires") + fact_line(rule.fact)
+    if cause.no_rule:
+        yield b"no rule derives it"
+
+
+def reason_lines(reasons):
+    """Yields the reasons why a plan isn't valid, made of values."""
+    if reasons.step:
+        yield b"step %d %s" % reasons.step
+    if reasons.similar_operator:
+        yield b"similar operator %d line %d %s" % reasons.similar_operator
+    if reasons.total is not None:
+        what = "steps name no operator" if reasons.step else "goal facts fail"
+        yield b"%d of %d %s" % (reasons.failing, reasons.total, what.encode())
+    for operator in reasons.operators:
+        yield b"operator %d line %d" % operator[:2]
+        yield from (b"  " + line for cause in operator.causes for line in cause_lines(cause))
+    if reasons.conflict:
+        yield b"operator %d line %d" % reasons.conflict[:2]
+        yield from (b"  effect %d sets %s" % (effect.number, fact_line(effect.fact)) for effect in reasons.conflict.effects)
+    for goal_fact in reasons.goal_facts:
+        yield b"goal fact %d" % goal_fact.index
+        yield from (b"  " + line for line in cause_lines(goal_fact.cause))
+    if reasons.cost:
+        yield from (b"metric %d,steps %d,sum of cost lines %d" % reasons.cost).split(b",")
+    if reasons.hint:
+        yield b"hint " + reasons.hint.encode()
+    if reasons.could_also_be:
+        yield b"step %d could also be operator %d" % reasons.could_also_be
+
+
+def rebuilt(answer):
+    """Returns the text of an answer, made of its values alone, but for the reasons why a file is refused."""
+    lines = [*trace_lines(answer), verdict_line(answer).encode()]
+    reasons = answer.reasons
+    if reasons:
+        lines += [b"  " + line for line in reason_lines(reasons)] if answer.verdict == "invalid" else reasons.text.splitlines()
+    return b"".join(line + b"\n" for line in lines)
+
+
+def value_tests(_, sas, __):
+    """Yields answers of the cases: their values make up the text. They could show a value that is lost, is another line's, or is taken
+    from a name that looks like a line; and a text that has values of another request."""
+    for case in value_cases():
+        answer = sas.Answer(case["status"] == 0, as_bytes(case["output"]))
+        yield f"values, {case['name']}", differs((True, rebuilt(answer)), (True, answer.text))
+        hints = [line[7:] for line in answer.text.split(b"\n") if line.startswith(b"  hint ")]
+        hint = answer.reasons and answer.reasons.hint
+        yield f"hint, {case['name']}", [] if [hint] == ([it.decode() for it in hints] or [None]) else [f"{hint}, not {hints}"]
+    name = b"could also be operator 4"
+    text = b"plan invalid: step 1: no operator of that name\n  step 1 %s\n  1 of 1 steps name no operator\n" % name
+    reasons = sas.Answer(False, text).reasons
+    got = reasons.step.name, reasons.could_also_be
+    yield "a step whose name looks like a reason", [] if got == (name, None) else [f"{got}"]
+    steps = sas.trace(*map(read, (f"{FUSES}.sas", f"{FUSES}.plan"))).trace_steps
+    yield "steps come one by one", [] if next(steps).name == b"take f1" and next(steps).name == b"put f1 link" else ["others"]
+
+
+def later_tests(_, sas, __):
+    """Yields reasons with lines that a later version may add. They could show values that are lost with a line that isn't known, and an
+    exception in place of reasons."""
+    chance = random.Random(3)
+    for case in list(run.why_cases())[::EVERY]:
+        answer = sas.Answer(case["status"] == 0, as_bytes(case["output"]))
+        if answer.reasons:
+            for later in LATER:
+                reasons = sas.Answer(False, answer.text + later).reasons
+                same = reasons._replace(text=answer.reasons.text) == answer.reasons
+                yield f"{later}, {case['name']}", [] if same else [f"{reasons}"]
+                lines = answer.text.splitlines(keepends=True)
+                lines.insert(chance.randint(1, len(lines)), later)
+                reasons = fault_of(lambda lines=lines: sas.Answer(False, b"".join(lines)).reasons)
+                yield f"{later} inside, {case['name']}", [] if isinstance(reasons, sas.Reasons) else [f"{reasons!r}"]
+
+
+def none_tests(_, sas, __):
+    """Yields answers that have no steps, no facts and no reasons. They could show values that are taken from the names of a task."""
+    task, plan = read(f"{FUSES}.sas"), read(f"{FUSES}.plan")
+    task = task.replace(b"\nAtom handempty()\n", b"\nstep 1 2 3 x\n").replace(b"\nNegatedAtom handempty()\n", b"\ninitial 1 2 x\n")
+    for name, answer in (
+        ("printed", sas.print_task(task)),
+        ("shown", sas.show(task)),
+        ("valid", sas.plan_why(task, plan)),
+        ("groups", sas.mutex_why(read("examples/doorway.sas"))),
+        ("no reasons", sas.plan(task, b"; cost = 0 (unit cost)\n")),
+    ):
+        got = answer.initial, list(answer.trace_steps), answer.reasons
+        yield f"no values, {name}", [] if got == ([], [], None) else [f"{got}"]
+
+
+def number_tests(_, sas, __):
+    """Yields plans by the numbers of operators, in each form that they may have. They could show numbers that are read as others, of
+    another length, or from memory that isn't theirs; and a task that says of itself what isn't so."""
+    task, plan = read(f"{FUSES}.sas"), read(f"{FUSES}.plan")
+    numbers = [step.operator for step in sas.trace(task, plan).trace_steps]
+    packed = array.array("I", numbers)
+    moved = bytearray(1) + packed.tobytes()
+    odd = memoryview(moved)[1:].cast("I")
+    backwards = memoryview(array.array("I", numbers[::-1]))[::-1]
+    forms = {"a list": numbers, "a tuple": tuple(numbers), "an iterator": iter(numbers), "an array": packed, "a view": memoryview(packed)}
+    forms.update({"read-only": memoryview(packed.tobytes()).cast("I"), "an odd place": odd, "backwards": backwards})
+    forms.update({"64 bits": array.array("Q", numbers), "8 bits": array.array("B", numbers), "other bytes": memoryview(bytes(numbers))})
+    forms.update({f"numpy, {kind}": numpy_array(numbers, kind) for kind in (("uint32", "int64", ">u4") if is_module("numpy") else ())})
+    is_ready = importlib.import_module("sas._library")._is_ready
+    with sas.Task(task) as held:
+        for name, form in forms.items():
+            yield f"numbers, {name}", differs(held.plan_operators(form, 4), (True, VALID))
+            stays = name in ("an array", "a view", "numpy, uint32")
+            yield f"numbers, {name}, copied or not", [] if is_ready(form) == stays else [f"ready is {not stays}"]
+        for name, given, cost, line in (
+            ("another cost", packed, 5, b"plan invalid: cost is 4, not 5\n"),
+            ("the largest cost", packed, (1 << 64) - 1, b"plan invalid: cost is 4, not 18446744073709551615\n"),
+            ("the first step", packed[1:], 3, b"plan invalid: step 1: not applicable\n"),
+            ("no steps", [], 0, b"plan invalid: goal fact 0 not reached\n"),
+            ("no steps, an array", packed[:0], 0, b"plan invalid: goal fact 0 not reached\n"),
+            ("no operator", [*numbers[:2], 10], 3, b"plan invalid: step 3: no operator of that number\n"),
+            ("no operator of 32 bits", [(1 << 32) - 1], 1, b"plan invalid: step 1: no operator of that number\n"),
+        ):
+            answer = held.plan_operators(given, cost)
+            yield f"numbers, {name}", differs(answer, (False, line)) + differs((False, rebuilt(answer)), (False, line))
+        own = array.array("I", numbers)
+        held.plan_operators(own, 4)
+        yield "numbers, an array that can grow after the call", [] if fault_of(lambda: own.append(1)) is None else ["it can't"]
+    with sas.Task(read("cases/tasks/two_moves.sas")) as held:
+        answers = [held.plan_operators([number], 1).text for number in (0, 1)] + [held.plan(b"(move)\n; cost = 1 (unit cost)\n").text]
+        lines = [b"plan invalid: goal fact 0 not reached\n", b"plan valid: 1 steps, cost 1\n", b"plan invalid: goal fact 0 not reached\n"]
+        yield "numbers, operators of one name", [] if answers == lines else [f"{answers}"]
+    for path in ("examples/fuses.sas", "examples/elevator.sas", "cases/tasks/minimal.sas", "examples/blocks-4-0.sas"):
+        counts = dict(re.findall(rb"^(variables|operators) (\d+)$", sas.show(read(path)).text, re.MULTILINE))
+        said = f"{int(counts[b'variables'])} variables, {int(counts[b'operators'])} operators>"
+        with sas.Task(read(path)) as held:
+            yield f"what a task says, {path}", [] if repr(held) == f"<sas.Task: {said}" else [repr(held)]
+        yield f"what a closed task says, {path}", [] if repr(held) == "<sas.Task: closed>" else [repr(held)]
+        of_file = repr(sas.Task.from_file(pathlib.Path(path)))
+        yield f"what a task of a file says, {path}", [] if of_file == f"<sas.Task of '{path}': {said}" else [of_file]
+
+
+def is_module(name):
+    """Whether a module is there. If it isn't, that is printed."""
+    try:
+        importlib.import_module(name)
+        return True
+    except ImportError:
+        print(f"without {name}")
+        return False
+
+
+def numpy_array(numbers, kind):
+    return importlib.import_module("numpy").array(numbers, dtype=kind)
+
+
+COMPRESS = {".gz": gzip.compress, ".bz2": bz2.compress, ".xz": lzma.compress}
+
+
+def compressed_files(folder):
+    """Makes the files of FUSES in a folder, as they are and compressed. Returns pairs of paths."""
+    pairs = []
+    for suffix, compress in {"": bytes, **COMPRESS, ".other": gzip.compress}.items():
+        pair = [os.path.join(folder, f"{name}{suffix}") for name in ("output.sas", "sas_plan")]
+        for path, source in zip(pair, FUSES_FILES):
+            write(path, compress(read(source)))
+        pairs.append(pair)
+    return pairs
+
+
+def write(path, held):
+    with open(path, "wb") as file:
+        file.write(held)
+    return path
+
+
+def file_tests(_, sas, folder):
+    """Yields files, compressed and damaged. They could show one that is judged by its front alone, or as it is compressed."""
+    for task, plan in compressed_files(folder):
+        name = os.path.basename(task)
+        yield f"files, {name}", differs(sas.plan_files(task, pathlib.Path(plan)), (True, VALID))
+        with sas.Task.from_file(os.fsencode(task)) as held:
+            yield f"a task of a file, {name}", differs(held.plan(read(f"{FUSES}.plan")), (True, VALID))
+    parts = (gzip.compress(line) for line in read(f"{FUSES}.plan").splitlines(keepends=True))
+    several = write(os.path.join(folder, "several.gz"), b"".join(parts))
+    yield "files, several parts", differs(sas.plan_files(FUSES_FILES[0], several), (True, VALID))
+    for suffix, compress in COMPRESS.items():
+        held = compress(read(f"{FUSES}.sas"))
+        for name, damaged in (("cut off", held[:-3]), ("changed", held[:-12] + b"\x55" * 12), ("begun", held[:6])):
+            path = write(os.path.join(folder, f"damaged{suffix}"), damaged)
+            fault = fault_of(lambda path=path: sas.Task.from_file(path))
+            well = isinstance(fault, OSError) and fault.filename == path and "damaged" in str(fault)
+            yield f"a file that is {name}, {suffix}", [] if well else [f"{fault!r}"]
+    for name, call, kind in (
+        ("no file", lambda: sas.Task.from_file(os.path.join(folder, "none")), FileNotFoundError),
+        ("a folder", lambda: sas.plan_files(FUSES_FILES[0], folder), IsADirectoryError),
+        ("a task that isn't layered", lambda: sas.Task.from_file(os.path.join(TOP, f"{LAMPS}.sas")), sas.Refused),
+    ):
+        yield f"files, {name}", [] if type(fault_of(call)) is kind else [f"{fault_of(call)!r}"]
+    fault = fault_of(lambda: sas.Task(read(f"{LAMPS}.sas")))
+    got = fault.answer.verdict, fault.answer.refused_file, fault.answer.reason
+    yield "the answer of a task that is refused", [] if got == ("refused", "task", "rule 0: layer order") else [f"{got}"]
+    with sas.Task.from_file(FUSES_FILES[0]) as held:
+        plans = [read(f"{FUSES}.plan"), b"", read(f"{FUSES}.plan")]
+        answers = [*held.plans(plans), *held.plans(iter(plans[:1])), *held.plans([])]
+        yield "many plans", [] if [it.text for it in answers] == [VALID, b"plan refused: line 1: end\n", VALID, VALID] else [f"{answers}"]
+
+
+def fault_of(call):
+    """Returns the exception that a call ends with."""
+    try:
+        return call()
+    except Exception as exception:  # pylint: disable=broad-except
+        return exception
+
+
+def forked(main, case, place):
+    """Returns how a command ends in a process of its own: its status, standard output and standard error."""
+    streams = [tempfile.TemporaryFile() for _ in range(3)]
+    streams[0].write(as_bytes(case.get("input", "")))
+    streams[0].seek(0)
+    child = os.fork()
+    if child == 0:
+        status = 99
+        try:
+            os.chdir(place)
+            for number, stream in enumerate(streams):
+                os.dup2(stream.fileno(), number)
+            status = main([os.fsdecode(as_bytes(word)) for word in case["words"]])
+        finally:
+            os._exit(status)
+    status = os.waitstatus_to_exitcode(os.waitpid(child, 0)[1])
+    ends = [os.pread(stream.fileno(), os.fstat(stream.fileno()).st_size, 0) for stream in streams[1:]]
+    for stream in streams:
+        stream.close()
+    return status, *ends
+
+
+def wrong_command(main, case, folder):
+    """Returns what is wrong with a command about a case of run.py."""
+    for name in os.listdir(folder):
+        os.remove(os.path.join(folder, name))
+    for name, text in case.get("files", {}).items():
+        write(os.path.join(os.fsencode(folder), as_bytes(name)), as_bytes(text))
+    return list(run.differences(case, forked(main, case, folder if "files" in case else TOP)))
+
+
+def command_tests(_, sas, folder):
+    """Yields the cases of run.py by `python -m sas`, those that are made at random in part. They could show a command that answers
+    otherwise than the program, or with another status."""
+    main = importlib.import_module("sas.__main__").main
+    place = tempfile.mkdtemp(dir=folder)
+    whole = [*run.whole_cases(), *run.plan_cases(folder), *run.group_cases(), *table_cases(run.verdict_cases(), "verdicts.json")]
+    made = [*run.line_cases(), *run.verdict_cases(), *run.why_cases(), *run.trace_cases(), *run.plans_cases()]
+    made += [*run.refusal_cases(), *run.layer_cases(), *run.reason_cases()]
+    for case in (*whole, *made[::EVERY], *with_folder(table("program.json"), tempfile.mkdtemp(dir=folder))):
+        if case["words"] and not any(word in case for word in (*OF_PROGRAM, *OF_STREAMS)):
+            yield f"python -m sas, {case['name']}", wrong_command(main, case, place)
+
+
+def with_folder(cases, empty):
+    """Yields the cases with the name of an empty folder."""
+    for case in cases:
+        error = {"error": case["error"].replace("FOLDER", empty)} if case.get("error") else {}
+        yield {**case, **error, "words": [word.replace("FOLDER", empty) for word in case["words"]]}
+
+
+def table_cases(cases, name):
+    """Returns those of the cases that are of a table."""
+    names = {made["name"] for made in table(name)}
+    return [case for case in cases if case["name"].rpartition(", plan ")[0] in names]
+
+
+def stream_tests(_, sas, folder):
+    """Yields the cases of program.json about streams by `python -m sas`, each in a process that begins with these. They could show one that
+    is closed or full and isn't noticed, and a file that takes its place."""
+    program = os.path.join(folder, "module")
+    path = os.path.dirname(os.path.dirname(sas.__file__))
+    write(program, f"#!/bin/sh\nPYTHONPATH='{path}' exec '{sys.executable}' -B -I -c '{BY_PATH}' '{path}' \"$@\"\n".encode())
+    os.chmod(program, 0o755)
+    empty = tempfile.mkdtemp(dir=folder)
+    for case in table("program.json"):
+        if case["words"] and any(word in case for word in OF_STREAMS) and not any(word in case for word in OF_PROGRAM):
+            yield f"python -m sas, {case['name']}", run.faults(program, case, empty)
+
+
+# `python -m sas`, without what else the environment of Python may have
+BY_PATH = "import runpy, sys; sys.path.insert(0, sys.argv.pop(1)); runpy.run_module(\"sas\", run_name=\"__main__\", alter_sys=True)"
+
+
+def environment(sas):
+    """Returns an environment in which the package is imported."""
+    return {**os.environ, "PYTHONPATH": os.path.dirname(os.path.dirname(sas.__file__))}
+
+
+def tables(sas, *words, **more):
+    """Runs `python -m sas table` with these words."""
+    return ended(sys.executable, "-m", "sas", "table", *words, env=environment(sas), **more)
+
+
+def make_runs(folder):
+    """Makes folders as an experiment leaves them, some with files that can't be read. Returns the rows that their table has."""
+    fuses, plan = map(read, (f"{FUSES}.sas", f"{FUSES}.plan"))
+    valid, cut, dear = ("valid", "", "4", "4", ""), ("refused", "plan", "", "", "line 2: end"), plan.replace(b"= 4", b"= 5")
+    no_file = (NO_ANSWER, "", "", "", "{}: No such file or directory")
+    runs = {
+        "a": {"output.sas": fuses, "other.sas": b"", "sas_plan.10": plan[:20], "sas_plan.2": plan, "sas_plan.1": dear},
+        "b": {"output.sas.gz": gzip.compress(fuses), "sas_plan.bz2": bz2.compress(plan), "sas_plan_2.xz": lzma.compress(plan)[:-4]},
+        "c": {"task.sas": read(f"{LAMPS}.sas"), "sas_plan.1": plan, "sas_plan.2": plan},
+        "d": {"output.sas": fuses, "planner.log": b""},
+        "e": {"sas_plan": plan},
+        "f": {"one.sas": fuses, "two.sas": fuses, "sas_plan": plan},
+        "g": {"output.sas": b"junk\n"},
+        "h/i": {"output.sas": fuses, "sas_plan": plan, "a, \"quoted\"\nname": b""},
+        "j": {"output.sas": None, "sas_plan.1": plan, "sas_plan.2": plan},
+        "k": {"output.sas": fuses, "sas_plan": None},
+        "l": {"planner.log": b""},
+    }
+    for place, files in runs.items():
+        os.makedirs(os.path.join(folder, place))
+        for name, held in files.items():
+            path = os.path.join(folder, place, name)
+            os.symlink("none", path) if held is None else write(path, held)
+    layers, damaged = ("refused", "task", "", "", "rule 0: layer order"), "plan: the compressed file is damaged"
+    return [
+        ("a/output.sas", "a/sas_plan.1", "invalid", "", "", "", "cost is 4, not 5"),
+        ("a/output.sas", "a/sas_plan.2", *valid),
+        ("a/output.sas", "a/sas_plan.10", *cut),
+        ("b/output.sas.gz", "b/sas_plan.bz2", *valid),
+        ("b/output.sas.gz", "b/sas_plan_2.xz", NO_ANSWER, "", "", "", damaged),
+        *(("c/task.sas", f"c/sas_plan.{number}", *layers) for number in (1, 2)),
+        ("d/output.sas", "", NO_ANSWER, "", "", "", "no plan"),
+        ("e", "", NO_ANSWER, "", "", "", "no task"),
+        ("f", "", NO_ANSWER, "", "", "", "2 tasks, and none is output.sas"),
+        ("g/output.sas", "", "refused", "task", "", "", "line 1: keyword"),
+        ("h/i/output.sas", "h/i/sas_plan", *valid),
+        *(("j/output.sas", f"j/sas_plan.{number}", *no_file[:4], no_file[4].format("task")) for number in (1, 2)),
+        ("k/output.sas", "k/sas_plan", *no_file[:4], no_file[4].format("plan")),
+    ]
+
+
+def table_tests(_, sas, folder):
+    """Yields tables over folders with files that can't be read, over one task, and in other forms. They could show a row that is lost,
+    one of another plan, a run that ends at the first such file, and rows that depend on the number of processes."""
+    place = os.path.join(folder, "runs")
+    expected = make_runs(place)
+    ran = tables(sas, "runs", cwd=folder)
+    rows = [tuple(row) for row in csv.reader(io.StringIO(ran.stdout.decode()))]
+    got = [(*(it.replace("runs/", "") for it in row[:2]), *row[2:6], re.sub("(?<= damaged).*", "", row[6])) for row in rows[1:]]
+    yield "a table of folders", [f"{one}, not {other}" for one, other in itertools.zip_longest(got, expected) if one != other]
+    yield "the names of columns", differs((True, ",".join(rows[0]).encode()), (True, COLUMNS.encode()))
+    said = b"15 rows of 10 tasks: 3 valid, 1 invalid, 4 refused, 7 without an answer\n"
+    yield "the summary", [] if (ran.returncode, ran.stderr) == (3, said) else [f"{ran.returncode}, {ran.stderr}"]
+    for words in (["--jobs", "2"], ["--jobs", "4"], ["--jobs=40"]):
+        again = tables(sas, *words, "runs", cwd=folder)
+        same = (again.returncode, again.stdout, again.stderr) == (ran.returncode, ran.stdout, ran.stderr)
+        yield f"the same by {words}", [] if same else [f"{again}"]
+    yield from form_tests(sas, folder, rows)
+    many = [os.path.join(folder, f"plan.{number}") for number in range(450)]
+    for path in many:
+        write(path, read(f"{FUSES}.plan") if path[-1] != "7" else b"")
+    for jobs in ("1", "3"):
+        ran = tables(sas, FUSES_FILES[0], *many, "--jobs", jobs)
+        lines = [f"{FUSES_FILES[0]},{path}," + ("refused,plan,,,line 1: end" if path[-1] == "7" else "valid,,4,4,") for path in many]
+        expected = True, "\n".join([COLUMNS, *lines, ""]).encode()
+        yield f"many plans of one task, --jobs {jobs}", differs((ran.returncode == 1, ran.stdout), expected)
+
+
+def form_tests(sas, folder, rows):
+    """Yields JSON lines, reasons, and words that aren't understood."""
+    ran = tables(sas, "runs", "--json", cwd=folder)
+    held = [json.loads(line) for line in ran.stdout.decode().splitlines()]
+    same = [tuple("" if value is None else str(value) for value in row.values()) for row in held] == rows[1:]
+    yield "JSON lines", [] if same and tuple(held[0]) == rows[0] and held[1]["cost"] == 4 else [f"{held}"]
+    ran = tables(sas, "--why", "runs", cwd=folder)
+    explained = list(csv.reader(io.StringIO(ran.stdout.decode())))
+    yield "reasons, the same rows", [] if [tuple(row[:-1]) for row in explained] == rows else [f"{explained}"]
+    for *row, reasons in explained[1:]:
+        expected = b""
+        if row[2] in ("invalid", "refused"):
+            task, plan = (os.path.join(folder, it) for it in row[:2])
+            answer = sas.plan_why(read(task), read(plan)) if row[1] else sas.check_why(read(task))
+            expected = answer.text.partition(b"\n")[2].removesuffix(b"\n")
+        yield f"reasons, {row[:2]}", differs((True, reasons.encode()), (True, expected))
+    task = FUSES_FILES[0]
+    for words in ("", "none", task, f"runs {task}", "runs/l", "runs --jobs 0", "runs --job 2", "--else runs"):
+        ran = tables(sas, *words.split(), cwd=folder)
+        well = ran.returncode == 2 and ran.stderr and not ran.stdout and b"Traceback" not in ran.stderr
+        yield f"table {words}", [] if well else [f"{ran}"]
+    ran = tables(sas, "none.sas", "none", cwd=folder)
+    line = f"{COLUMNS}\nnone.sas,none,{NO_ANSWER},,,,task: No such file or directory\n".encode()
+    yield "table of no file", differs((ran.returncode == 3, ran.stdout), (True, line))
+
+
+def interrupt_tests(_, sas, folder):
+    """Yields runs that are interrupted, lose a process, or have a reader that ends early, and one on a terminal. They could show a run
+    that hangs or leaves processes behind, rows that are lost with others, a traceback, and progress among the rows."""
+    plans = [os.path.join(folder, f"plan.{number}") for number in range(450)]
+    for path in plans:
+        write(path, read(f"{FUSES}.plan"))
+    # it waits at this plan, which is a pipe that nobody writes
+    os.remove(plans[250])
+    os.mkfifo(plans[250])
+    for jobs in ("1", "3"):
+        yield f"an interrupt, --jobs {jobs}", wrong_interrupted(sas, plans, jobs)
+    yield "a process that is killed", wrong_killed(sas, plans)
+    command = f"'{sys.executable}' -m sas table {FUSES_FILES[0]} {plans[0]} {plans[1]}"
+    env = environment(sas)
+    ran = ended("bash", "-c", f"{{ sleep 1; {command}; echo $? >&2; }} | true", env=env)
+    yield "a reader that ends early", [] if ran.stderr == b"sas: write failed\n3\n" else [f"{ran}"]
+    if is_there("script"):
+        ran = ended("script", "-qec", f"{command} > {folder}/table.csv", "/dev/null", env=env, stdin=subprocess.DEVNULL)
+        last = b"2 rows of 1 tasks: 2 valid, 0 invalid, 0 refused, 0 without an answer\r\n"
+        well = b"2 of 2 plans" in ran.stdout and ran.stdout.endswith(last) and read(f"{folder}/table.csv").count(b"\n") == 3
+        yield "progress on a terminal", [] if well else [f"{ran}"]
+
+
+def begun(sas, plans, jobs):
+    """Begins a table of these plans, and returns the process once it waits at the one that is a pipe: it has printed 200 rows."""
+    words = [sys.executable, "-m", "sas", "table", "--jobs", jobs, FUSES_FILES[0], *plans]
+    pipe = subprocess.PIPE
+    process = subprocess.Popen(words, stdout=pipe, stderr=pipe, env=environment(sas), start_new_session=True)
+    rows = [process.stdout.readline() for _ in range(201)]
+    assert rows[0].decode() == f"{COLUMNS}\n" and rows[-1].decode() == f"{FUSES_FILES[0]},{plans[199]},valid,,4,4,\n"
+    deadline = time.monotonic() + SECONDS
+    while len(children_of(process)) > (jobs != "1") and time.monotonic() < deadline:
+        time.sleep(0.02)
+    return process
+
+
+def children_of(process):
+    """Returns the processes that a process has begun."""
+    return list(map(int, read(f"/proc/{process.pid}/task/{process.pid}/children").split()))
+
+
+def rest_of(process):
+    """Returns how a run ends: its status, the rows that were left, standard error, and whether a process of it is left."""
+    try:
+        output, errors = process.communicate(timeout=SECONDS)
+        os.killpg(process.pid, 0)
+        is_left = True
+    except ProcessLookupError:
+        is_left = False
+    finally:
+        process.kill()
+    return process.returncode, output, errors, is_left
+
+
+def wrong_interrupted(sas, plans, jobs):
+    """Returns what is wrong with a run that is interrupted as a terminal does that, in all its processes."""
+    process = begun(sas, plans, jobs)
+    os.killpg(process.pid, signal.SIGINT)
+    got = rest_of(process)
+    expected = 130, b"", b"interrupted: 200 rows of 1 tasks: 200 valid, 0 invalid, 0 refused, 0 without an answer\n", False
+    return [] if got == expected else [f"{got}"]
+
+
+def wrong_killed(sas, plans):
+    """Returns what is wrong with a run of which a process is killed, as where memory is short."""
+    process = begun(sas, plans, "3")
+    for child in children_of(process):
+        os.kill(child, signal.SIGKILL)
+    status, output, errors, is_left = rest_of(process)
+    rows = [f"{plan},{NO_ANSWER},,,,the process ended by signal 9" for plan in plans[200:400]]
+    rows += [f"{plan},valid,,4,4," for plan in plans[400:]]
+    said = b"450 rows of 1 tasks: 250 valid, 0 invalid, 0 refused, 200 without an answer\n"
+    expected = 3, "".join(f"{FUSES_FILES[0]},{row}\n" for row in rows).encode(), said, False
+    return [] if (status, output, errors, is_left) == expected else [f"{status}, {errors}, {is_left}, {output[-300:]}"]
+
+
+REPORT = """
+def main(words, module):
+    print(words, module.version() == module.__version__)
+    return 7
+"""
+
+
+def report_tests(_, sas, folder):
+    """Yields `python -m sas report` where a report is installed in the package, and where none is. They could show words or an exit status
+    that are lost, and a traceback."""
+    shutil.copytree(os.path.dirname(sas.__file__), os.path.join(folder, "sas"), ignore=shutil.ignore_patterns("report", "__pycache__"))
+    env = {**os.environ, "PYTHONPATH": folder, "LIBSAS": importlib.import_module("sas._library")._LIBRARY._name}
+    command = [sys.executable, "-m", "sas", "report", "-o", "page.html"]
+    ran = ended(*command, env=env)
+    yield "no report", [] if (ran.returncode, ran.stderr) == (2, b"python -m sas report: it isn't installed\n") else [f"{ran}"]
+    os.mkdir(os.path.join(folder, "sas/report"))
+    write(os.path.join(folder, "sas/report/__init__.py"), b"")
+    write(os.path.join(folder, "sas/report/command.py"), REPORT.encode())
+    ran = ended(*command, env=env)
+    yield "a report", [] if (ran.returncode, ran.stdout) == (7, b"['-o', 'page.html'] True\n") else [f"{ran}"]
+
+
+def type_tests(_, sas, folder):
+    """Yields the types of the package, by mypy, and of a program that uses it. They could show a call whose type is wrong, and types
+    that a program doesn't see."""
+    package = os.path.dirname(sas.__file__)
+    program = os.path.join(folder, "program.py")
+    write(program, TYPED.encode())
+    if not is_there("mypy"):
+        return
+    # reports are a command, not a module to import
+    words = ["mypy", "--strict", "--exclude", "/report/", "--no-error-summary", "--cache-dir", os.path.join(folder, "cache")]
+    for name, command, env in (
+        ("the package", [*words, package], os.environ),
+        ("a program", [*words, program], {**os.environ, "MYPYPATH": os.path.dirname(package)}),
+    ):
+        ran = ended(*command, env=env)
+        yield f"mypy, {name}", [] if ran.returncode == 0 else [ran.stdout.decode()[:1000]]
+
+
+TYPED = '''
+import array
+import pathlib
+from typing import List, Optional
+
+import sas
+
+
+def faults(task: sas.Task, plan: bytes) -> List[sas.Fact]:
+    reasons: Optional[sas.Reasons] = task.plan_why(plan).reasons
+    return [cause.required for operator in reasons.operators for cause in operator.causes] if reasons else []
+
+
+def main() -> None:
+    with sas.Task.from_file(pathlib.Path("output.sas")) as task:
+        answer: sas.Answer = task.plan_operators(array.array("I", [1]), 1)
+        costs: List[Optional[int]] = [it.cost for it in task.plans([b"", bytearray()])]
+        names: List[bytes] = [change.name for step in task.trace(b"").trace_steps for change in step.changes]
+        if answer.verdict is sas.Verdict.INVALID and answer.refused_file is not sas.File.TASK:
+            print(costs, names, faults(task, b""), answer.reason)
+'''
+
+
+def help_tests(_, sas, __):
+    """Yields what `help(sas)` has of each public name. They could show a name without a description, or one that isn't shown."""
+    text = pydoc.plain(pydoc.render_doc(sas))
+    for name in sas.__all__:
+        it = getattr(sas, name)
+        yield f"help, {name}", [] if re.search(rf"\b{name}\b", text) and it.__doc__ and it.__doc__.strip() else ["no description"]
+        members = vars(it).items() if isinstance(it, type) else ()
+        bare = [its for its, value in members if not its.startswith("_") and not getattr(value, "__doc__", None)]
+        yield f"help, what {name} has", [its for its in bare if not isinstance(getattr(it, its), it)]
+    yield "help, types", re.findall("ForwardRef.*", text)
+
+
+def version_tests(program, sas, folder):
+    """Yields the package in other versions of Python. They could show code that one of them doesn't understand."""
+    env = environment(sas)
+    make_runs(os.path.join(folder, "runs"))
+    expected = tables(sas, "runs", "--why", "--jobs", "2", cwd=folder).stdout
+    for python in filter(shutil.which, VERSIONS):
+        if ended(python, "--version").returncode:
+            continue
+        for words, output in ((["plan", *FUSES_FILES], VALID), (["table", "runs", "--why", "--jobs", "2"], expected)):
+            ran = ended(python, "-B", "-W", "error", "-m", "sas", *words, cwd=folder, env=env)
+            yield f"{python} -m sas {words[0]}", differs((ran.stderr[:3] != b"Tra", ran.stdout), (True, output))
+        ran = ended(python, "-B", "-W", "error", "-c", "import sas; print(sas.trace(b'', b'').reasons, list(sas.Verdict))", env=env)
+        yield f"{python}, values", [] if ran.returncode == 0 else [f"{ran}"]
+
+
+# the page with a section about tables, and the commands of the sections before that make its folders
+GUIDE, SECTION, MAKING = "docs/GUIDE.md", "## Make a table of many plans", ("cp examples/fuses.plan", "mkdir -p runs", "for r in a/fuses")
+
+
+def guide_tests(program, sas, folder):
+    """Yields the commands that the guide shows of tables. They could show a page that is wrong."""
+    section = read(GUIDE).decode().partition(f"\n{SECTION}\n")[2].partition("\n## ")[0]
+    commands = "".join(re.findall("```console\n(.*?)```", section, re.DOTALL)).split("$ ")[1:]
+    shutil.copytree(os.path.join(TOP, "examples"), os.path.join(folder, "examples"))
+    shutil.copy(program, os.path.join(folder, "sas"))
+    for case in shown(GUIDE):
+        if case["command"].startswith(MAKING):
+            ended("bash", "-c", case["command"], cwd=folder)
+    for command, _, output in (it.partition("\n") for it in commands):
+        ran = ended("bash", "-c", command, cwd=folder, env=environment(sas))
+        yield f"{GUIDE}: {command}", differs((True, ran.stdout + ran.stderr), (True, output.encode()))
+    yield f"{GUIDE}, {SECTION}", [] if len(commands) == 2 else [f"{commands}"]
+
+
+TESTS = (
+    value_tests,
+    later_tests,
+    none_tests,
+    number_tests,
+    file_tests,
+    stream_tests,
+    command_tests,
+    table_tests,
+    interrupt_tests,
+    report_tests,
+    type_tests,
+    help_tests,
+    version_tests,
+    guide_tests,
+)
+
+
+def main(program, folder):
+    os.chdir(TOP)
+    sas = package_in(os.path.abspath(folder))
+    names, wrong = [], []
+    for make in TESTS:
+        with tempfile.TemporaryDirectory() as place:
+            for name, found in make(os.path.abspath(program), sas, place):
+                names.append({"name": f"{make.__name__}: {name}"})
+                wrong.append(found)
+    report.end(names, wrong)
+
+
+if __name__ == "__main__":
+    main(*sys.argv[1:])

@@ -1,0 +1,298 @@
+"""Proved validator of Fast Downward's task files and plans, by libsas.so.
+
+    import sas
+
+    answer = sas.plan(task, plan)
+    if answer:
+        print(answer.steps, answer.cost)
+    else:
+        print(answer.verdict, answer.refused_file, answer.reason)
+
+    with sas.Task(task) as held:                # read once, for many plans
+        answers = held.plans(plans)
+        print(held.plan_why(plan).reasons)
+        for step in held.trace(plan).trace_steps:
+            print(step.name, step.changes)
+
+Tasks and plans are bytes, or objects that have bytes, such as a bytearray, a memoryview or an mmap. Only read-only objects that aren't
+bytes are copied. `plan_files` and `Task.from_file` read files, also those of gzip, bzip2 and xz. Threads may call at the same time: a call
+releases the interpreter's lock, and a Task makes one call after another.
+
+Each call raises MemoryError if it is out of memory, and InputTooLong if an input has more than 4,294,967,296 bytes.
+
+The library is libsas.so beside this package or in a folder above, else libsas.so.1 where the system's loader finds it. The environment
+variable LIBSAS can name another file.
+
+`python -m sas` answers as the program, and makes tables of many plans: `python -m sas --help`.
+"""
+from __future__ import annotations
+
+import os
+import threading
+import weakref
+from typing import Any, Callable, Iterable, List, NoReturn, Optional
+
+from . import _files, _library
+from ._answers import Answer, File, InputTooLong, NoTask, Refused, Verdict
+from ._files import Path
+from ._library import LINE_ROOM, USUAL_ROOM, Data, answer_of, given, given_cost, given_numbers
+from ._values import (
+    BlockedOperator,
+    Cause,
+    Change,
+    Conflict,
+    CostFacts,
+    CouldAlsoBe,
+    Effect,
+    Fact,
+    GoalFact,
+    NamedStep,
+    Reasons,
+    Rule,
+    SimilarOperator,
+    Step,
+)
+
+__version__ = "1.1.0"
+__all__ = [
+    "Answer", "BlockedOperator", "Cause", "Change", "Conflict", "CostFacts", "CouldAlsoBe", "Effect", "Fact", "File", "GoalFact",
+    "InputTooLong", "NamedStep", "NoTask", "Reasons", "Refused", "Rule", "SimilarOperator", "Step", "Task", "Verdict", "check", "check_why",
+    "mutex", "mutex_why", "plan", "plan_files", "plan_why", "print_task", "show", "steps", "trace", "version",
+]  # fmt: skip
+# tracebacks and pickles name the module that users import
+for _name in __all__:
+    if isinstance(globals().get(_name), type):
+        globals()[_name].__module__ = __name__
+
+
+def version() -> str:
+    """Returns the version of the library, such as 1.1.0."""
+    return str(_library.VERSION().decode())
+
+
+def plan(task: Data, plan: Data) -> Answer:
+    """Checks whether a plan solves a task: `sas plan`.
+
+    Args:
+        task: The bytes of a task file, `output.sas`.
+        plan: The bytes of a plan file, `sas_plan`.
+
+    Returns:
+        Yes if the plan is valid, with its steps and its cost.
+
+    Raises:
+        MemoryError: Out of memory.
+        InputTooLong: A file has more than 4,294,967,296 bytes.
+    """
+    return answer_of(_library.PLAN, *given(task), *given(plan))
+
+
+def plan_files(task: Path, plan: Path) -> Answer:
+    """Checks whether a plan solves a task, both given by the paths of their files. Files of gzip, bzip2 and xz are decompressed.
+
+    Raises:
+        OSError: A file can't be opened or read, or a compressed file is damaged.
+    """
+    return answer_of(_library.PLAN, *given(_files.read(task)), *given(_files.read(plan)))
+
+
+def plan_why(task: Data, plan: Data) -> Answer:
+    """Checks a plan as `plan` does, with the reasons for a no in further lines of the text: `sas plan --why`."""
+    return answer_of(_library.PLAN_WHY, *given(task), *given(plan), room=USUAL_ROOM)
+
+
+def trace(task: Data, plan: Data) -> Answer:
+    """Checks a plan as `plan` does, and prints what each of its steps changes: `sas trace`."""
+    (task_at, task_length), (plan_at, plan_length) = given(task), given(plan)
+    room = USUAL_ROOM + 10 * plan_length + task_length // 8
+    return answer_of(_library.TRACE, task_at, task_length, plan_at, plan_length, room=room)
+
+
+def check(task: Data) -> Answer:
+    """Checks whether a task is layered: `sas check`."""
+    return answer_of(_library.CHECK, *given(task))
+
+
+def check_why(task: Data) -> Answer:
+    """Checks a task as `check` does, with the reasons for a no in further lines of the text: `sas check --why`."""
+    return answer_of(_library.CHECK_WHY, *given(task), room=USUAL_ROOM)
+
+
+def mutex(task: Data) -> Answer:
+    """Checks which mutex groups of a task are exclusive: `sas mutex`.
+
+    Returns:
+        Yes if all groups are shown to be exclusive. The text has a line about each.
+    """
+    return _answer_by_task(_library.MUTEX, task)
+
+
+def mutex_why(task: Data) -> Answer:
+    """Checks mutex groups as `mutex` does, with the reasons for a no in further lines of the text: `sas mutex --why`."""
+    return _answer_by_task(_library.MUTEX_WHY, task)
+
+
+def show(task: Data) -> Answer:
+    """Prints a summary of a task: `sas show`."""
+    return _answer_by_task(_library.SHOW, task)
+
+
+def print_task(task: Data) -> Answer:
+    """Prints a task file, each line ended by LF: `sas print`."""
+    at, length = given(task)
+    return answer_of(_library.PRINT, at, length, room=LINE_ROOM + length)
+
+
+def steps(plan: Data) -> Answer:
+    """Prints a plan file, each line ended by LF: `sas steps`."""
+    at, length = given(plan)
+    return answer_of(_library.STEPS, at, length, room=LINE_ROOM + length)
+
+
+def _answer_by_task(call: Callable[..., int], task: Data) -> Answer:
+    """Returns the answer of a call whose answer grows with the task."""
+    at, length = given(task)
+    return answer_of(call, at, length, room=USUAL_ROOM + length)
+
+
+class Task:
+    """A layered task that is read once, for many plans.
+
+    It is freed at the end of a `with`, by `close`, or with its last reference. If a process forks while another thread is inside a call of
+    the task, the task is closed in the child.
+    """
+
+    def __init__(self, task: Data) -> None:
+        """Reads a task.
+
+        Args:
+            task: The bytes of a task file, `output.sas`.
+
+        Raises:
+            Refused: They aren't the bytes of a layered task.
+            MemoryError: Out of memory.
+            InputTooLong: The file has more than 4,294,967,296 bytes.
+        """
+        self._path: Optional[Path] = None
+        self._hold(_library.Held())
+        answer = answer_of(_library.TASK_READ, self._held, *given(task))
+        if not answer:
+            raise Refused(answer.text)
+        _TASKS.add(self)
+
+    @classmethod
+    def from_file(cls, path: Path) -> Task:
+        """Reads a task file. One of gzip, bzip2 or xz is decompressed.
+
+        Raises:
+            OSError: The file can't be opened or read, or a compressed file is damaged.
+            Refused: It isn't the file of a layered task.
+        """
+        task = cls(_files.read(path))
+        task._path = path
+        return task
+
+    def _hold(self, held: _library.Held) -> None:
+        self._held, self._one_call = held, threading.Lock()
+        self._free = weakref.finalize(self, _library.TASK_FREE, held)
+        # at exit a thread may still be inside a call
+        self._free.atexit = False
+
+    def plan(self, plan: Data) -> Answer:
+        """Checks whether a plan solves the task, as the function `plan` does.
+
+        Args:
+            plan: The bytes of a plan file, `sas_plan`.
+
+        Returns:
+            Yes if the plan is valid, with its steps and its cost.
+
+        Raises:
+            NoTask: The task was closed.
+            MemoryError: Out of memory.
+            InputTooLong: The file has more than 4,294,967,296 bytes.
+        """
+        return self._answer(_library.TASK_PLAN, plan, LINE_ROOM)
+
+    def plans(self, plans: Iterable[Data]) -> List[Answer]:
+        """Checks many plans, as `plan` does. The answers are in the order of the plans."""
+        return [self.plan(plan) for plan in plans]
+
+    def plan_operators(self, operators: Iterable[int], cost: int) -> Answer:
+        """Checks whether the steps that are these operators solve the task at this cost.
+
+        No name is looked up. So a step is its operator, even if others have the same name.
+
+        Args:
+            operators: The numbers of the operators. If they are a writable array of 32-bit unsigned numbers, such as array("I") or an
+                array of uint32 of numpy, they aren't copied.
+            cost: The cost of the plan, of at most 64 bits.
+        """
+        at, count = given_numbers(operators)
+        with self._one_call:
+            return answer_of(_library.TASK_PLAN_OPERATORS, self._held, at, count, given_cost(cost))
+
+    def plan_why(self, plan: Data) -> Answer:
+        """Checks a plan as `plan` does, with the reasons for a no in further lines of the text: `sas plan --why`.
+
+        The task isn't read again.
+        """
+        return self._answer(_library.TASK_PLAN_WHY, plan, USUAL_ROOM)
+
+    def trace(self, plan: Data) -> Answer:
+        """Checks a plan as `plan` does, and prints what each of its steps changes: `sas trace`.
+
+        The task isn't read again.
+        """
+        return self._answer(_library.TASK_TRACE, plan, USUAL_ROOM, 10)
+
+    def _answer(self, call: Callable[..., int], plan: Data, room: int, more: int = 0) -> Answer:
+        """Returns the answer of a call about a plan. Its room is so many bytes, and so many more for each byte of the plan."""
+        at, length = given(plan)
+        with self._one_call:
+            return answer_of(call, self._held, at, length, room=room + more * length)
+
+    def close(self) -> None:
+        """Frees the task. It may be closed more than once."""
+        with self._one_call:
+            self._free()
+
+    def __repr__(self) -> str:
+        of = f" of {os.fsdecode(self._path)!r}" if self._path is not None else ""
+        try:
+            variables, operators = len(self.trace(b"; cost = 0 (unit cost)\n").initial), self._operators()
+        except NoTask:
+            return f"<sas.Task{of}: closed>"
+        return f"<sas.Task{of}: {variables} variables, {operators} operators>"
+
+    def _operators(self) -> int:
+        """Returns how many operators the task has: the lowest number that no operator has."""
+        low, high = 0, 1 << 31
+        while low < high:
+            middle = (low + high) // 2
+            is_one = self.plan_operators([middle], 0).reason != "step 1: no operator of that number"
+            low, high = (middle + 1, high) if is_one else (low, middle)
+        return low
+
+    def __enter__(self) -> Task:
+        return self
+
+    def __exit__(self, *_: object) -> None:
+        self.close()
+
+    def __reduce__(self) -> NoReturn:
+        raise TypeError("a sas.Task can't be pickled or copied; give the bytes of the task, and read them again")
+
+
+_TASKS: weakref.WeakSet[Task] = weakref.WeakSet()
+
+
+def _after_fork() -> None:
+    """Closes in a forked process each task of which another thread was inside a call. What these tasks hold isn't freed."""
+    for task in list(_TASKS):
+        if task._one_call.locked():
+            task._free.detach()
+            task._hold(_library.Held())
+
+
+os.register_at_fork(after_in_child=_after_fork)

@@ -1,0 +1,37 @@
+"""python -m sas: what the library offers on the command line.
+
+    python -m sas plan [--why] TASK PLAN      and plans, trace, mutex, show, check, print and steps: as the program sas
+    python -m sas table TASK PLAN..           a table of many plans, as CSV or JSON lines: python -m sas table --help
+    python -m sas table FOLDER..
+    python -m sas report TASK PLAN..          a page that shows plans: python -m sas report --help
+
+The exit status is 0 for yes, 1 for no, 2 for invalid arguments or this help, 3 if there is no answer.
+"""
+from __future__ import annotations
+
+import importlib
+import sys
+from typing import Sequence
+
+from . import __version__
+from ._program import INVALID_ARGUMENTS, REQUESTS, run, write_error
+
+
+def main(words: Sequence[str]) -> int:
+    """Does what the words of the command line say, and returns the exit status."""
+    command, rest = (words[0], words[1:]) if words else ("", words)
+    if command in REQUESTS:
+        return run(command, rest)
+    if command == "table":
+        return int(importlib.import_module("sas._table").main(rest))
+    if command == "report":
+        return int(importlib.import_module("sas.report.command").main(list(rest), importlib.import_module("sas")))
+    write_error(f"sas {__version__}" if command == "--version" else str(__doc__).rstrip())
+    return INVALID_ARGUMENTS
+
+
+if __name__ == "__main__":
+    try:
+        sys.exit(main(sys.argv[1:]))
+    except KeyboardInterrupt:
+        sys.exit(130)

@@ -1,0 +1,116 @@
+"""The calls of libsas.so."""
+from __future__ import annotations
+
+import array
+import ctypes
+import mmap
+import operator
+import os
+from typing import Any, Callable, Iterable, Tuple, Union
+
+from ._answers import Answer, InputTooLong, NoTask
+
+Data = Union[bytes, bytearray, memoryview, mmap.mmap, "array.array[Any]"]
+
+_YES, _NO, _ROOM_TOO_SHORT, _OUT_OF_MEMORY, _INPUT_TOO_LONG, _NO_TASK = range(6)
+# the rooms that calls get first, in bytes: of a line, and of a longer answer
+LINE_ROOM, USUAL_ROOM = 128, 65536
+
+
+class Held(ctypes.Structure):
+    """sas_task of sas.h."""
+
+    _fields_ = [("is_there", ctypes.c_uint8), ("at", ctypes.c_void_p)]
+
+
+def _load() -> ctypes.CDLL:
+    """Returns the library: beside the package or in a folder above, in the source where it is built, or where the system finds it."""
+    if "LIBSAS" in os.environ:
+        return ctypes.CDLL(os.environ["LIBSAS"])
+    here = os.path.dirname(os.path.abspath(__file__))
+    for folder in (here, os.path.dirname(here), os.path.join(here, "../../out")):
+        if os.path.exists(os.path.join(folder, "libsas.so")):
+            return ctypes.CDLL(os.path.join(folder, "libsas.so"))
+    return ctypes.CDLL("libsas.so.1")
+
+
+def _call(name: str, *kinds: Any) -> Callable[..., int]:
+    """Returns a call of the library, with inputs of these kinds, the room and the size."""
+    size, call = ctypes.c_size_t, getattr(_LIBRARY, name)
+    call.argtypes = [*kinds, ctypes.c_void_p, size, ctypes.POINTER(size)]
+    call.restype = ctypes.c_uint32
+    made: Callable[..., int] = call
+    return made
+
+
+_FILE = (ctypes.c_void_p, ctypes.c_size_t)
+_HELD = (ctypes.POINTER(Held), *_FILE)
+
+try:
+    _LIBRARY = _load()
+    PLAN, PLAN_WHY, TRACE = (_call(name, *_FILE, *_FILE) for name in ("sas_plan", "sas_plan_why", "sas_trace"))
+    CHECK, CHECK_WHY = (_call(name, *_FILE) for name in ("sas_check", "sas_check_why"))
+    MUTEX, MUTEX_WHY = (_call(name, *_FILE) for name in ("sas_mutex", "sas_mutex_why"))
+    SHOW, PRINT, STEPS = (_call(name, *_FILE) for name in ("sas_show", "sas_print", "sas_steps"))
+    TASK_READ, TASK_PLAN = (_call(name, *_HELD) for name in ("sas_task_read", "sas_task_plan"))
+    TASK_PLAN_WHY, TASK_TRACE = (_call(name, *_HELD) for name in ("sas_task_plan_why", "sas_task_trace"))
+    TASK_PLAN_OPERATORS = _call("sas_task_plan_operators", *_HELD, ctypes.c_uint64)
+    VERSION, TASK_FREE = _LIBRARY.sas_version, _LIBRARY.sas_task_free
+except (OSError, AttributeError) as _fault:
+    raise ImportError(f"sas: the library isn't found: {_fault}") from _fault
+VERSION.argtypes, VERSION.restype = [], ctypes.c_char_p
+TASK_FREE.argtypes, TASK_FREE.restype = [ctypes.POINTER(Held)], None
+
+
+def given(data: Data) -> Tuple[Any, int]:
+    """Returns a file as a call takes it: a pointer to its bytes, and how many there are."""
+    if isinstance(data, bytes):
+        return data, len(data)
+    if isinstance(data, (str, os.PathLike)):
+        raise TypeError('give the bytes: open(path, "rb").read()')
+    view = memoryview(data).cast("B")
+    if view.readonly or not view:
+        return bytes(view), len(view)
+    return ctypes.byref(ctypes.c_char.from_buffer(view)), len(view)
+
+
+def given_numbers(numbers: Iterable[int]) -> Tuple[Any, int]:
+    """Returns numbers of operators as a call takes them: a pointer to them, and how many there are."""
+    if isinstance(numbers, (str, bytes, bytearray)):
+        raise TypeError("give the numbers of operators, not bytes or text")
+    ready = numbers if _is_ready(numbers) else array.array("I", numbers)
+    count = len(ready)  # type: ignore[arg-type]
+    return ctypes.byref(ctypes.c_uint32.from_buffer(ready if count else array.array("I", [0]))), count  # type: ignore[arg-type]
+
+
+def _is_ready(numbers: Any) -> bool:
+    """Whether these are 32-bit numbers in a row, in memory that needs no copy."""
+    try:
+        view = memoryview(numbers)
+    except TypeError:
+        return False
+    if view.ndim != 1 or view.format not in ("I", "=I", "<I") or not view.c_contiguous or view.readonly or not view:
+        return False
+    return ctypes.addressof(ctypes.c_uint32.from_buffer(view)) % ctypes.alignment(ctypes.c_uint32) == 0
+
+
+def given_cost(cost: int) -> int:
+    """Returns a cost as a call takes it, which has 64 bits."""
+    if not 0 <= cost < 1 << 64:
+        raise OverflowError("the cost of a plan has at most 64 bits, and no sign")
+    return operator.index(cost)
+
+
+def answer_of(call: Callable[..., int], *inputs: Any, room: int = LINE_ROOM) -> Answer:
+    """Returns the answer of a call. It gets a room of so many bytes, and is repeated with a longer one if the answer is longer."""
+    size, number = ctypes.c_size_t(room), _ROOM_TOO_SHORT
+    while number == _ROOM_TOO_SHORT:
+        text = ctypes.create_string_buffer(size.value)
+        number = call(*inputs, text, len(text), ctypes.byref(size))
+    if number == _OUT_OF_MEMORY:
+        raise MemoryError("sas: out of memory")
+    if number == _INPUT_TOO_LONG:
+        raise InputTooLong("sas: input too long")
+    if number == _NO_TASK:
+        raise NoTask("sas: no task is held")
+    return Answer(number == _YES, ctypes.string_at(text, size.value))
