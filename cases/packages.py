@@ -185,11 +185,13 @@ def wheel_tests(top, place):
     held = []
     for name in ("first", "second"):
         folder = os.path.join(place, name)
-        yield f"pip wheel, {name}", wrong(sys.executable, *PIP, "wheel", "-q", "--no-index", "-w", folder, os.path.join(top, "library/python"))
+        words = ["wheel", "-q", "--no-index", "-w", folder, os.path.join(top, "library/python")]
+        yield f"pip wheel, {name}", wrong(sys.executable, *PIP, *words)
         held += [(it, bytes_of(folder, it)) for it in os.listdir(folder)]
     yield "pip wheel, the same bytes twice", [] if len(held) == 2 and held[0] == held[1] else [f"{[name for name, _ in held]}"]
     with zipfile.ZipFile(io.BytesIO(held[0][1])) as wheel:
-        files, modes = {it: wheel.read(it) for it in wheel.namelist()}, {it.filename: it.external_attr >> 16 & 0o777 for it in wheel.infolist()}
+        files = {it: wheel.read(it) for it in wheel.namelist()}
+        modes = {it.filename: it.external_attr >> 16 & 0o777 for it in wheel.infolist()}
     version = re.search('^__version__ = "(.*)"$', text_of(os.path.join(top, "library/python/sas/__init__.py")), re.MULTILINE)[1]
     about, program = f"sas-{version}.dist-info", f"sas-{version}.data/scripts/sas"
     yield "pip wheel, its name", [] if held[0][0] == f"sas-{version}-py3-none-linux_{platform.machine()}.whl" else [held[0][0]]
@@ -197,8 +199,9 @@ def wheel_tests(top, place):
     expected = package | {"sas/libsas.so", *(f"{about}/{it}" for it in ("METADATA", "WHEEL", "RECORD"))}
     built = os.path.exists(os.path.join(top, "sas"))
     yield "pip wheel, its files", sorted(set(files) ^ (expected | {program} if built else expected))
-    same = files["sas/libsas.so"] == bytes_of(top, "library/out/libsas.so") and files.get(program) == (bytes_of(top, "sas") if built else None)
-    yield "pip wheel, what was built", [] if same and modes.get(program) in (0o755, None) else ["it isn't that"]
+    library, command = bytes_of(top, "library/out/libsas.so"), bytes_of(top, "sas") if built else None
+    same = files["sas/libsas.so"] == library and files.get(program) == command and modes.get(program) in (0o755, None)
+    yield "pip wheel, what was built", [] if same else ["it isn't that"]
     summary = re.search('^description = "(.+)"$', text_of(os.path.join(top, "library/python/pyproject.toml")), re.MULTILINE)[1]
     lines = f"\nName: sas\nVersion: {version}\nSummary: {summary}\nRequires-Python: >=3.8\n"
     yield "pip wheel, METADATA", [] if lines.encode() in files[f"{about}/METADATA"] else [f"{files[f'{about}/METADATA']}"]

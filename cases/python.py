@@ -22,6 +22,7 @@ import lzma
 import os
 import pathlib
 import pydoc
+import random
 import re
 import shutil
 import signal
@@ -44,6 +45,7 @@ OF_STREAMS = ("closed", "output_to")
 EVERY = 25
 VERSIONS = [f"python3.{number}" for number in range(8, 16)]
 FUSES_FILES = [os.path.join(TOP, f"{FUSES}.{it}") for it in ("sas", "plan")]
+LATER = (b"  later\n", b"  later 1 of 2\n", b"    later 1 requires 0 0 x\n", b"  \n", b"    \n")
 VALID, NO_ANSWER = b"plan valid: 4 steps, cost 4\n", "no answer"
 COLUMNS = "task,plan,verdict,refused_file,steps,cost,reason"
 
@@ -120,12 +122,11 @@ def reason_lines(reasons):
 
 
 def rebuilt(answer):
-    """Returns the text of an answer, made of its values alone. Of a file that is refused the reasons are lines."""
+    """Returns the text of an answer, made of its values alone, but for the reasons why a file is refused."""
     lines = [*trace_lines(answer), verdict_line(answer).encode()]
     reasons = answer.reasons
     if reasons:
-        parts = reason_lines(reasons) if answer.verdict == "invalid" else reasons.lines
-        lines += [b"  " + line for line in parts]
+        lines += [b"  " + line for line in reason_lines(reasons)] if answer.verdict == "invalid" else reasons.text.splitlines()
     return b"".join(line + b"\n" for line in lines)
 
 
@@ -145,6 +146,23 @@ def value_tests(_, sas, __):
     yield "a step whose name looks like a reason", [] if got == (name, None) else [f"{got}"]
     steps = sas.trace(*map(read, (f"{FUSES}.sas", f"{FUSES}.plan"))).trace_steps
     yield "steps come one by one", [] if next(steps).name == b"take f1" and next(steps).name == b"put f1 link" else ["others"]
+
+
+def later_tests(_, sas, __):
+    """Yields reasons with lines that a later version may add. They could show values that are lost with a line that isn't known, and an
+    exception in place of reasons."""
+    chance = random.Random(3)
+    for case in list(run.why_cases())[::EVERY]:
+        answer = sas.Answer(case["status"] == 0, as_bytes(case["output"]))
+        if answer.reasons:
+            for later in LATER:
+                reasons = sas.Answer(False, answer.text + later).reasons
+                same = reasons._replace(text=answer.reasons.text) == answer.reasons
+                yield f"{later}, {case['name']}", [] if same else [f"{reasons}"]
+                lines = answer.text.splitlines(keepends=True)
+                lines.insert(chance.randint(1, len(lines)), later)
+                reasons = fault_of(lambda lines=lines: sas.Answer(False, b"".join(lines)).reasons)
+                yield f"{later} inside, {case['name']}", [] if isinstance(reasons, sas.Reasons) else [f"{reasons!r}"]
 
 
 def none_tests(_, sas, __):
@@ -175,9 +193,12 @@ def number_tests(_, sas, __):
     forms.update({"read-only": memoryview(packed.tobytes()).cast("I"), "an odd place": odd, "backwards": backwards})
     forms.update({"64 bits": array.array("Q", numbers), "8 bits": array.array("B", numbers), "other bytes": memoryview(bytes(numbers))})
     forms.update({f"numpy, {kind}": numpy_array(numbers, kind) for kind in (("uint32", "int64", ">u4") if is_module("numpy") else ())})
+    is_ready = importlib.import_module("sas._library")._is_ready
     with sas.Task(task) as held:
         for name, form in forms.items():
             yield f"numbers, {name}", differs(held.plan_operators(form, 4), (True, VALID))
+            stays = name in ("an array", "a view", "numpy, uint32")
+            yield f"numbers, {name}, copied or not", [] if is_ready(form) == stays else [f"ready is {not stays}"]
         for name, given, cost, line in (
             ("another cost", packed, 5, b"plan invalid: cost is 4, not 5\n"),
             ("the largest cost", packed, (1 << 64) - 1, b"plan invalid: cost is 4, not 18446744073709551615\n"),
@@ -220,10 +241,13 @@ def numpy_array(numbers, kind):
     return importlib.import_module("numpy").array(numbers, dtype=kind)
 
 
+COMPRESS = {".gz": gzip.compress, ".bz2": bz2.compress, ".xz": lzma.compress}
+
+
 def compressed_files(folder):
     """Makes the files of FUSES in a folder, as they are and compressed. Returns pairs of paths."""
     pairs = []
-    for suffix, compress in (("", bytes), (".gz", gzip.compress), (".bz2", bz2.compress), (".xz", lzma.compress), (".other", gzip.compress)):
+    for suffix, compress in {"": bytes, **COMPRESS, ".other": gzip.compress}.items():
         pair = [os.path.join(folder, f"{name}{suffix}") for name in ("output.sas", "sas_plan")]
         for path, source in zip(pair, FUSES_FILES):
             write(path, compress(read(source)))
@@ -244,10 +268,10 @@ def file_tests(_, sas, folder):
         yield f"files, {name}", differs(sas.plan_files(task, pathlib.Path(plan)), (True, VALID))
         with sas.Task.from_file(os.fsencode(task)) as held:
             yield f"a task of a file, {name}", differs(held.plan(read(f"{FUSES}.plan")), (True, VALID))
-    several = write(os.path.join(folder, "several.gz"), b"".join(gzip.compress(part) for part in (b"(take f1)\n(put f1 link)\n", b"(take f2)\n")))
-    write(several, read(several) + gzip.compress(b"(put f2 feed)\n; cost = 4 (unit cost)\n"))
+    parts = (gzip.compress(line) for line in read(f"{FUSES}.plan").splitlines(keepends=True))
+    several = write(os.path.join(folder, "several.gz"), b"".join(parts))
     yield "files, several parts", differs(sas.plan_files(FUSES_FILES[0], several), (True, VALID))
-    for suffix, compress in ((".gz", gzip.compress), (".bz2", bz2.compress), (".xz", lzma.compress)):
+    for suffix, compress in COMPRESS.items():
         held = compress(read(f"{FUSES}.sas"))
         for name, damaged in (("cut off", held[:-3]), ("changed", held[:-12] + b"\x55" * 12), ("begun", held[:6])):
             path = write(os.path.join(folder, f"damaged{suffix}"), damaged)
@@ -364,10 +388,10 @@ def tables(sas, *words, **more):
 def make_runs(folder):
     """Makes folders as an experiment leaves them, some with files that can't be read. Returns the rows that their table has."""
     fuses, plan = map(read, (f"{FUSES}.sas", f"{FUSES}.plan"))
-    valid, cut = ("valid", "", "4", "4", ""), ("refused", "plan", "", "", "line 2: end")
+    valid, cut, dear = ("valid", "", "4", "4", ""), ("refused", "plan", "", "", "line 2: end"), plan.replace(b"= 4", b"= 5")
     no_file = (NO_ANSWER, "", "", "", "{}: No such file or directory")
     runs = {
-        "a": {"output.sas": fuses, "other.sas": b"", "sas_plan.10": plan[:20], "sas_plan.2": plan, "sas_plan.1": plan.replace(b"= 4", b"= 5")},
+        "a": {"output.sas": fuses, "other.sas": b"", "sas_plan.10": plan[:20], "sas_plan.2": plan, "sas_plan.1": dear},
         "b": {"output.sas.gz": gzip.compress(fuses), "sas_plan.bz2": bz2.compress(plan), "sas_plan_2.xz": lzma.compress(plan)[:-4]},
         "c": {"task.sas": read(f"{LAMPS}.sas"), "sas_plan.1": plan, "sas_plan.2": plan},
         "d": {"output.sas": fuses, "planner.log": b""},
@@ -409,7 +433,7 @@ def table_tests(_, sas, folder):
     expected = make_runs(place)
     ran = tables(sas, "runs", cwd=folder)
     rows = [tuple(row) for row in csv.reader(io.StringIO(ran.stdout.decode()))]
-    got = [(*(it.replace("runs/", "") for it in row[:2]), *row[2:6], row[6].partition(" damaged")[0] + " damaged" * ("damaged" in row[6])) for row in rows[1:]]
+    got = [(*(it.replace("runs/", "") for it in row[:2]), *row[2:6], re.sub("(?<= damaged).*", "", row[6])) for row in rows[1:]]
     yield "a table of folders", [f"{one}, not {other}" for one, other in itertools.zip_longest(got, expected) if one != other]
     yield "the names of columns", differs((True, ",".join(rows[0]).encode()), (True, COLUMNS.encode()))
     said = b"15 rows of 10 tasks: 3 valid, 1 invalid, 4 refused, 7 without an answer\n"
@@ -425,7 +449,8 @@ def table_tests(_, sas, folder):
     for jobs in ("1", "3"):
         ran = tables(sas, FUSES_FILES[0], *many, "--jobs", jobs)
         lines = [f"{FUSES_FILES[0]},{path}," + ("refused,plan,,,line 1: end" if path[-1] == "7" else "valid,,4,4,") for path in many]
-        yield f"many plans of one task, --jobs {jobs}", differs((ran.returncode == 1, ran.stdout), (True, "\n".join([COLUMNS, *lines, ""]).encode()))
+        expected = True, "\n".join([COLUMNS, *lines, ""]).encode()
+        yield f"many plans of one task, --jobs {jobs}", differs((ran.returncode == 1, ran.stdout), expected)
 
 
 def form_tests(sas, folder, rows):
@@ -435,19 +460,20 @@ def form_tests(sas, folder, rows):
     same = [tuple("" if value is None else str(value) for value in row.values()) for row in held] == rows[1:]
     yield "JSON lines", [] if same and tuple(held[0]) == rows[0] and held[1]["cost"] == 4 else [f"{held}"]
     ran = tables(sas, "--why", "runs", cwd=folder)
-    explained = [row[:-1] for row in csv.reader(io.StringIO(ran.stdout.decode()))], [row[-1] for row in csv.reader(io.StringIO(ran.stdout.decode()))]
-    yield "reasons, the same rows", [] if [tuple(row) for row in explained[0]] == rows else [f"{explained[0]}"]
-    for row, reasons in list(zip(rows, explained[1]))[1:]:
+    explained = list(csv.reader(io.StringIO(ran.stdout.decode())))
+    yield "reasons, the same rows", [] if [tuple(row[:-1]) for row in explained] == rows else [f"{explained}"]
+    for *row, reasons in explained[1:]:
         expected = b""
         if row[2] in ("invalid", "refused"):
             task, plan = (os.path.join(folder, it) for it in row[:2])
             answer = sas.plan_why(read(task), read(plan)) if row[1] else sas.check_why(read(task))
-            expected = b"\n".join(line[2:] for line in answer.text.split(b"\n")[1:])[:-1].rstrip(b"\n") if not answer else b""
-            expected = b"\n".join(line[2:] for line in answer.text.rstrip(b"\n").split(b"\n")[1:])
+            expected = answer.text.partition(b"\n")[2].removesuffix(b"\n")
         yield f"reasons, {row[:2]}", differs((True, reasons.encode()), (True, expected))
-    for words in ([], ["none"], [FUSES_FILES[0]], ["runs", FUSES_FILES[0]], ["runs/l"], ["runs", "--jobs", "0"], ["runs", "--job", "2"], ["--else", "runs"]):
-        ran = tables(sas, *words, cwd=folder)
-        yield f"table {words}", [] if ran.returncode == 2 and ran.stderr and not ran.stdout and b"Traceback" not in ran.stderr else [f"{ran}"]
+    task = FUSES_FILES[0]
+    for words in ("", "none", task, f"runs {task}", "runs/l", "runs --jobs 0", "runs --job 2", "--else runs"):
+        ran = tables(sas, *words.split(), cwd=folder)
+        well = ran.returncode == 2 and ran.stderr and not ran.stdout and b"Traceback" not in ran.stderr
+        yield f"table {words}", [] if well else [f"{ran}"]
     ran = tables(sas, "none.sas", "none", cwd=folder)
     line = f"{COLUMNS}\nnone.sas,none,{NO_ANSWER},,,,task: No such file or directory\n".encode()
     yield "table of no file", differs((ran.returncode == 3, ran.stdout), (True, line))
@@ -471,8 +497,9 @@ def interrupt_tests(_, sas, folder):
     yield "a reader that ends early", [] if ran.stderr == b"sas: write failed\n3\n" else [f"{ran}"]
     if is_there("script"):
         ran = ended("script", "-qec", f"{command} > {folder}/table.csv", "/dev/null", env=env, stdin=subprocess.DEVNULL)
-        shown = b"2 of 2 plans" in ran.stdout and ran.stdout.endswith(b"2 rows of 1 tasks: 2 valid, 0 invalid, 0 refused, 0 without an answer\r\n")
-        yield "progress on a terminal", [] if shown and read(f"{folder}/table.csv").count(b"\n") == 3 else [f"{ran}"]
+        last = b"2 rows of 1 tasks: 2 valid, 0 invalid, 0 refused, 0 without an answer\r\n"
+        well = b"2 of 2 plans" in ran.stdout and ran.stdout.endswith(last) and read(f"{folder}/table.csv").count(b"\n") == 3
+        yield "progress on a terminal", [] if well else [f"{ran}"]
 
 
 def begun(sas, plans, jobs):
@@ -521,10 +548,33 @@ def wrong_killed(sas, plans):
     for child in children_of(process):
         os.kill(child, signal.SIGKILL)
     status, output, errors, is_left = rest_of(process)
-    rows = [f"{plan},{NO_ANSWER},,,,the process ended by signal 9" for plan in plans[200:400]] + [f"{plan},valid,,4,4," for plan in plans[400:]]
+    rows = [f"{plan},{NO_ANSWER},,,,the process ended by signal 9" for plan in plans[200:400]]
+    rows += [f"{plan},valid,,4,4," for plan in plans[400:]]
     said = b"450 rows of 1 tasks: 250 valid, 0 invalid, 0 refused, 200 without an answer\n"
     expected = 3, "".join(f"{FUSES_FILES[0]},{row}\n" for row in rows).encode(), said, False
     return [] if (status, output, errors, is_left) == expected else [f"{status}, {errors}, {is_left}, {output[-300:]}"]
+
+
+REPORT = """
+def main(words, module):
+    print(words, module.version() == module.__version__)
+    return 7
+"""
+
+
+def report_tests(_, sas, folder):
+    """Yields `python -m sas report` where a report is installed in the package, and where none is. They could show words or an exit status
+    that are lost, and a traceback."""
+    shutil.copytree(os.path.dirname(sas.__file__), os.path.join(folder, "sas"), ignore=shutil.ignore_patterns("report", "__pycache__"))
+    env = {**os.environ, "PYTHONPATH": folder, "LIBSAS": importlib.import_module("sas._library")._LIBRARY._name}
+    command = [sys.executable, "-m", "sas", "report", "-o", "page.html"]
+    ran = ended(*command, env=env)
+    yield "no report", [] if (ran.returncode, ran.stderr) == (2, b"python -m sas report: it isn't installed\n") else [f"{ran}"]
+    os.mkdir(os.path.join(folder, "sas/report"))
+    write(os.path.join(folder, "sas/report/__init__.py"), b"")
+    write(os.path.join(folder, "sas/report/command.py"), REPORT.encode())
+    ran = ended(*command, env=env)
+    yield "a report", [] if (ran.returncode, ran.stdout) == (7, b"['-o', 'page.html'] True\n") else [f"{ran}"]
 
 
 def type_tests(_, sas, folder):
@@ -616,6 +666,7 @@ def guide_tests(program, sas, folder):
 
 TESTS = (
     value_tests,
+    later_tests,
     none_tests,
     number_tests,
     file_tests,
@@ -623,6 +674,7 @@ TESTS = (
     command_tests,
     table_tests,
     interrupt_tests,
+    report_tests,
     type_tests,
     help_tests,
     version_tests,

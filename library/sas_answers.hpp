@@ -180,17 +180,18 @@ inline bool take_change(std::string_view &rest, Change &it) noexcept {
 
 // Adds a line to a cause.
 inline void add(Cause &to, std::string_view line) {
+    Fact fact;
     NamedStep step;
     Rule rule;
-    if (matches(line, "    since step ", step.number, " ", step.name)) {
+    if (matches(line, "    actual ", fact)) {
+        to.actual = fact;
+    } else if (matches(line, "    since step ", step.number, " ", step.name)) {
         to.since = step;
     } else if ((rule.is_firing = matches(line, "    rule ", rule.number, " derives ", rule.fact)) ||
                matches(line, "    rule ", rule.number, " requires ", rule.fact)) {
         to.rules.push_back(rule);
     } else if (line == "    no rule derives it") {
         to.no_rule = true;
-    } else {
-        matches(line, "    actual ", to.actual);
     }
 }
 
@@ -203,7 +204,7 @@ inline Cause *last_cause(Reasons &of) noexcept {
 }
 
 // Begins the cause of a fact.
-inline void begin(Reasons &to, Fact required) {
+inline void begin_cause(Reasons &to, Fact required) {
     Cause cause;
     cause.required = required;
     if (!to.goal_facts.empty()) {
@@ -234,7 +235,8 @@ inline void add(Reasons &to, std::string_view line, std::string_view verdict) {
     } else if (matches(line, "  operator ", it.op, " line ", it.line)) {
         to.operators.push_back({it.op, it.line, {}});
     } else if (matches(line, "  ", number, " of ", all, " ", it.name)) {
-        to.failing = number, to.total = all;
+        to.failing = number;
+        to.total = all;
     } else if (matches(line, "  goal fact ", number)) {
         to.goal_facts.push_back({number, {}});
     } else if (matches(line, "  metric ", cost.metric) || matches(line, "  steps ", cost.steps) ||
@@ -243,7 +245,7 @@ inline void add(Reasons &to, std::string_view line, std::string_view verdict) {
     } else if (matches(line, "  hint ", it.name)) {
         to.hint = it.name;
     } else if (matches(line, "    requires ", effect.fact)) {
-        begin(to, effect.fact);
+        begin_cause(to, effect.fact);
     } else if (Cause *cause = last_cause(to)) {
         add(*cause, line);
     }

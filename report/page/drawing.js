@@ -166,12 +166,14 @@ class Picture {
 
   // The labels of the rows, and what the goal requires of them.
   drawLabels(w, h) {
-    const { g, grid, run } = this, thin = Math.max(1, Math.ceil(13 / grid.high)), isWide = grid.labels >= 200;
+    const { g, grid, run } = this, isWide = grid.labels >= 200;
     const room = grid.labels - (isWide ? 88 : 24), sides = [[0, grid.labels, "Step"], [grid.right, grid.tail, run.goal.size ? "Goal" : ""]];
     for (const [x, wide] of sides) this.fill(g, "card", x, 0, wide, h);
-    for (const row of this.visible.filter(row => row % thin === 0)) {
-      const v = grid.rows[row], { name, label, quiet, layer, values } = this.variables[v];
-      const middle = grid.y(row) + Math.max(grid.high, 13) / 2;
+    for (let place = 0, next = -Infinity; place < this.visible.length; place++) {
+      const v = grid.rows[this.visible[place]], top = grid.y(this.visible[place]), middle = top + Math.max(grid.high, 13) / 2;
+      if (top < next) continue;
+      next = top + Math.min(grid.high, 12);
+      const { name, label, quiet, layer, values } = this.variables[v];
       const fails = !run.failing && run.missing.has(v), mark = run.failing ? "" : fails ? "✕ " : "✓ ";
       this.font(g, 11);
       if (isWide) this.write(g, "quiet", name, grid.labels - 10 - Math.min(56, g.measureText(name).width), middle, 56);

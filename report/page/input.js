@@ -5,7 +5,8 @@ class Page {
     this.runs = plans.map(plan => task && kindOf(plan) !== "refused" ? new Run(task, plan, names) : null);
     this.variables = task ? task.variables.map((it, v) => new Variable(it, v)) : [];
     this.prefixes = plans.map((_, i) => plans.length > 1 ? `plan-${i + 1}-` : "");
-    const keys = colour(this.variables, this.runs.filter(Boolean)), legend = ([text, c]) => make("span", "", make("span", "swatch c" + c), make("bdi", "", text));
+    const keys = colour(this.variables, this.runs.filter(Boolean));
+    const legend = ([text, c]) => make("span", "", make("span", "swatch c" + c), make("bdi", "", text));
     get("legend").prepend(...(keys.length > COLOURS ? ["More values than colours: colours repeat"] : keys.map(legend)));
     this.picture = new Picture(get("grid"), get("cost"));
     this.panels = new Panels(t => this.select(t), v => this.picture.fault(v));
@@ -69,12 +70,14 @@ class Page {
   // Chooses the rows of the timeline and their order.
   choose() {
     const { run, variables, picture } = this, words = get("rows").value.toLowerCase(), changes = v => run.changes(v) > 0;
-    const isMarked = v => run.missing.has(v) || run.clash.has(v), first = v => isMarked(v) ? -1 : changes(v) ? run.when[run.from[v]] : run.total + 1;
+    const isMarked = v => run.missing.has(v) || run.clash.has(v);
+    const first = v => isMarked(v) ? -1 : changes(v) ? run.when[run.from[v]] : run.total + 1;
     const which = { main: v => changes(v) || run.goal.has(v) || isMarked(v), changing: changes, goal: v => run.goal.has(v), all: () => true,
       derived: v => variables[v].layer >= 0 }[get("which").value];
     const order = { first, often: v => -run.changes(v), number: () => 0 }[get("order").value];
-    picture.grid.rows = variables.map((_, v) => v).filter(v => which(v) && variables[v].search.includes(words)).sort((a, b) => order(a) - order(b));
-    get("shown").textContent = `${group(picture.grid.rows.length)} of ${group(variables.length)} variables`;
+    const rows = variables.map((_, v) => v).filter(v => which(v) && variables[v].search.includes(words));
+    picture.grid.rows = rows.sort((a, b) => order(a) - order(b));
+    get("shown").textContent = `${group(rows.length)} of ${group(variables.length)} variables`;
     this.layout();
   }
 
@@ -95,7 +98,8 @@ class Page {
   }
 
   listen() {
-    const { picture, picture: { grid }, panels } = this, on = (it, kinds, act) => kinds.split(" ").forEach(kind => it.addEventListener(kind, act, { passive: false }));
+    const { picture, picture: { grid }, panels } = this;
+    const on = (it, kinds, act) => kinds.split(" ").forEach(kind => it.addEventListener(kind, act, { passive: false }));
     for (const id of ["rows", "which", "order"]) on(get(id), "input", () => this.choose());
     for (const id of ["filter", "only"]) on(get(id), "input", () => panels.filter());
     on(get("find"), "input", () => panels.search());
@@ -125,9 +129,11 @@ class Page {
 
   // Describes what is at a place of the timeline.
   about({ t, row, isGoal }) {
-    const { run } = this, v = this.picture.grid.rows[row], { label, name, values } = this.variables[v] || {};
-    const shown = v === undefined ? [] : isGoal ? run.goal.get(v) || [] : t >= 0 && t <= run.judged ? [run.value(v, t)] : [];
-    return [v === undefined ? "" : `${label} (${name})`, ...shown.map(k => values[k].name), t > 0 ? `step ${t}: ${run.name(t)}` : ""].join("\n");
+    const { run } = this, v = this.picture.grid.rows[row], step = t > 0 ? `step ${t}: ${run.name(t)}` : "";
+    if (v === undefined) return step;
+    const { label, name, values } = this.variables[v];
+    const shown = isGoal ? run.goal.get(v) || [] : t >= 0 && t <= run.judged ? [run.value(v, t)] : [];
+    return [`${label} (${name})`, ...shown.map(k => values[k].name), step].join("\n");
   }
 
   key(event) {
@@ -136,7 +142,8 @@ class Page {
     if (!this.run || event.ctrlKey || event.metaKey || event.altKey || isTyping) return;
     const down = event.target === get("steps") ? { ArrowUp: -1, ArrowDown: 1 }[event.key] : 0, at = found ? found.indexOf(selected) : -1;
     const move = down || { ArrowLeft: -1, ArrowRight: 1, PageUp: -10, PageDown: 10, Home: -Infinity, End: Infinity }[event.key];
-    const act = { "/": () => get("find").focus(), f: () => this.fit(), "+": () => this.zoom(grid.wide * 1.5), "-": () => this.zoom(grid.wide / 1.5) }[event.key];
+    const zoom = { "+": 1.5, "-": 1 / 1.5 }[event.key];
+    const act = zoom ? () => this.zoom(grid.wide * zoom) : { "/": () => get("find").focus(), f: () => this.fit() }[event.key];
     if (!move && !act) return;
     if (act) act(); else this.select(down && at >= 0 ? found[clamp(at + down, 0, found.length - 1)] : selected + move);
     event.preventDefault();
@@ -148,11 +155,16 @@ class Page {
     const { picture, picture: { grid }, panels } = this, style = get("grid").style;
     document.documentElement.classList.toggle("printing", isOn);
     if (isOn) this.screen = [style.height, grid.wide, grid.high];
-    [style.height, grid.across.size, grid.down.size] = isOn ? [HEAD + 4 + Math.min(46, grid.rows.length) * USUAL + "px", 0, USUAL] : this.screen;
+    const paper = [HEAD + 4 + Math.min(46, grid.rows.length) * USUAL + "px", 0, USUAL];
+    [style.height, grid.across.size, grid.down.size] = isOn ? paper : this.screen;
     panels.steps.isPrinted = panels.values.isPrinted = isOn;
     picture.theme();
-    for (const draw of [() => picture.layout(), () => picture.draw(), () => panels.steps.draw(), () => panels.values.draw()]) draw();
+    picture.layout();
+    picture.draw();
+    panels.steps.draw();
+    panels.values.draw();
   }
 }
 
-unpacked(get("data").textContent).then(data => new Page(data)).catch(fault => get("trouble").append("This browser can’t show the timeline: " + fault));
+unpacked(get("data").textContent).then(data => new Page(data))
+  .catch(fault => get("trouble").append("This browser can’t show the timeline: " + fault));

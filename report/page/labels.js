@@ -27,13 +27,15 @@ class Variable {
 
   // Calls each atom by what isn't common to all, unless two would look the same, as do `link(a, b)` and `link(b, a)`.
   apart(names, atoms, parts) {
-    const heads = [...new Set(parts.map(([head]) => head))], common = parts[0][1].filter(it => parts.every(([, them]) => them.includes(it)));
+    const heads = [...new Set(parts.map(([head]) => head))];
+    const common = parts[0][1].filter(it => parts.every(([, them]) => them.includes(it)));
     const others = parts.map(([, them]) => them.filter(it => !common.includes(it)).join(", "));
     const shorts = parts.map(([head], i) => heads.length === 1 ? others[i] || head : `${head} ${others[i]}`.trim());
     if (new Set(shorts).size < shorts.length) return names.map(it => [it, it]);
     if (heads.length === 1) this.label = `${heads[0]}(${parts[0][1].map(it => common.includes(it) ? it : "·").join(", ")})`;
     else [this.label, this.quiet] = common.length ? [common.join(", "), heads.join(" / ")] : [heads.join(" / "), ""];
-    const keys = parts.map(([head], i) => others[i] || head), pairs = shorts.map((it, i) => [it, new Set(keys).size < keys.length ? it : keys[i]]);
+    const keys = parts.map(([head], i) => others[i] || head), isKey = new Set(keys).size === keys.length;
+    const pairs = shorts.map((it, i) => [it, isKey ? keys[i] : it]);
     return atoms.map(it => it && !it[1] ? pairs.shift() : ["none", "none"]);
   }
 }
@@ -41,8 +43,8 @@ class Variable {
 // Gives each key a colour, the same in all rows. The most common keys have their own, and keys that follow each other differ while that
 // can be. Returns a name of each key with its colour.
 function colour(variables, runs) {
-  const values = variables.flatMap(it => Object.values(it.values)), found = new Map(Object.entries(QUIET)), uses = Array(COLOURS + 1).fill(0);
-  const keys = new Map();
+  const values = variables.flatMap(it => Object.values(it.values)), keys = new Map();
+  const found = new Map(Object.entries(QUIET)), uses = Array(COLOURS + 1).fill(0);
   for (const { key, short } of values) {
     if (!keys.has(key) && !found.has(key)) keys.set(key, { key, shorts: new Set(), count: 0, beside: new Set() });
     if (!found.has(key)) keys.get(key).shorts.add(short);

@@ -15,11 +15,12 @@ class Panels {
   }
 
   step(t) {
-    const { run } = this, isOn = t === this.selected, isFailing = t && t === run.failing, kind = isFailing ? " failing" : t > run.judged ? " rest" : "";
-    const row = make("div", "row" + kind + (isOn ? " on" : ""), make("span", "number", (isFailing ? "✕ " : "") + group(t)),
-      make("bdi", t ? "name" : "quiet", run.name(t)), t && t <= run.judged && run.task.counts.metric ? make("span", "quiet", "+" + group(run.operator(t)[1])) : "");
-    Object.assign(row, { id: "row-" + t, role: "option", ariaSelected: isOn, ariaSetSize: run.total + 1, ariaPosInSet: t + 1, onclick: () => this.select(t) });
-    return row;
+    const { run } = this, isFailing = t && t === run.failing, isCosted = t && t <= run.judged && run.task.counts.metric;
+    const kind = (isFailing ? " failing" : t > run.judged ? " rest" : "") + (t === this.selected ? " on" : "");
+    const row = make("div", "row" + kind, make("span", "number", (isFailing ? "✕ " : "") + group(t)),
+      make("bdi", t ? "name" : "quiet", run.name(t)), isCosted ? make("span", "quiet", "+" + group(run.operator(t)[1])) : "");
+    const aria = { role: "option", ariaSelected: t === this.selected, ariaSetSize: run.total + 1, ariaPosInSet: t + 1 };
+    return Object.assign(row, aria, { id: "row-" + t, onclick: () => this.select(t) });
   }
 
   // Keeps the steps whose name has the words of the search.
@@ -49,7 +50,8 @@ class Panels {
   // The colour and the name of a value.
   fact(v, k, kind = "", text = "short") {
     const value = this.variables[v].values[k];
-    return Object.assign(make("span", "name " + kind, make("span", "swatch c" + value.colour), make("bdi", "", value[text])), { title: value.name });
+    const it = make("span", "name " + kind, make("span", "swatch c" + value.colour), make("bdi", "", value[text]));
+    return Object.assign(it, { title: value.name });
   }
 
   // What the selected step requires and changes; at most so many facts of each.
@@ -67,28 +69,31 @@ class Panels {
   explain(t, most) {
     const { run } = this, [number, cost, , requires] = run.operator(t), layer = k => Math.sign(this.variables[run.variable[k]].layer);
     const changes = Array.from({ length: run.at[t + 1] - run.at[t] }, (_, i) => run.at[t] + i).sort((a, b) => layer(a) - layer(b));
-    const since = step => step ? linkTo(`${this.prefix}step-${step}`, "since step " + group(step)) : make("span", "quiet", "from the start");
-    const required = ([v, k]) => make("div", "fact", this.fact(v, k, "", "name"), since(run.since(v, t - 1)));
+    const link = step => step ? linkTo(`${this.prefix}step-${step}`, "since step " + group(step)) : "from the start";
+    const required = ([v, k]) => make("div", "fact", this.fact(v, k, "", "name"), make("span", "quiet", link(run.since(v, t - 1))));
     const changed = k => make("div", "change", this.label(run.variable[k]), this.fact(run.variable[k], run.old[k], "old", "name"),
       make("span", "quiet", "→"), this.fact(run.variable[k], run.fresh[k], "new", "name"));
-    const more = Object.assign(make("button", "", "Show all"), { onclick: () => this.describe(Infinity), hidden: changes.length + requires.length <= most });
+    const more = Object.assign(make("button", "", "Show all"), { onclick: () => this.describe(Infinity) });
+    more.hidden = Math.max(changes.length, requires.length) <= most;
     return [make("p", "quiet", `operator ${group(number)} · cost ${group(cost)}, ${group(run.cost[t])} so far`),
       make("h4", "", requires.length ? "Requires" : "Requires nothing"), ...requires.slice(0, most).map(required),
       make("h4", "", changes.length ? "Changes" : "Changes nothing"), ...changes.slice(0, most).map(changed), more];
   }
 
   value(v) {
-    const { run } = this, t = this.selected, now = run.value(v, t), old = run.value(v, Math.max(0, t - 1)), fault = t && t === run.failing ? this.fault(v) : "";
-    const isChanged = now !== old && t <= run.judged, before = fault ? [make("bdi", "name", fault)] : isChanged ? [this.fact(v, old, "old"), "→"] : [];
-    const row = make("div", "row" + (fault ? " failing" : isChanged ? " changed" : ""), this.label(v), ...before, this.fact(v, now, "after"));
-    return Object.assign(row, { role: "listitem", title: this.variables[v].name });
+    const { run } = this, t = this.selected, now = run.value(v, t), old = run.value(v, Math.max(0, t - 1));
+    const fault = t && t === run.failing ? this.fault(v) : "", isChanged = now !== old && t <= run.judged;
+    const before = fault ? [make("bdi", "name", fault)] : isChanged ? [this.fact(v, old, "old"), "→"] : [];
+    const kind = fault ? " failing" : isChanged ? " changed" : "", title = this.variables[v].name;
+    return Object.assign(make("div", "row" + kind, this.label(v), ...before, this.fact(v, now, "after")), { role: "listitem", title });
   }
 
   // Keeps the variables that have the words of the filter in their names or values.
   filter() {
     const { run, variables } = this, words = get("filter").value.toLowerCase(), t = this.selected, isJudged = t && t <= run.judged;
     const some = get("only").checked && isJudged ? [...run.variable.slice(run.at[t], run.at[t + 1])] : variables.map((_, v) => v);
-    this.shown = some.filter(v => !words || (variables[v].search + "\n" + variables[v].values[run.value(v, t)].name.toLowerCase()).includes(words));
+    const has = v => (variables[v].search + "\n" + variables[v].values[run.value(v, t)].name.toLowerCase()).includes(words);
+    this.shown = words ? some.filter(has) : some;
     get("matched").textContent = (this.shown.length < variables.length ? group(this.shown.length) + " of " : "") + group(variables.length);
     this.values.count = this.shown.length;
     this.values.draw();

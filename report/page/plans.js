@@ -6,9 +6,9 @@ const kindOf = plan => /^\w+ (\w+)/.exec(plan.answer[0])[1];
 class Overview {
   constructor(plans, runs) {
     Object.assign(this, { runs, list: new List(get("compared"), k => this.row(k)) });
-    const cells = (plan, run) => [MARKS[kindOf(plan)] + plan.answer[0], run ? group(run.total) : "–", run && !run.failing ? group(run.cost[run.judged]) : "–"];
-    get("listed").append(...plans.map((plan, i) => make("tr", kindOf(plan), make("td", "", linkTo(`plan-${i + 1}`, make("bdi", "", plan.label))),
-      ...cells(plan, runs[i]).map(text => make("td", "", text)))));
+    const numbers = run => run ? [group(run.total), run.failing ? "–" : group(run.cost[run.judged])] : ["–", "–"];
+    const cells = (plan, i) => [linkTo(`plan-${i + 1}`, make("bdi", "", plan.label)), MARKS[kindOf(plan)] + plan.answer[0], ...numbers(runs[i])];
+    get("listed").append(...plans.map((plan, i) => make("tr", kindOf(plan), ...cells(plan, i).map(it => make("td", "", it)))));
     const known = [...plans.keys()].filter(i => runs[i]);
     get("compare").hidden = known.length < 2;
     for (const [place, id] of ["one", "other"].entries()) {
@@ -35,7 +35,8 @@ class Overview {
   row(k) {
     const isBack = k >= this.end, cells = this.pair.map(([run, plan]) => {
       const t = k + 1 + (isBack ? run.total - this.list.count : 0), isThere = isBack || t <= run.total - (this.list.count - this.end);
-      return isThere ? linkTo(`plan-${plan}-step-${t}`, make("span", "number", group(t)), make("bdi", "name", run.name(t))) : make("span", "");
+      const step = [make("span", "number", group(t)), make("bdi", "name", run.name(t))];
+      return isThere ? linkTo(`plan-${plan}-step-${t}`, ...step) : make("span", "");
     });
     return make("div", "row" + (k < this.front || isBack ? "" : " changed"), ...cells);
   }

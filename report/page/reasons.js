@@ -1,7 +1,9 @@
 // Reasons: the lines of `--why` as a table, with a row for each fact that fails, and derivations as trees.
 
-const FACT = /^(requires|actual|old value|default value|(?:effect|condition|rule) \d+(?: line \d+)? (?:sets|requires|derives)) (\d+) (\d+) (.*)$/s;
-const OTHER = /^((?:operator|similar operator|number|line) \d+|at|expected|found|unfinished|hint|metric|steps|sum of cost lines|on layer) (.*)$/s;
+const NUMBERED = "(?:effect|condition|rule) \\d+(?: line \\d+)? (?:sets|requires|derives)";
+const FACT = new RegExp(`^(requires|actual|old value|default value|${NUMBERED}) (\\d+) (\\d+) (.*)$`, "s");
+const PLACES = "(?:operator|similar operator|number|line) \\d+|at|expected|found|unfinished|hint|metric|steps|sum of cost lines|on layer";
+const OTHER = new RegExp(`^(${PLACES}) (.*)$`, "s");
 const DERIVES = /^ +rule (\d+) derives (\d+ \d+) /;
 
 class Reasons {

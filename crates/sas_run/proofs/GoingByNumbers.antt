@@ -10,6 +10,14 @@ module _ (p : Parts) where
   go_one_more s [] mid operator next goes exists step = (next, exists, subst (λ z. Step p z (operator_at p operator) next) goes step, refl)
   go_one_more s (o ∷ os) mid operator next (there, its, by, rest) exists step = (there, its, by, go_one_more there os mid operator next rest exists step)
 
+  pub goes_one_more : (operators mid : List ℕ) (operator : ℕ) (next : List ℕ) → GoesThrough p operators mid → operator < length p.operators → Step p mid (operator_at p operator) next
+      → GoesThrough p (operators ++ operator ∷ []) next
+  goes_one_more operators mid operator next through exists step = record {
+    initial = through.initial;
+    starts = through.starts;
+    goes = go_one_more through.initial operators mid operator next through.goes exists step;
+  }
+
   -- the operators exist
   go_by : (s operators last : List ℕ) → GoThrough p s operators last → All (λ (o : ℕ). o < length p.operators) operators
   go_by s [] last goes = All-nil (λ (o : ℕ). o < length p.operators)
@@ -140,10 +148,6 @@ module _ (p : Parts) where
 
       pub makes_one_more : Makes p Means more next
       makes_one_more = record {
-        through = record {
-          initial = makes.through.initial;
-          starts = makes.through.starts;
-          goes = go_one_more makes.through.initial operators s operator next makes.through.goes exists step;
-        };
+        through = goes_one_more operators s operator next makes.through exists step;
         each = each;
       }

@@ -62,7 +62,7 @@ pub use Rattle.sas_run.specs.Choosers.{AreLowest, IsNumberChoice, Makes, EndsSte
 pub use Rattle.sas_run.specs.Deletions.{DeletedHasRoom, NotesOn}
 pub use Rattle.sas_run.specs.Executions.{Executed, next_name, next_operator, Executes, IsFound, Advances, executed_of, IsExecuting}
 pub use Rattle.sas_run.specs.Given.{given_to, Replaces, value_after, NothingGiven, IsGiven, IsGivenTo, GivesValue, GivesOther}
-pub use Rattle.sas_run.specs.Laws.{AreChosen, ValidByNumbers, NumbersHaveNoFault, LeadsToReachable, LastIsReachable, SomeVerdict, ValidHasNoFault, ValidIsOne, FaultIsOne, SomeRun, OneRun}
+pub use Rattle.sas_run.specs.Laws.{AreChosen, ValidByNumbers, SomeVerdictByNumbers, NumbersHaveNoFault, FaultByNumbersIsOne, LeadsToReachable, LastIsReachable, SomeVerdict, ValidHasNoFault, ValidIsOne, FaultIsOne, SomeRun, OneRun}
 pub use Rattle.sas_run.specs.Likely.{IsLikely, AreLikely}
 unfoldable pub use Rattle.sas_run.specs.NameDigest.{digest_of}
 pub use Rattle.sas_run.specs.NameTable.{value_of, AreNames, other_of, own_else, first_else, likely_of, operator_names, AreMappedFrom, AreNamesFrom, Exist, IsEmptyTable, PutsName, PutsDigest, PutsOther}

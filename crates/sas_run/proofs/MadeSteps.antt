@@ -18,8 +18,8 @@ module _ (p : Parts) (plan : PlanParts) (lowest : List ℕ) (firsts : AreFirsts 
     leads : LeadsTo p (take made plan.steps) operators s
     leads = leads_by_numbers p (take made plan.steps) operators s (sym (length-take-le made plan.steps (omega (arith, firsts.within, within))))
         (λ step there lt through.
-          let name = name_of step (omega (arith, lt, within)) ∙ sym (get_or-take made plan.steps step [] lt) in
-          subst (λ its. IsChosen p there its (get_or operators step 0)) name (makes.each step there lt through))
+        let name = name_of step (omega (arith, lt, within)) ∙ sym (get_or-take made plan.steps step [] lt) in
+        subst (λ its. IsChosen p there its (get_or operators step 0)) name (makes.each step there lt through))
         makes.through
 
   -- one of them fails

@@ -70,7 +70,18 @@ ValidByNumbers = (p : Parts) (plan : PlanParts) (operators : List ℕ) → IsLay
     → IsValid p plan operators
     ↔ (AreChosen p plan.steps operators × IsValidByNumbers p operators plan.cost)
 
--- operators that are a valid plan by numbers have no fault
+-- by numbers, too, a plan is valid or has a fault
+abbrev pub SomeVerdictByNumbers : Type 0
+SomeVerdictByNumbers = (p : Parts) (operators : List ℕ) (cost : ℕ) → WellRanged p → IsLayered p
+    → IsValidByNumbers p operators cost
+    ⊎ ((fault : PlanFault) × IsFaultByNumbers p operators cost fault)
+
+-- not both
 abbrev pub NumbersHaveNoFault : Type 0
 NumbersHaveNoFault = (p : Parts) (operators : List ℕ) (cost : ℕ) (fault : PlanFault) → IsLayered p
     → IsValidByNumbers p operators cost → IsFaultByNumbers p operators cost fault → ⊥
+
+-- and at most one fault
+abbrev pub FaultByNumbersIsOne : Type 0
+FaultByNumbersIsOne = (p : Parts) (operators : List ℕ) (cost : ℕ) (a b : PlanFault) → IsLayered p
+    → IsFaultByNumbers p operators cost a → IsFaultByNumbers p operators cost b → a ≡ b

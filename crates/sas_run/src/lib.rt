@@ -26,7 +26,7 @@ mod steps;
 pub use chains::next_in;
 pub use choosers::{Chooser, NumberedPlan};
 pub use execution::Execution;
-pub use laws::verdict_laws;
+pub use laws::{number_laws, verdict_laws};
 pub use loaded_task::LoadedTask;
 pub use looking_up::first_operators;
 pub use names::{NamedTask, Names};

@@ -25,7 +25,7 @@ def main(words: Sequence[str]) -> int:
     if command == "table":
         return int(importlib.import_module("sas._table").main(rest))
     if command == "report":
-        return int(importlib.import_module("sas.report.command").main(rest, importlib.import_module("sas")))
+        return int(importlib.import_module("sas.report.command").main(list(rest), importlib.import_module("sas")))
     write_error(f"sas {__version__}" if command == "--version" else str(__doc__).rstrip())
     return INVALID_ARGUMENTS
 

@@ -90,7 +90,7 @@ class Answer(NamedTuple):
 
     @property
     def cost(self) -> Optional[int]:
-        """The cost that the plan states, if the answer is `plan valid: S steps, cost C` or `plan invalid: cost is SUM, not C`, else None."""
+        """The plan's cost, if the answer is `plan valid: S steps, cost C` or `plan invalid: cost is SUM, not C`, else None."""
         return self._number(_COST)
 
     @property

@@ -4,6 +4,7 @@ from __future__ import annotations
 import array
 import ctypes
 import mmap
+import operator
 import os
 from typing import Any, Callable, Iterable, Tuple, Union
 
@@ -97,7 +98,7 @@ def given_cost(cost: int) -> int:
     """Returns a cost as a call takes it, which has 64 bits."""
     if not 0 <= cost < 1 << 64:
         raise OverflowError("the cost of a plan has at most 64 bits, and no sign")
-    return cost
+    return operator.index(cost)
 
 
 def answer_of(call: Callable[..., int], *inputs: Any, room: int = LINE_ROOM) -> Answer:

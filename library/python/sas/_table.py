@@ -12,7 +12,7 @@ import signal
 import stat
 import sys
 import time
-from contextlib import closing
+from contextlib import closing, suppress
 from functools import partial
 from typing import Any, Dict, Iterable, Iterator, List, NamedTuple, Optional, Sequence, Tuple
 
@@ -201,7 +201,7 @@ def _row(task: str, plan: str, answer: Answer) -> Row:
     row: Row = {"task": task, "plan": plan, "verdict": str(answer.verdict), "reason": answer.reason}
     row["refused_file"] = answer.refused_file and str(answer.refused_file)
     row["steps"], row["cost"] = answer.steps, answer.cost if answer else None
-    row["reasons"] = answer.reasons and b"\n".join(answer.reasons.lines).decode(errors="backslashreplace")
+    row["reasons"] = answer.reasons and str(answer.reasons)
     return row
 
 
@@ -242,10 +242,14 @@ class _Progress:
 
     def show(self, count: int) -> None:
         now = time.monotonic()
-        if self._is_shown and now - self._last >= _OFTEN:
-            os.write(2, f"\r{count} of {self._total} plans".encode())
+        if now - self._last >= _OFTEN:
+            self._write(f"\r{count} of {self._total} plans")
             self._last = now
 
     def clear(self) -> None:
+        self._write("\r\x1b[K")
+
+    def _write(self, text: str) -> None:
         if self._is_shown:
-            os.write(2, b"\r\x1b[K")
+            with suppress(OSError):
+                os.write(2, text.encode())

@@ -3,9 +3,12 @@ import re
 from typing import Iterator, List, NamedTuple, Optional, Tuple
 
 
+_CONTROL = re.compile(r"[\x00-\x09\x0b-\x1f\x7f]")
+
+
 def readable(text: bytes) -> str:
-    """Returns bytes as text. What isn't UTF-8 is replaced."""
-    return text.decode(errors="replace")
+    """Returns bytes as text. What isn't UTF-8, and control characters but LF, are `\\xHH`."""
+    return _CONTROL.sub(lambda it: f"\\x{ord(it[0]):02x}", text.decode(errors="backslashreplace"))
 
 
 class Fact(NamedTuple):
@@ -152,10 +155,10 @@ class CouldAlsoBe(NamedTuple):
 
 
 class Reasons(NamedTuple):
-    """The reasons for a no. Which of the attributes are set depends on the verdict, and the others are None or empty.
+    """The reasons for a no. Which of the attributes are set depends on the verdict, and the others are None or empty. If a file is refused,
+    only the hint and the text are.
 
     Attributes:
-        lines: The lines that `--why` adds, in bytes, without the two spaces in front.
         step: The step that fails.
         similar_operator: An operator that may be meant, if no operator has the step's name.
         operators: The operators of the step's name, if none is applicable.
@@ -165,9 +168,9 @@ class Reasons(NamedTuple):
         cost: What the cost is made of, if it isn't that of the plan.
         could_also_be: Where the plan may mean another operator.
         hint: What may be the mistake.
+        text: All lines of the reasons, in bytes. A later version may have others than those above.
     """
 
-    lines: Tuple[bytes, ...]
     step: Optional[NamedStep] = None
     similar_operator: Optional[SimilarOperator] = None
     operators: Tuple[BlockedOperator, ...] = ()
@@ -178,15 +181,15 @@ class Reasons(NamedTuple):
     cost: Optional[CostFacts] = None
     could_also_be: Optional[CouldAlsoBe] = None
     hint: Optional[str] = None
+    text: bytes = b""
 
     def __str__(self) -> str:
-        return readable(b"\n".join(self.lines))
+        return readable(self.text[:-1])
 
 
 _INITIAL = re.compile(rb"initial (\d+) (\d+) (.*)\n")
 _STEP = re.compile(rb"^step \d+ (\d+) (\d+) (.*)\n((?:change .*\n)*)", re.MULTILINE)
 _CHANGE = re.compile(rb"^change (\d+) (\d+) (\d+) (.*)$", re.MULTILINE)
-# A name may look like the line that says what a step could also be. So the first line about a step is never taken for that one.
 _FAILING_STEP = re.compile(rb"  step (\d+) (.*)\n")
 _SIMILAR = re.compile(rb"^  similar operator (\d+) line (\d+) (.*)$", re.MULTILINE)
 _COUNTS = re.compile(rb"^  (\d+) of (\d+) ", re.MULTILINE)
@@ -194,11 +197,11 @@ _OPERATOR = re.compile(rb"^  operator (\d+) line (\d+)\n((?:    .*\n)*)", re.MUL
 _GOAL_FACT = re.compile(rb"^  goal fact (\d+)\n((?:    .*\n)*)", re.MULTILINE)
 _EFFECT = re.compile(rb"^    effect (\d+) sets (\d+) (\d+) (.*)$", re.MULTILINE)
 _COST = re.compile(rb"^  metric (\d+)\n  steps (\d+)\n  sum of cost lines (\d+)$", re.MULTILINE)
-_COULD_ALSO_BE = re.compile(rb"^  step (\d+) could also be operator (\d+)\n\Z", re.MULTILINE)
+_COULD_ALSO_BE = re.compile(rb"^  step (\d+) could also be operator (\d+)$", re.MULTILINE)
 _HINT = re.compile(rb"^  hint (.*)$", re.MULTILINE)
 _CAUSE = re.compile(
     rb"^    requires (\d+) (\d+) (.*)\n    actual (\d+) (\d+) (.*)\n    since (?:step (\d+) (.*)|the initial state)\n"
-    rb"((?:    rule .*\n)*(    no rule derives it\n)?)",
+    rb"((?:    (?!requires ).*\n)*)",
     re.MULTILINE,
 )
 _RULE = re.compile(rb"^    rule (\d+) (derives|requires) (\d+) (\d+) (.*)$", re.MULTILINE)
@@ -224,27 +227,28 @@ def reasons_of(text: bytes) -> Optional[Reasons]:
     verdict, _, rest = text.partition(b"\n")
     if not rest.startswith(b"  ") or not verdict.startswith((b"plan ", b"task ")):
         return None
-    lines = tuple(line[2:] for line in rest[:-1].split(b"\n"))
-    hint = _HINT.search(rest)
-    said = readable(hint[1]) if hint else None
+    found = _HINT.search(rest)
+    hint = readable(found[1]) if found else None
     if not verdict.startswith(b"plan invalid: "):
-        return Reasons(lines, hint=said)
+        return Reasons(hint=hint, text=rest)
     step = _FAILING_STEP.match(rest) if verdict.startswith(b"plan invalid: step ") else None
-    similar, counts, cost, other = (it.search(rest) for it in (_SIMILAR, _COUNTS, _COST, _COULD_ALSO_BE))
+    similar, counts, cost = (it.search(rest) for it in (_SIMILAR, _COUNTS, _COST))
+    # the name of the failing step may look like this line
+    other = _COULD_ALSO_BE.search(rest, step.end() if step else 0)
     operators = _OPERATOR.findall(rest)
     conflicts = verdict.endswith(b": conflicting effects")
     return Reasons(
-        lines,
         step=NamedStep(int(step[1]), step[2]) if step else None,
         similar_operator=SimilarOperator(int(similar[1]), int(similar[2]), similar[3]) if similar else None,
         operators=() if conflicts else tuple(BlockedOperator(int(it), int(line), _causes(block)) for it, line, block in operators),
-        goal_facts=tuple(GoalFact(int(index), _causes(block)[0]) for index, block in _GOAL_FACT.findall(rest)),
+        goal_facts=tuple(GoalFact(int(index), cause) for index, block in _GOAL_FACT.findall(rest) for cause in _causes(block)),
         failing=int(counts[1]) if counts else None,
         total=int(counts[2]) if counts else None,
-        conflict=_conflict(*operators[0]) if conflicts else None,
+        conflict=_conflict(*operators[0]) if conflicts and operators else None,
         cost=CostFacts(int(cost[1]), int(cost[2]), int(cost[3])) if cost else None,
         could_also_be=CouldAlsoBe(int(other[1]), int(other[2])) if other else None,
-        hint=said,
+        hint=hint,
+        text=rest,
     )
 
 
@@ -256,7 +260,7 @@ def _causes(block: bytes) -> Tuple[Cause, ...]:
             Fact(int(it[4]), int(it[5]), it[6]),
             NamedStep(int(it[7]), it[8]) if it[7] else None,
             tuple(_rules(it[9])),
-            bool(it[10]),
+            b"    no rule derives it\n" in it[9],
         )
         for it in _CAUSE.finditer(block)
     )
