@@ -104,11 +104,10 @@ enum sas_number sas_task_plan_why(sas_task *task, const uint8_t *plan, size_t pl
 enum sas_number sas_task_trace(sas_task *task, const uint8_t *plan, size_t plan_length,
                                uint8_t *room, size_t room_length, size_t *size);
 
-/* Whether the operators with these numbers, in this order, solve the task that is held at this cost. There are `count`
-   numbers, from 0 in the order of the task file. No name is looked up, so operators of one name are told apart. The answer
-   is a line as of sas_task_plan. If no operator has the number of a step, it is `plan invalid: step S: no operator of that
-   number`. It fits in SAS_LINE_ROOM bytes. The task is still held, whatever the call returns. If no task is held, that is
-   SAS_NO_TASK. */
+/* Whether these operators, in this order, solve the task that is held at this cost. `operators` has `count` numbers,
+   from 0 in the order of the task file. No name is looked up, so operators of one name are told apart. The answer is a
+   line that fits in SAS_LINE_ROOM bytes: one of those of sas_task_plan, or `plan invalid: step S: no operator of that
+   number`. The task is still held in any case. If no task is held, the call returns SAS_NO_TASK. */
 enum sas_number sas_task_plan_operators(sas_task *task, const uint32_t *operators, size_t count, uint64_t cost,
                                         uint8_t *room, size_t room_length, size_t *size);
 
