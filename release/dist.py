@@ -35,7 +35,7 @@ GATE = f"{TOP}/gate.log"
 # the C code of a program for another platform than the native one
 IN_C = ("release/process.c", "library/sas_memory.c")
 # documents that describe the source; a release has the others
-OF_SOURCE = ("ARCHITECTURE", "CONTRIBUTING", "DECISIONS", "PROMISES", "READING", "SPEED")
+OF_SOURCE = ("ARCHITECTURE", "CONTRIBUTING", "DECISIONS", "PROMISES", "RATTLE", "READING", "SPEED")
 # what stands between these lines of a document is about the source, and left out of a release
 ONLY_SOURCE = re.compile(rb"<!-- of the source -->\n.*?<!-- end of the source -->\n", re.DOTALL)
 PACKED = (
