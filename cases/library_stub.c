@@ -40,18 +40,16 @@ OVER_HELD(sas_task_plan)
 OVER_HELD(sas_task_plan_why)
 OVER_HELD(sas_task_trace)
 
+enum sas_number sas_task_plan_operators(sas_task *held, const uint32_t *operators, size_t count, uint64_t cost,
+                                        uint8_t *room, size_t room_length, size_t *size) {
+    (void)held, (void)operators, (void)count, (void)cost, (void)room, (void)room_length;
+    return number(size);
+}
+
 const char *sas_version(void) {
     return SAS_VERSION;
 }
 
 void sas_task_free(sas_task *held) {
     (void)held;
-}
-
-enum sas_number sas_task_plan_operators(sas_task *held, const uint32_t *operators, size_t count, uint64_t cost,
-                                        uint8_t *room, size_t room_length, size_t *size);
-enum sas_number sas_task_plan_operators(sas_task *held, const uint32_t *operators, size_t count, uint64_t cost,
-                                        uint8_t *room, size_t room_length, size_t *size) {
-    (void)held, (void)operators, (void)count, (void)cost, (void)room, (void)room_length;
-    return number(size);
 }
