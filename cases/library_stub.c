@@ -53,11 +53,3 @@ const char *sas_version(void) {
 void sas_task_free(sas_task *held) {
     (void)held;
 }
-
-enum sas_number sas_task_plan_operators(sas_task *held, const uint32_t *operators, size_t count, uint64_t cost,
-                                        uint8_t *room, size_t room_length, size_t *size);
-enum sas_number sas_task_plan_operators(sas_task *held, const uint32_t *operators, size_t count, uint64_t cost,
-                                        uint8_t *room, size_t room_length, size_t *size) {
-    (void)held, (void)operators, (void)count, (void)cost, (void)room, (void)room_length;
-    return number(size);
-}
