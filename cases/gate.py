@@ -5,9 +5,9 @@
 kept. Then docs/READING.md is held against the definitions, docs/PROMISES.md against contracts and edits, pages and completions against the
 program, the commands that documents show are run, those for clusters with GNU parallel and Slurm too, each allocation is refused in turn,
 the calls of the crates are made, the program is run, with closed streams too, the library is built, called, and used by way of CMake,
-pkg-config, cargo and pip, and a release is packed and tried. The last line is 'N passed, M failed' of all together, and the exit status
-is 0 exactly if M is 0. A command that doesn't end as its own last line says counts as one failure. gate.log keeps the last line for
-releases, with the commit and the toolchain.
+pkg-config, cargo and pip, a release is packed and tried, and reports are opened in browsers. The last line is 'N passed, M failed' of all
+together, and the exit status is 0 exactly if M is 0. A command that doesn't end as its own last line says counts as one failure. gate.log
+keeps the last line for releases, with the commit and the toolchain.
 """
 import functools
 import glob
@@ -40,6 +40,7 @@ CASES = [
         ["cases/shown.py", "sas"],
         ["cases/cluster.py", "sas"],
         ["cases/patterns.py"],
+        ["cases/report_pages.py", "sas"],
     ],
 ]
 RECORD = "gate.log"
