@@ -25,7 +25,7 @@ import report
 import run
 from pages import is_there
 from release import TOP, bytes_of, differs, ended, is_static, pack, packing_tests
-from texts import as_bytes, table
+from texts import as_bytes
 
 sys.path.insert(0, TOP)
 import build as proving  # the file at the top
@@ -46,7 +46,8 @@ def build_tests():
     """Yields the two crates, proved for ARM over the libraries that were proved last, and built."""
     for crate in ("sas", "sas_c"):
         if not proving.is_built(crate, PLATFORM):
-            built = proving.build(crate, proving.proved_below(crate), os.cpu_count(), PLATFORM)
+            # one processor takes the least memory, and the other cases run beside this
+            built = proving.build(crate, proving.proved_below(crate), 1, PLATFORM)
             yield f"{crate} is proved and built", [built.stdout[-1000:]] if built.returncode else []
 
 
@@ -82,24 +83,24 @@ def compiled(source, place, *words):
 
 
 def example_tests(released, sas, place):
-    """Yields the example of the library in C, with each of the two libraries, over the tasks and plans of run.py: it prints what the program
-    for this machine does. They could show a call that is wrong on the other processor."""
+    """Yields the example of the library in C over some of the tasks and plans of run.py, with each of the two libraries: it prints what
+    the program for this machine does. They could show a call that is wrong on the other processor."""
     out = os.path.join(released, "library/out")
-    for name, words in (("libsas.a", ["-static"]), ("libsas.so.1", [f"-Wl,-rpath,{out}"])):
+    cases = [it for it in (*run.verdict_cases(), *run.why_cases()) if it.get("files", {}).keys() == {"t.sas", "p.txt"}]
+    for name, words, one_of in (("libsas.a", ["-static"], ONE_OF), ("libsas.so.1", [f"-Wl,-rpath,{out}"], 10 * ONE_OF)):
         held = compiled("library/examples/held.c", place, "-I", out, *words, os.path.join(out, name))
-        cases = [it for tables in ("verdicts.json", "why.json") for it in table(tables) if "task" in it and "plan" in it]
         with ThreadPoolExecutor(os.cpu_count()) as pool:
-            wrong = list(pool.map(lambda it: wrong_held(held, sas, it), cases))
-        yield from ((f"held.c with {name}: {it['name']}", found) for it, found in zip(cases, wrong, strict=True))
+            wrong = list(pool.map(lambda it: wrong_held(held, sas, it), cases[::one_of]))
+        yield from ((f"held.c with {name}: {it['name']}", found) for it, found in zip(cases[::one_of], wrong, strict=True))
 
 
 def wrong_held(held, sas, case):
-    """Returns what is wrong with what the example prints of a case."""
+    """Returns what is wrong with what the example prints of the files of a case."""
     with tempfile.TemporaryDirectory() as place:
-        files = [os.path.join(place, it) for it in ("task", "plan")]
-        for path, text in zip(files, (case["task"], case["plan"])):
+        files = [os.path.join(place, it) for it in ("t.sas", "p.txt")]
+        for path in files:
             with open(path, "wb") as file:
-                file.write(as_bytes(text))
+                file.write(as_bytes(case["files"][os.path.basename(path)]))
         return differs(ended(*held, *files), library.held_prints(sas, *files))
 
 

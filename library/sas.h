@@ -5,7 +5,7 @@
 
    The caller must ensure these, which no proof covers:
    - No pointer is null, even if the length is 0. As many bytes as the length says may be read there, or written in a
-     room. Nobody changes them until the call returns. The same holds of an array of numbers, which is aligned to 4 bytes.
+     room. Nobody changes them until the call returns. The same holds of an array of numbers, aligned to 4 bytes.
    - `room` and `size` overlap no other argument.
    - A `sas_task` starts as SAS_TASK_NONE, or as zero bytes. The caller may read `is_there`, but changes and copies
      nothing of it. It is passed to one call at a time, and in the end to `sas_task_free`.
@@ -104,11 +104,10 @@ enum sas_number sas_task_plan_why(sas_task *task, const uint8_t *plan, size_t pl
 enum sas_number sas_task_trace(sas_task *task, const uint8_t *plan, size_t plan_length,
                                uint8_t *room, size_t room_length, size_t *size);
 
-/* Whether the operators with these numbers, in this order, solve the task that is held at this cost. There are `count`
-   numbers; operators are counted from 0, as in the task file. No name is looked up, so operators of one name are told
-   apart. The answer is a line as of sas_task_plan. For a number without an operator it is `plan invalid: step S: no
-   operator of that number`. It fits in SAS_LINE_ROOM bytes. The task is still held, whatever the number that is returned.
-   If no task is held, that is SAS_NO_TASK. */
+/* Whether these operators, in this order, solve the task that is held at this cost. `operators` has `count` numbers,
+   from 0 in the order of the task file. No name is looked up, so operators of one name are told apart. The answer is a
+   line that fits in SAS_LINE_ROOM bytes: one of those of sas_task_plan, or `plan invalid: step S: no operator of that
+   number`. The task is still held in any case. If no task is held, the call returns SAS_NO_TASK. */
 enum sas_number sas_task_plan_operators(sas_task *task, const uint32_t *operators, size_t count, uint64_t cost,
                                         uint8_t *room, size_t room_length, size_t *size);
 

@@ -85,27 +85,27 @@ class Picture {
   drawRow(g, v, y) {
     const { grid, run } = this, { layer, values } = this.variables[v], pad = layer >= 0 ? grid.high * .15 : grid.high > 8 ? 1 : 0;
     const top = Math.round(y + pad), tall = Math.max(1, Math.round(y + grid.high - pad) - top);
-    let t = Math.max(0, grid.column(grid.labels)), k = run.after(v, t), busy = -1;
+    let t = Math.max(0, grid.column(grid.labels)), count = run.count(v, t), busy = -1;
     const crowd = end => {
       if (busy >= 0) this.fill(g, this.stripes, busy, top, Math.round(end) - busy, tall);
       busy = -1;
     };
     while (t <= run.judged && grid.x(t) < grid.right) {
-      const stop = k < run.from[v + 1] ? run.when[k] : run.judged + 1;
+      const stop = count < run.when[v].length ? run.when[v][count] : run.judged + 1;
       const left = Math.max(grid.labels, grid.x(t)), end = Math.min(grid.right, grid.x(stop));
       if (end - left < 1 && stop <= run.judged) {
         if (busy < 0) busy = Math.floor(left);
         t = Math.max(stop, grid.column(Math.floor(left) + 1) + 1);
-        k = run.after(v, t);
+        count = run.count(v, t);
         continue;
       }
       crowd(left);
       const start = Math.round(left), wide = Math.round(end) - start - (grid.wide > 4 && stop <= run.judged ? 1 : 0);
-      const { colour, short } = values[run.before(v, k)];
+      const { colour, short } = values[run.after(v, count)];
       this.fill(g, "v" + colour, start, top, wide, tall);
       if (grid.high >= 13 && wide > 26) this.write(g, colour ? "onvalue" : "onempty", short, start + 5, y + grid.high / 2, wide - 8);
       t = stop;
-      k++;
+      count++;
     }
     crowd(Math.min(grid.x(t), grid.right));
   }

@@ -69,12 +69,12 @@ class Page {
 
   // Chooses the rows of the timeline and their order.
   choose() {
-    const { run, variables, picture } = this, words = get("rows").value.toLowerCase(), changes = v => run.changes(v) > 0;
+    const { run, variables, picture } = this, words = get("rows").value.toLowerCase(), changes = v => run.when[v].length;
     const isMarked = v => run.missing.has(v) || run.clash.has(v);
-    const first = v => isMarked(v) ? -1 : changes(v) ? run.when[run.from[v]] : run.total + 1;
+    const first = v => isMarked(v) ? -1 : changes(v) ? run.when[v][0] : run.total + 1;
     const which = { main: v => changes(v) || run.goal.has(v) || isMarked(v), changing: changes, goal: v => run.goal.has(v), all: () => true,
       derived: v => variables[v].layer >= 0 }[get("which").value];
-    const order = { first, often: v => -run.changes(v), number: () => 0 }[get("order").value];
+    const order = { first, often: v => -changes(v), number: () => 0 }[get("order").value];
     const rows = variables.map((_, v) => v).filter(v => which(v) && variables[v].search.includes(words));
     picture.grid.rows = rows.sort((a, b) => order(a) - order(b));
     get("shown").textContent = `${group(rows.length)} of ${group(variables.length)} variables`;

@@ -51,10 +51,10 @@ function colour(variables, runs) {
     if (!found.has(key)) keys.get(key).count++;
   }
   for (const run of runs) {
-    run.variable.forEach((v, k) => {
-      const them = variables[v].values, one = keys.get(them[run.old[k]].key), other = keys.get(them[run.fresh[k]].key);
+    run.what.forEach((what, v) => what.forEach((k, count) => {
+      const them = variables[v].values, one = keys.get(them[run.after(v, count)].key), other = keys.get(them[k].key);
       if (one && other) { one.beside.add(other.key); other.beside.add(one.key); }
-    });
+    }));
   }
   const sorted = [...keys.values()].sort((a, b) => b.count - a.count);
   for (const { key, beside } of sorted) {

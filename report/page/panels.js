@@ -1,5 +1,7 @@
 // Panels: the list of steps, the selected step, and the state before and after it.
 
+const FACTS = 100;
+
 class Panels {
   // `select` selects a step; `fault` describes what is wrong with a variable.
   constructor(select, fault) {
@@ -41,7 +43,7 @@ class Panels {
     this.reveal();
     get("steps").setAttribute("aria-activedescendant", "row-" + t);
     get("moment").textContent = t > this.run.judged ? "State before" : t ? "State before → after" : "Initial state";
-    this.describe(100);
+    this.describe();
     this.filter();
   }
 
@@ -54,30 +56,29 @@ class Panels {
     return Object.assign(it, { title: value.name });
   }
 
-  // What the selected step requires and changes; at most so many facts of each.
-  describe(most) {
+  // What the selected step requires and changes.
+  describe() {
     const { run } = this, t = this.selected, head = t ? ["Step " + group(t) + " ", make("bdi", "name", run.name(t))] : ["Initial state"];
-    const parts = [make("h3", "", ...head)], changing = this.variables.filter((_, v) => run.changes(v)).length;
+    const parts = [make("h3", "", ...head)], changing = run.when.filter(when => when.length).length;
     if (!t) parts.push(make("p", "quiet", `${group(this.variables.length)} variables, ${group(changing)} of them change`));
     else if (t === run.failing) parts.push(...reasons(run.plan, run.task, this.prefix));
     else if (t > run.judged) parts.push(make("p", "quiet", `Not judged: step ${group(run.failing)} fails before it.`));
-    else parts.push(...this.explain(t, most));
+    else parts.push(...this.explain(t));
     get("detail").replaceChildren(...parts);
     get("detail").scrollTop = 0;
   }
 
-  explain(t, most) {
-    const { run } = this, [number, cost, , requires] = run.operator(t), layer = k => Math.sign(this.variables[run.variable[k]].layer);
-    const changes = Array.from({ length: run.at[t + 1] - run.at[t] }, (_, i) => run.at[t] + i).sort((a, b) => layer(a) - layer(b));
+  explain(t) {
+    const { run } = this, [number, cost, , requires] = run.operator(t), layer = ([v]) => Math.sign(this.variables[v].layer);
+    const changes = run.changes(t).sort((a, b) => layer(a) - layer(b));
     const link = step => step ? linkTo(`${this.prefix}step-${step}`, "since step " + group(step)) : "from the start";
     const required = ([v, k]) => make("div", "fact", this.fact(v, k, "", "name"), make("span", "quiet", link(run.since(v, t - 1))));
-    const changed = k => make("div", "change", this.label(run.variable[k]), this.fact(run.variable[k], run.old[k], "old", "name"),
-      make("span", "quiet", "→"), this.fact(run.variable[k], run.fresh[k], "new", "name"));
-    const more = Object.assign(make("button", "", "Show all"), { onclick: () => this.describe(Infinity) });
-    more.hidden = Math.max(changes.length, requires.length) <= most;
+    const changed = ([v, k]) => make("div", "change", this.label(v), this.fact(v, run.value(v, t - 1), "old", "name"),
+      make("span", "quiet", "→"), this.fact(v, k, "new", "name"));
+    const more = Math.max(changes.length, requires.length) > FACTS ? [make("p", "quiet", ".. and more: see the state")] : [];
     return [make("p", "quiet", `operator ${group(number)} · cost ${group(cost)}, ${group(run.cost[t])} so far`),
-      make("h4", "", requires.length ? "Requires" : "Requires nothing"), ...requires.slice(0, most).map(required),
-      make("h4", "", changes.length ? "Changes" : "Changes nothing"), ...changes.slice(0, most).map(changed), more];
+      make("h4", "", requires.length ? "Requires" : "Requires nothing"), ...requires.slice(0, FACTS).map(required),
+      make("h4", "", changes.length ? "Changes" : "Changes nothing"), ...changes.slice(0, FACTS).map(changed), ...more];
   }
 
   value(v) {
@@ -91,7 +92,7 @@ class Panels {
   // Keeps the variables that have the words of the filter in their names or values.
   filter() {
     const { run, variables } = this, words = get("filter").value.toLowerCase(), t = this.selected, isJudged = t && t <= run.judged;
-    const some = get("only").checked && isJudged ? [...run.variable.slice(run.at[t], run.at[t + 1])] : variables.map((_, v) => v);
+    const some = get("only").checked && isJudged ? run.changes(t).map(([v]) => v) : variables.map((_, v) => v);
     const has = v => (variables[v].search + "\n" + variables[v].values[run.value(v, t)].name.toLowerCase()).includes(words);
     this.shown = words ? some.filter(has) : some;
     get("matched").textContent = (this.shown.length < variables.length ? group(this.shown.length) + " of " : "") + group(variables.length);

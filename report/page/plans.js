@@ -7,7 +7,8 @@ class Overview {
   constructor(plans, runs) {
     Object.assign(this, { runs, list: new List(get("compared"), k => this.row(k)) });
     const numbers = run => run ? [group(run.total), run.failing ? "–" : group(run.cost[run.judged])] : ["–", "–"];
-    const cells = (plan, i) => [linkTo(`plan-${i + 1}`, make("bdi", "", plan.label)), MARKS[kindOf(plan)] + plan.answer[0], ...numbers(runs[i])];
+    const link = (plan, i) => linkTo(`plan-${i + 1}`, make("bdi", "", plan.label));
+    const cells = (plan, i) => [link(plan, i), MARKS[kindOf(plan)] + plan.answer[0], ...numbers(runs[i])];
     get("listed").append(...plans.map((plan, i) => make("tr", kindOf(plan), ...cells(plan, i).map(it => make("td", "", it)))));
     const known = [...plans.keys()].filter(i => runs[i]);
     get("compare").hidden = known.length < 2;

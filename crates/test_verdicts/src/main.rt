@@ -14,7 +14,7 @@ use sas_axioms::{Layered, meaning_laws};
 use sas_core::Task;
 use sas_meaning::step_laws;
 use sas_mutex::{group_laws, group_verdict_laws};
-use sas_run::{other_senses_laws, verdict_laws};
+use sas_run::{number_laws, other_senses_laws, verdict_laws};
 use std::alloc::Global;
 use task_calls::{new_layered, new_state};
 use test_words::{TestCall, answer, cut, say, say_debug, task_of};
@@ -83,6 +83,7 @@ fn say_laws(rt: &HostRuntime) {
     meaning_laws();
     step_laws();
     verdict_laws();
+    number_laws();
     other_senses_laws();
     group_laws();
     group_verdict_laws();

@@ -27,7 +27,8 @@ Files of gzip, bzip2 and xz are decompressed.
 """
 MORE = """\
 In each folder below FOLDER, the task is output.sas, or else the only file that is called *.sas. Its plans are the
-files beside it whose names begin with sas_plan. Each of these names may end with .gz, .bz2 or .xz.
+files beside it whose names begin with sas_plan. Each of these names may end with .gz, .bz2 or .xz. Folders that
+are links aren't followed.
 
 The columns are task, plan, verdict, refused_file, steps, cost, reason and, with --why, reasons. The verdict is valid,
 invalid, refused, or "no answer" where a file can't be read or a folder has no plan.
@@ -177,14 +178,19 @@ def _rows(work: Work, why: bool) -> List[Row]:
     if work.fault:
         return _without_answer(work, work.fault)
     try:
-        file = read(work.task)
+        return _rows_of_task(work, read(work.task), why)
+    except (OSError, MemoryError, InputTooLong) as fault:
+        return _without_answer(work, f"task: {_said(fault)}")
+
+
+def _rows_of_task(work: Work, file: bytearray, why: bool) -> List[Row]:
+    """Returns the rows of plans of a task that was read."""
+    try:
         with Task(file) as task:
             return [_row_of_plan(task, work.task, plan, why) for plan in work.plans] or _without_answer(work, "no plan")
     except Refused as refusal:
         answer = check_why(file) if why else refusal.answer
         return [_row(work.task, plan, answer) for plan in work.plans or [""]]
-    except (OSError, MemoryError, InputTooLong) as fault:
-        return _without_answer(work, f"task: {_said(fault)}")
 
 
 def _row_of_plan(task: Task, name: str, plan: str, why: bool) -> Row:
