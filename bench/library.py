@@ -5,7 +5,7 @@
     bench/library.py TASK PLAN [--library FOLDER] [--count N] [--rounds R]
 
 FOLDER is what `make lib` makes, library/out. A small program in C is built over it, with $CC or cc (library.c). Of R rounds the best
-time counts; in each the task is read once and its plan is judged N times. Times are in microseconds.
+time counts; in each the task is read once and its plan is judged N times. Times are processor time, in microseconds.
 """
 import argparse
 import os
