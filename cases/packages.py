@@ -99,23 +99,28 @@ def wrong_held(top, *command, **more):
     return [] if got == expected else [f"{got}"]
 
 
+def wrong_project(project, compiler, prefix, folder):
+    """Returns what is wrong with a project of CMake over the library below a prefix, which is built by this compiler of C++, if it is in
+    C++."""
+    os.makedirs(folder)
+    with open(os.path.join(folder, "CMakeLists.txt"), "w", encoding="utf-8") as file:
+        file.write(project)
+    words = [f"-DCMAKE_PREFIX_PATH={prefix}", *([f"-DCMAKE_CXX_COMPILER={compiler}"] if compiler else [])]
+    return wrong("cmake", "-S", folder, "-B", f"{folder}/build", *words) or wrong("cmake", "--build", f"{folder}/build")
+
+
 def cmake_tests(top, prefix, place):
     """Yields projects of CMake over the library in a folder. They could show a target that names no file, a wrong version, a compiler
     that isn't told the standard of sas.hpp, and a project in C that needs a compiler of C++."""
     if not is_there("cmake"):
         return
-    made = [("C alone", C_PROJECT, "")]
-    made += [(f"{name}{it}", project, it) for it in filter(is_there, ("g++", "clang++")) for name, project in (("", PROJECT), ("C++11, ", EARLIER_PROJECT))]
+    plus = [it for it in ("g++", "clang++") if is_there(it)]
+    made = [("C alone", C_PROJECT, ""), *((it, PROJECT, it) for it in plus), *((f"C++11, {it}", EARLIER_PROJECT, it) for it in plus)]
     for name, project, compiler in made:
-        folder = os.path.join(place, f"cmake {name}")
-        os.makedirs(folder)
-        with open(os.path.join(folder, "CMakeLists.txt"), "w", encoding="utf-8") as file:
-            file.write(project.format(top=top, here=os.path.join(TOP, "cases")))
-        words = [f"-DCMAKE_PREFIX_PATH={prefix}", *([f"-DCMAKE_CXX_COMPILER={compiler}"] if compiler else [])]
-        found = wrong("cmake", "-S", folder, "-B", f"{folder}/build", *words)
-        yield f"CMake, {name}", found or wrong("cmake", "--build", f"{folder}/build")
-        for program in re.findall(r"add_executable\((held\w*)", project):
-            yield f"CMake, {name}, {program}", wrong_held(top, f"{folder}/build/{program}")
+        folder, project = os.path.join(place, f"cmake {name}"), project.format(top=top, here=os.path.join(TOP, "cases"))
+        yield f"CMake, {name}", wrong_project(project, compiler, prefix, folder)
+        programs = re.findall(r"add_executable\((held\w*)", project)
+        yield f"CMake, {name}, {programs}", [fault for it in programs for fault in wrong_held(top, f"{folder}/build/{it}")]
         if "planner" in project:
             got = ended(f"{folder}/build/planner", os.path.join(top, "examples/fuses.sas"))
             yield f"CMake, {name}, a planner's loop", [] if got == (0, PLANNER_PRINTS) else [f"{got}"]

@@ -5,13 +5,15 @@
 //! let plan = include_bytes!("../../../examples/fuses.plan");
 //!
 //! let answer = sas::plan(task, plan)?;
-//! assert!(answer.is_yes);
-//! assert_eq!((answer.steps(), answer.cost()), (Some(4), Some(4)));
+//! assert_eq!((answer.verdict(), answer.steps(), answer.cost()), (sas::Verdict::Valid, Some(4), Some(4)));
 //!
 //! let mut held = sas::Task::read(task)?; // read once, for many plans
 //! assert_eq!(held.plan(b"(take f9)\n")?.text, b"plan refused: line 2: end\n");
+//! assert_eq!(held.plan_operators(&[8, 5, 9, 6], 4)?, answer);
+//!
 //! let why = held.plan_why(b"(take f1)\n(take f2)\n; cost = 2 (unit cost)\n")?;
-//! assert!(why.text.starts_with(b"plan invalid: step 2: not applicable\n  step 2 take f2\n"));
+//! let reasons = why.reasons().expect("the plan isn't valid");
+//! assert_eq!(reasons.operators[0].causes[0].actual.to_string(), "6 1 NegatedAtom handempty()");
 //! # Ok::<(), Box<dyn std::error::Error>>(())
 //! ```
 //!
