@@ -30,10 +30,11 @@ import subprocess
 import sys
 import tempfile
 import time
+import types
 
 import report
 import run
-from library import FUSES, LAMPS, differs, ended, is_there, package_in, read
+from library import FUSES, INPUT_TOO_LONG, LAMPS, OUT_OF_MEMORY, differs, ended, is_there, package_in, read, stub_library
 from shown import shown
 from texts import TOP, as_bytes, table
 
@@ -479,6 +480,20 @@ def form_tests(sas, folder, rows):
     yield "table of no file", differs((ran.returncode == 3, ran.stdout), (True, line))
 
 
+def fault_tests(_, sas, folder):
+    """Yields commands over a library that only returns a number. They could show a lack of memory that ends a table, and an exit status of
+    an answer where there is none."""
+    stub = stub_library(types.SimpleNamespace(folder=os.path.dirname(os.path.dirname(sas.__file__))), folder)
+    for number, fault in ((OUT_OF_MEMORY, "out of memory"), (INPUT_TOO_LONG, "input too long")):
+        env = {**environment(sas), "LIBSAS": os.path.join(stub, "libsas.so"), "STUB": str(number)}
+        ran = ended(sys.executable, "-m", "sas", "table", *FUSES_FILES, env=env)
+        line = f"{COLUMNS}\n{','.join(FUSES_FILES)},{NO_ANSWER},,,,task: {fault}\n".encode()
+        yield f"a table, {fault}", [] if (ran.returncode, ran.stdout) == (3, line) else [f"{ran}"]
+        for words in (["plan", *FUSES_FILES], ["check", FUSES_FILES[0]], ["steps", FUSES_FILES[1]], ["plans", *FUSES_FILES]):
+            ran = ended(sys.executable, "-m", "sas", *words, env=env)
+            yield f"{words[0]}, {fault}", [] if (ran.returncode, ran.stderr) == (3, f"sas: {fault}\n".encode()) else [f"{ran}"]
+
+
 def interrupt_tests(_, sas, folder):
     """Yields runs that are interrupted, lose a process, or have a reader that ends early, and one on a terminal. They could show a run
     that hangs or leaves processes behind, rows that are lost with others, a traceback, and progress among the rows."""
@@ -672,6 +687,7 @@ TESTS = (
     stream_tests,
     command_tests,
     table_tests,
+    fault_tests,
     interrupt_tests,
     report_tests,
     type_tests,
