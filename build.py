@@ -1,10 +1,12 @@
 #!/usr/bin/env python3
 """Proves what a crate needs, and builds it. Prints a line for each crate, and writes all that the prover prints to build.log.
 
-    python3 build.py CRATE [PROCESSORS]
+    python3 build.py CRATE [PROCESSORS [PLATFORM]]
     python3 build.py CRATE --check [FLAG ..]
 
 CRATE is a program, as sas, or a static library, as sas_c. PROCESSORS is how many to use; all, if left out. A check takes one to four GB.
+PLATFORM is x86_64-linux, if left out, or aarch64-linux. For another platform only CRATE is proved again, and nothing is linked: the object
+file of a program, or the archive of a library, stands in out/PLATFORM/.
 
 Each crate is proved once those that it uses are proved: first the crate with the longest chain of others above it. Where fewer crates
 are ready than there are processors, they get several. What is written of a library, into out/libraries/, are its interface, its code and
@@ -16,12 +18,15 @@ check is short. Flags are those of `rattle check`, such as `--only FUNCTION`, `-
 """
 import concurrent.futures
 import functools
+import glob
 import hashlib
 import os
+import shlex
 import shutil
 import subprocess
 import sys
 import time
+from collections import namedtuple
 
 TOP = os.path.dirname(os.path.abspath(__file__))
 CRATES = f"{TOP}/crates"
@@ -29,7 +34,33 @@ LIBRARIES = f"{TOP}/out/libraries"
 KIT = os.path.dirname(os.path.dirname(os.path.realpath(shutil.which("rt") or sys.exit("there is no `rt`, of the toolchain, on the PATH"))))
 # the most processors that a check can use
 MOST = 4
+# what a platform is called by the toolchain, and the C compiler and the `ar` that build for it
+Platform = namedtuple("Platform", "target compiler archiver")
+PLATFORMS = {
+    "x86_64-linux": Platform("x86_64-unknown-linux-gnu", "cc", "ar"),
+    "aarch64-linux": Platform("aarch64-unknown-linux-gnu", "aarch64-linux-gnu-gcc", "aarch64-linux-gnu-ar"),
+}
+NATIVE = "x86_64-linux"
 BEGAN = time.monotonic()
+
+
+def known(platform):
+    """Returns a platform if it is one, and else ends."""
+    return platform if platform in PLATFORMS else sys.exit(f"there is no platform {platform}; there are {' and '.join(PLATFORMS)}")
+
+
+def compiler_for(platform):
+    """Returns the words of the C compiler for a platform: $CC, or the usual one. Ends where that isn't there, or is for another one."""
+    words = shlex.split(os.environ.get("CC") or PLATFORMS[platform].compiler)
+    try:
+        ended = subprocess.run([*words, "-dumpmachine"], check=False, capture_output=True, encoding="utf-8", errors="replace")
+    except OSError as fault:
+        sys.exit(f"not built: {words[0]}: {fault.strerror}")
+    if ended.returncode:
+        sys.exit(f"not built: {words[0]} ended with status {ended.returncode}")
+    if not ended.stdout.startswith(platform.partition("-")[0]):
+        sys.exit(f"not built: {words[0]} is a compiler for {ended.stdout.strip() or 'an unknown machine'}, not for {platform}")
+    return words
 
 
 def uses():
@@ -45,6 +76,14 @@ USED = uses()
 def below(crate):
     """Returns the crates of the repository that a crate uses."""
     return [it for it in USED[crate] if it in USED]
+
+
+def with_all_below(crate):
+    """Returns a crate and all crates of the repository that it stands on."""
+    names = [crate]
+    for it in names:
+        names += [other for other in below(it) if other not in names]
+    return names
 
 
 def files_of(crate):
@@ -64,6 +103,23 @@ def sum_of(crate):
     return made.hexdigest()
 
 
+def is_program(crate):
+    return os.path.isfile(f"{CRATES}/{crate}/src/main.rt")
+
+
+def path_of(crate, platform):
+    """Returns where the object file of a program, or the archive of a static library, stands for a platform."""
+    folder = f"{CRATES}/{crate}/out" if platform == NATIVE else f"{TOP}/out/{platform}"
+    return f"{folder}/{crate}.o" if is_program(crate) else f"{folder}/lib{crate}.a"
+
+
+def is_built(crate, platform):
+    """Returns whether a program or a static library was built for a platform, and no file that it is made of is younger."""
+    made = path_of(crate, platform)
+    sources = [f"{TOP}/crates.txt", *(path for it in with_all_below(crate) for path in files_of(it))]
+    return os.path.isfile(made) and os.path.getmtime(made) >= max(map(os.path.getmtime, sources))
+
+
 def is_proved(crate):
     """Returns whether a library was built of its files as they are."""
     path = f"{LIBRARIES}/{crate}.sum"
@@ -75,7 +131,7 @@ def is_proved(crate):
 
 def run(crate, verb, folders, *more):
     """Has the prover check or build a crate over the libraries in these folders, and returns how it ended, with what it printed."""
-    root = "main" if os.path.isfile(f"{CRATES}/{crate}/src/main.rt") else "lib"
+    root = "main" if is_program(crate) else "lib"
     words = [f"{KIT}/bin/rattle", verb, "--crate-name", crate, f"src/{root}.rt", "--links", f"{crate}="]
     words += ["--antt-project", f"{KIT}/rattle/logic/antt-project.json", "--logic-built", f"{KIT}/logic_built"]
     folders = [*folders, f"{KIT}/rlibs"]
@@ -96,27 +152,36 @@ def prove(crate, jobs):
     return run(crate, "build", [LIBRARIES], "--jobs", str(jobs), "--statements", "-o", f"{LIBRARIES}/{crate}.rlib")
 
 
-def build(crate, folders, jobs):
+def build(crate, folders, jobs, platform=NATIVE):
     """Proves a program or a static library over the libraries in these folders, and builds it. Returns how that ended."""
-    is_program = os.path.isfile(f"{CRATES}/{crate}/src/main.rt")
-    made = [f"out/{crate}.o"] if is_program else [f"out/lib{crate}.a", "--crate-type", "staticlib"]
-    toolchain = ["--toolchain", f"{KIT}/toolchain"]
-    ended = run(crate, "build", folders, "--jobs", str(jobs), *toolchain, "--backend", "llvm", "-o", *made)
-    if ended.returncode or not is_program:
+    made = path_of(crate, platform)
+    os.makedirs(os.path.dirname(made), exist_ok=True)
+    toolchain = ["--target", PLATFORMS[platform].target, "--toolchain", f"{KIT}/toolchain"]
+    kind = [] if is_program(crate) else ["--crate-type", "staticlib"]
+    ended = run(crate, "build", folders, "--jobs", str(jobs), *toolchain, "--backend", "llvm", "-o", made, *kind)
+    if ended.returncode or not is_program(crate) or platform != NATIVE:
         return ended
-    words = [f"{KIT}/bin/rattle-link", "--target", "x86_64-unknown-linux-gnu", *toolchain, "-o", f"out/{crate}"]
-    linked = ran([*words, *made, f"{KIT}/c/libos_c.a", f"{KIT}/c/liblibc_c.a"], crate)
+    linked = ran([f"{KIT}/bin/rattle-link", *toolchain, "-o", f"out/{crate}", made, *archives()], crate)
     linked.stdout = ended.stdout + linked.stdout
     return linked
+
+
+def proved_below(crate):
+    """Returns the folders of the libraries below a crate, where they are proved as they stand: what this script left, or else `rt ci`."""
+    is_here = all(map(is_proved, with_all_below(crate)[1:]))
+    return [LIBRARIES] if is_here else glob.glob(f"{CRATES}/*/out/rlib")
+
+
+def archives():
+    """Returns what the toolchain has in C for a program on the native platform."""
+    return [f"{KIT}/c/libos_c.a", f"{KIT}/c/liblibc_c.a"]
 
 
 class Build:
     """The crates to prove, those that are proved, and the log."""
 
     def __init__(self, last, log):
-        self.last, self.log, self.names = last, log, [last]
-        for crate in self.names:
-            self.names += [it for it in below(crate) if it not in self.names]
+        self.last, self.log, self.names = last, log, with_all_below(last)
         self.proved = {it for it in self.names if it != last and is_proved(it)}
 
     @functools.cache
@@ -161,10 +226,11 @@ def main():
         print(ended.stdout, end="")
         sys.exit(ended.returncode)
     crate, processors = sys.argv[1], int(sys.argv[2]) if sys.argv[2:] else os.cpu_count()
+    platform = known(sys.argv[3]) if sys.argv[3:] else NATIVE
     os.makedirs(LIBRARIES, exist_ok=True)
     with open(f"{TOP}/build.log", "w", encoding="utf-8") as log:
         made = Build(crate, log)
-        well = made.prove_below(processors) and made.report(crate, build(crate, [LIBRARIES], min(MOST, processors)))
+        well = made.prove_below(processors) and made.report(crate, build(crate, [LIBRARIES], min(MOST, processors), platform))
     if not well:
         sys.exit("not built; build.log says why")
 

@@ -1,5 +1,6 @@
 /* library TASK PLAN COUNT ROUNDS: how long the library takes, in microseconds, for library.py: to read the task and hold it, for a
-   plan of the task that is held, and for both by `sas_plan`. Of the rounds the best counts; each asks about the plan COUNT times. */
+   plan of the task that is held, for this plan by the numbers of its operators, and for both files by `sas_plan`. Of the rounds the best
+   counts; each asks about the plan COUNT times. The plan has to be valid. */
 #include "sas.h"
 #include <stdio.h>
 #include <stdlib.h>
@@ -40,37 +41,99 @@ static double least(double one, double other) {
     return one < other ? one : other;
 }
 
+/* The operators of a plan, and its cost. */
+struct numbers {
+    uint32_t *at;
+    size_t count;
+    uint64_t cost;
+};
+
+static struct bytes task, plan;
+static struct numbers by;
+static long count;
+
+/* Returns the trace of the plan. */
+static char *read_trace(void) {
+    size_t room = 1 << 20;
+    char *trace = malloc(room + 1);
+    while (sas_trace(task.at, task.length, plan.at, plan.length, (uint8_t *)trace, room, &room) == SAS_ROOM_TOO_SHORT) {
+        trace = realloc(trace, room + 1);
+    }
+    trace[room] = 0;
+    return trace;
+}
+
+/* Returns the operators of the plan and its cost, as the trace has them. */
+static struct numbers read_numbers(void) {
+    char *trace = read_trace(), *cost = NULL;
+    struct numbers it = {malloc((plan.length + 1) * sizeof *it.at), 0, 0};
+    for (char *line = strstr(trace, "\nstep "); line != NULL; line = strstr(line, "\nstep ")) {
+        line = strchr(line + strlen("\nstep "), ' ');
+        it.at[it.count++] = (uint32_t)strtoul(line, &cost, 10);
+        it.cost += strtoull(cost, NULL, 10);
+    }
+    free(trace);
+    return it;
+}
+
+/* The least times of all rounds. */
+static double read_time = 1e18, plan_time = 1e18, numbers_time = 1e18, both_time = 1e18;
+
+struct answer {
+    enum sas_number number;
+    size_t size;
+    uint8_t room[SAS_LINE_ROOM];
+};
+
+static void judge(sas_task *held, struct answer *it) {
+    for (long place = 0; place < count; place++) {
+        it->number = sas_task_plan(held, plan.at, plan.length, it->room, sizeof it->room, &it->size);
+    }
+}
+
+static void judge_by_numbers(sas_task *held, struct answer *it) {
+    for (long place = 0; place < count; place++) {
+        it->number = sas_task_plan_operators(held, by.at, by.count, by.cost, it->room, sizeof it->room, &it->size);
+    }
+}
+
+/* Whether two answers are the same yes. */
+static int same(const struct answer *one, const struct answer *other) {
+    return one->number == SAS_YES && other->number == SAS_YES && one->size == other->size && memcmp(one->room, other->room, one->size) == 0;
+}
+
+/* Measures one round. Returns whether all calls have this answer. */
+static int measure(struct answer *answer) {
+    struct answer numbers = {SAS_NO_TASK, 0, {0}}, both = numbers;
+    sas_task held = SAS_TASK_NONE;
+    double began = now();
+    sas_task_read(&held, task.at, task.length, answer->room, sizeof answer->room, &answer->size);
+    read_time = least(read_time, now() - began);
+    began = now();
+    judge(&held, answer);
+    plan_time = least(plan_time, (now() - began) / (double)count);
+    began = now();
+    judge_by_numbers(&held, &numbers);
+    numbers_time = least(numbers_time, (now() - began) / (double)count);
+    sas_task_free(&held);
+    began = now();
+    both.number = sas_plan(task.at, task.length, plan.at, plan.length, both.room, sizeof both.room, &both.size);
+    both_time = least(both_time, now() - began);
+    return same(answer, &numbers) && same(answer, &both);
+}
+
 int main(int words_given, char **words) {
     if (words_given != 5) {
         return 2;
     }
-    struct bytes task = read_file(words[1]), plan = read_file(words[2]);
-    long count = atol(words[3]), rounds = atol(words[4]);
-    double read = 1e18, held_plan = 1e18, both = 1e18, began;
-    uint8_t room[SAS_LINE_ROOM], other[SAS_LINE_ROOM];
-    size_t size = 0, other_size = 0;
-    enum sas_number number = SAS_NO_TASK;
-    for (long round = 0; round < rounds; round++) {
-        sas_task held = SAS_TASK_NONE;
-        began = now();
-        number = sas_task_read(&held, task.at, task.length, room, sizeof room, &size);
-        read = least(read, now() - began);
-        if (number != SAS_YES) {
-            return 1;
-        }
-        began = now();
-        for (long place = 0; place < count; place++) {
-            number = sas_task_plan(&held, plan.at, plan.length, room, sizeof room, &size);
-        }
-        held_plan = least(held_plan, (now() - began) / (double)count);
-        sas_task_free(&held);
-        began = now();
-        enum sas_number whole = sas_plan(task.at, task.length, plan.at, plan.length, other, sizeof other, &other_size);
-        both = least(both, now() - began);
-        if (number > SAS_NO || whole != number || other_size != size || memcmp(room, other, size) != 0) {
+    struct answer answer = {SAS_NO_TASK, 0, {0}};
+    task = read_file(words[1]), plan = read_file(words[2]), count = atol(words[3]);
+    by = read_numbers();
+    for (long round = 0; round < atol(words[4]); round++) {
+        if (!measure(&answer)) {
             return 1;
         }
     }
-    printf("%.3f %.3f %.3f %.*s", read, held_plan, both, (int)size, (const char *)room);
+    printf("%.3f %.3f %.3f %.3f %.*s", read_time, plan_time, numbers_time, both_time, (int)answer.size, (const char *)answer.room);
     return 0;
 }

@@ -1,5 +1,6 @@
 #!/usr/bin/env python3
-"""Times a plan of a task that the library holds, beside reading the task, and beside `sas_plan`, which reads both.
+"""Times a valid plan of a task that the library holds, as a file and by the numbers of its operators, beside reading the task, and beside
+`sas_plan`, which reads both.
 
     bench/library.py TASK PLAN [--library FOLDER] [--count N] [--rounds R]
 
@@ -38,12 +39,12 @@ def main():
         command = [built(given.library, folder), given.task, given.plan, str(given.count), str(given.rounds)]
         ran = subprocess.run(command, stdout=subprocess.PIPE, check=False, encoding="utf-8")
     if ran.returncode:
-        sys.exit("the task is refused, or the answers differ")
-    read, held, both, said = ran.stdout.rstrip("\n").split(" ", 3)
+        sys.exit("the plan isn't valid, or the answers differ")
+    read, held, by_numbers, both, said = ran.stdout.rstrip("\n").split(" ", 4)
     for line in machine.header(os.path.join(given.library, "libsas.so"), None):
         print(line)
-    print(machine.table_head(["Task", "Plan", "Answer", "Read", "A plan of it", "`sas_plan`"]))
-    print(machine.row([os.path.basename(given.task), os.path.basename(given.plan), said, read, held, both]))
+    print(machine.table_head(["Task", "Plan", "Answer", "Read", "A plan of it", "By numbers", "`sas_plan`"]))
+    print(machine.row([os.path.basename(given.task), os.path.basename(given.plan), said, read, held, by_numbers, both]))
 
 
 main()

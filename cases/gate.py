@@ -4,10 +4,11 @@
 `rt ci` proves and builds everything and tries each edit that must fail. What an earlier run on this machine proved of the same files is
 kept. Then docs/READING.md is held against the definitions, docs/PROMISES.md against contracts and edits, pages and completions against the
 program, the commands that documents show are run, those for clusters with GNU parallel and Slurm too, each allocation is refused in turn,
-the calls of the crates are made, the program is run, with closed streams too, the library is built, called, used from Python and by way
-of CMake, pkg-config, cargo and pip, and a release is packed and tried. The last line is 'N passed, M failed' of all together, and the exit status
-is 0 exactly if M is 0. A command that doesn't end as its own last line says counts as one failure. gate.log keeps the last line for
-releases, with the commit and the toolchain.
+the calls of the crates are made, the program is run, with closed streams too, the library is built and called, its answers are read as
+values, it is used from Python and by way of CMake, pkg-config, cargo and pip, a release and a package of Debian are packed and tried,
+reports are opened in browsers, and all is built and run for 64-bit ARM, for which two crates are proved once more. The last line is
+'N passed, M failed' of all together, and the exit status is 0 exactly if M is 0. A command that doesn't end as its own last line says
+counts as one failure. gate.log keeps the last line for releases, with the commit and the toolchain.
 """
 import functools
 import glob
@@ -34,9 +35,12 @@ CASES = [
     ],
     [
         ["cases/library.py", "sas", "library/out"],
+        ["cases/operators.py", "library/out"],
+        ["cases/values.py"],
         ["cases/python.py", "sas", "library/out"],
         ["cases/packages.py"],
         ["cases/release.py", "sas"],
+        ["cases/debian.py", "sas"],
     ],
     [
         ["cases/reading.py"],
@@ -45,6 +49,8 @@ CASES = [
         ["cases/shown.py", "sas"],
         ["cases/cluster.py", "sas"],
         ["cases/patterns.py"],
+        ["cases/report_pages.py", "sas"],
+        ["cases/arm.py", "sas"],
     ],
 ]
 RECORD = "gate.log"
@@ -95,7 +101,8 @@ def main():
         os.remove(RECORD)
     began_at = commit()
     # what an earlier run left of the library has a link, and `rt ci` takes none
-    shutil.rmtree("library/out", ignore_errors=True)
+    for folder in glob.glob("library/out*"):
+        shutil.rmtree(folder)
     parts = [counts(["rt", "ci"])]
     if os.path.isfile("crates/sas/out/sas"):
         shutil.copy("crates/sas/out/sas", "sas")

@@ -8,6 +8,7 @@
    program's own, over those of the C library, so that blocks are counted and one can be refused. */
 #include "sas.h"
 #include <fcntl.h>
+#include <inttypes.h>
 #include <pthread.h>
 #include <stdio.h>
 #include <stdlib.h>
@@ -84,7 +85,18 @@ static const struct request {
     {"sas_steps", NULL, sas_steps, NULL},
 };
 
-/* the calls about a plan of a task that is held, and which request each answers */
+/* the operators of the plan's steps that succeed, and the plan's cost; for a plan that is refused, none and 0 */
+static uint32_t *operators;
+static size_t operator_count;
+static uint64_t cost;
+
+static enum sas_number plan_operators(sas_task *held, const uint8_t *unused, size_t length, uint8_t *room, size_t room_length,
+                                      size_t *size) {
+    (void)unused, (void)length;
+    return sas_task_plan_operators(held, operators, operator_count, cost, room, room_length, size);
+}
+
+/* the calls about a plan of a task that is held, and which request each answers; there is none for operators */
 static const struct held_request {
     const char *name;
     over_held *of_held;
@@ -93,6 +105,7 @@ static const struct held_request {
     {"sas_task_plan", sas_task_plan, &requests[0]},
     {"sas_task_plan_why", sas_task_plan_why, &requests[1]},
     {"sas_task_trace", sas_task_trace, &requests[2]},
+    {"sas_task_plan_operators", plan_operators, NULL},
 };
 
 enum { HELD = sizeof held_requests / sizeof *held_requests };
@@ -131,6 +144,18 @@ static void read_task(sas_task *held, struct answer *got) {
 
 static void ask_held(const struct held_request *it, sas_task *held, struct answer *got) {
     got->number = it->of_held(held, plan.at, plan.length, got->room, ROOM, &got->size);
+}
+
+/* Asks what a call about a plan of a task that is held has to answer. */
+static void ask_due(const struct held_request *it, struct answer *due) {
+    sas_task held = SAS_TASK_NONE;
+    if (it->request != NULL) {
+        ask(it->request, due);
+        return;
+    }
+    read_task(&held, due);
+    ask_held(it, &held, due);
+    sas_task_free(&held);
 }
 
 static int is_answer(const struct answer *it) {
@@ -206,7 +231,7 @@ static long refuse_read(long *refused) {
 static long refuse_held(const struct held_request *it, long *refused) {
     long wrong = 0, left = blocks, before;
     sas_task held = SAS_TASK_NONE;
-    ask(it->request, &due);
+    ask_due(it, &due);
     read_task(&held, &got);
     before = blocks;
     wrong += !is_answer(&due);
@@ -256,7 +281,7 @@ static struct answer dues[HELD];
 
 static void ask_dues(void) {
     for (int place = 0; place < HELD; place++) {
-        ask(held_requests[place].request, &dues[place]);
+        ask_due(&held_requests[place], &dues[place]);
     }
 }
 
@@ -312,6 +337,24 @@ static void ask_in_threads(void) {
     printf("%ld plans in each of %d threads, %ld wrong\n", count, THREADS, all);
 }
 
+/* Finds the operators of the plan's steps in its trace, and the cost at its end. */
+static void find_operators(void) {
+    static const char before_cost[] = "; cost = ";
+    const char *line;
+    ask(&requests[2], &due);
+    due.room[due.size < ROOM ? due.size : ROOM - 1] = 0;
+    operators = malloc((due.size + 1) * sizeof *operators);
+    for (line = (const char *)due.room; is_answer(&due) && line != NULL; line = strchr(line, '\n')) {
+        line += *line == '\n';
+        operator_count += sscanf(line, "step %*u %" SCNu32, &operators[operator_count]) == 1;
+    }
+    for (size_t place = 0; place + sizeof before_cost < plan.length; place++) {
+        if (memcmp(plan.at + place, before_cost, sizeof before_cost - 1) == 0) {
+            cost = strtoull((const char *)plan.at + place + sizeof before_cost - 1, NULL, 10);
+        }
+    }
+}
+
 int main(int words_given, char **words) {
     if (words_given < 4) {
         return 2;
@@ -319,6 +362,7 @@ int main(int words_given, char **words) {
     task = read_file(words[2]);
     plan = read_file(words[3]);
     count = words_given > 4 ? atol(words[4]) : 0;
+    find_operators();
     if (strcmp(words[1], "refused") == 0) {
         refuse_all();
     } else if (strcmp(words[1], "many") == 0) {

@@ -5,6 +5,7 @@
 #include <iostream>
 #include <iterator>
 #include <type_traits>
+#include <vector>
 
 static_assert(!std::is_copy_constructible_v<sas::Task> && !std::is_copy_assignable_v<sas::Task>);
 static_assert(std::is_nothrow_move_constructible_v<sas::Task> && std::is_nothrow_move_assignable_v<sas::Task>);
@@ -36,6 +37,8 @@ static void tell_held(const char *name, sas::Task &task, const std::string &plan
     tell(name, [&] { return task.plan(plan); });
     tell("held plan_why", [&] { return task.plan_why(plan); });
     tell("held trace", [&] { return task.trace(plan); });
+    const std::vector<std::uint32_t> numbers = {0};
+    tell("held operators", [&] { return task.plan_operators(numbers, 1); });
 }
 
 int main(int, char **words) {

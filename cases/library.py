@@ -616,7 +616,7 @@ def failed(*command, **more):
 
 
 KINDS = {"Global": None, "&[u8]": "const uint8_t *, size_t", "&mut [u8]": "uint8_t *, size_t", "&mut usize": "size_t *"}
-KINDS["&mut SasTask"] = "sas_task *"
+KINDS |= {"&mut SasTask": "sas_task *", "&[u32]": "const uint32_t *, size_t", "u64": "uint64_t"}
 
 
 def exports():
@@ -683,15 +683,20 @@ def symbol_tests(_, library, __):
     of, a name that is another's in a program that links the library, and a library that is loaded where its instructions aren't known."""
     if not compilers("nm"):
         return
-    found = symbols(os.path.join(library.folder, "libsas.a"))
-    undefined = {name for name, kind in found if kind in "Uvw"} - {name for name, kind in found if kind not in "Uvw"}
-    yield "what libsas.a wants", [] if undefined == UNDEFINED else [f"{sorted(undefined ^ UNDEFINED)} more or less"]
-    shown = {name for name, _ in symbols(os.path.join(library.folder, "libsas.so"), "-D", "--defined-only")}
-    names = declared(os.path.join(library.folder, "sas.h"))
-    yield "what libsas.so shows", [] if shown == names else [f"{sorted(shown ^ names)} more or less"]
+    yield from linked_tests(library.folder)
     if compilers("readelf"):
         said = ended("readelf", "-n", "-d", os.path.join(library.folder, "libsas.so")).stdout.decode()
         yield "what the loader reads", [it for it in ("x86 ISA needed: x86-64-v2", "soname: [libsas.so.1]") if it not in said]
+
+
+def linked_tests(folder):
+    """Yields which functions of others the library in a folder wants, and which of its own it shows."""
+    found = symbols(os.path.join(folder, "libsas.a"))
+    undefined = {name for name, kind in found if kind in "Uvw"} - {name for name, kind in found if kind not in "Uvw"}
+    yield "what libsas.a wants", [] if undefined == UNDEFINED else [f"{sorted(undefined ^ UNDEFINED)} more or less"]
+    shown = {name for name, _ in symbols(os.path.join(folder, "libsas.so"), "-D", "--defined-only")}
+    names = declared(os.path.join(folder, "sas.h"))
+    yield "what libsas.so shows", [] if shown == names else [f"{sorted(shown ^ names)} more or less"]
 
 
 def built_driver(library, folder):
@@ -728,7 +733,7 @@ def driver_tests(_, library, folder):
         ran = ended(driver, "refused", *files)
         lines = dict(line.split(": ") for line in ran.stdout.decode().splitlines())
         wrong = [f"status {ran.returncode}"] * (ran.returncode != 0)
-        for name in (*REQUESTS, "task_read", *OVER_HELD):
+        for name in (*REQUESTS, "task_read", *OVER_HELD, "task_plan_operators"):
             well = re.fullmatch(r"[1-9]\d* refused, 0 wrong", lines.get(f"sas_{name}", ""))
             yield f"sas_{name}, memory refused, {os.path.basename(files[1])}", wrong if well else [*wrong, f"{lines}"]
     for files, count in ((examples[0], MANY), ((task, plans[0]), MANY // 100)):
@@ -815,11 +820,13 @@ def lines_of_wrappers(sas, task, plan):
     said += answer_lines("empty", sas.plan(b"", b""))
     came, refused = sas.check(task), sas.check(plan)
     held = sas.plan(task, plan) if came else None
+    by_numbers = sas.Task(task).plan_operators([0], 1) if came else None
 
     def each(name, is_held):
         """Returns the answers about a plan of a task, in the order of the calls."""
         names = (name, "held plan_why", "held trace")
-        return [(word, answer_of(sas, it, task, plan) if is_held else None) for word, it in zip(names, OVER_BOTH)]
+        answers = [(word, answer_of(sas, it, task, plan) if is_held else None) for word, it in zip(names, OVER_BOTH)]
+        return [*answers, ("held operators", by_numbers if is_held else None)]
 
     moved = [("moved from", None), ("moved to", held)]
     first = [*each("none", False), ("read", came), *each("held" if came else "not held", bool(came))]
@@ -906,12 +913,23 @@ def number_tests(_, library, folder):
         yield f"Python, number {number}", [] if set(came) == {exception} else [f"{came}"]
 
 
+# calls with operators of several types and with none, none of which is made
+OPERATORS = "auto judge = [](auto &it, auto &other, int made) { sas::Task task; return made && task.plan_operators(it, 1)"
+OPERATORS += " && task.plan_operators(other, 1) && task.plan_operators({0, 1}, 2) && task.plan_operators({}, 0); };"
 # code in C++ and how it is compiled, each with a part of the compiler's message if it is refused
 DIALECTS = (
     ("bytes", "-std=c++17", "std::vector<std::byte> it; std::vector<unsigned char> other; return sas::plan(it, other) ? 1 : 0;", None),
     ("a pointer", "-std=c++17", "sas::Task task; return task.read({nullptr, 0}) ? 1 : 0;", None),
     ("spans", "-std=c++20", "std::span<const std::byte> it; std::span<char> other; return sas::plan(it, other) ? 1 : 0;", None),
     ("numbers", "-std=c++17", "std::vector<int> it; return sas::check(it) ? 1 : 0;", "could not convert"),
+    ("operators", "-std=c++17", f"{OPERATORS} std::vector<std::uint32_t> it; std::uint32_t other[] = {{1}}; return judge(it, other, 0);", None),
+    ("spans of operators", "-std=c++20",
+     f"{OPERATORS} std::span<const std::uint32_t> it; std::array<std::uint32_t, 2> other{{}}; return judge(it, other, 0);", None),
+    ("operators that are signed", "-std=c++17", "sas::Task task; std::vector<int> it; return task.plan_operators(it, 0) ? 1 : 0;", "sas::Operators"),
+    ("the reason of a temporary", "-std=c++17", 'const auto it = sas::plan("", "").reason(); return it == "line 1: end" ? 0 : 1;', None),
+    ("steps of a temporary", "-std=c++17", 'for (auto &it : sas::trace("", "").trace_steps()) return int(it.op); return 0;', "use of deleted function"),
+    ("reasons of a temporary", "-std=c++17", 'return sas::plan_why("", "").reasons().step ? 1 : 0;', "use of deleted function"),
+    ("steps for an algorithm", "-std=c++20", "static_assert(std::input_iterator<sas::Steps>); return 0;", None),
     ("an answer that isn't used", "-std=c++17", 'sas::check(""); return 0;', "unused-result"),
     ("an earlier standard", "-std=c++14", "return 0;", "sas.hpp requires C++17"),
 )
@@ -923,7 +941,7 @@ def dialect_tests(_, library, folder):
     path = os.path.join(folder, "dialect.cpp")
     for name, standard, code, refusal in DIALECTS if compilers("g++") else ():
         with open(path, "w", encoding="utf-8") as file:
-            file.write("#include <sas.hpp>\n#include <vector>\n" + "#include <span>\n" * (standard == "-std=c++20"))
+            file.write("#include <sas.hpp>\n#include <array>\n#include <vector>\n" + "#include <span>\n" * (standard == "-std=c++20"))
             file.write(f"int main() {{ {code} }}\n")
         words = [standard, *C_WARNINGS, "-I", library.folder, path, os.path.join(library.folder, "libsas.a"), "-o", f"{path}.out"]
         wrong = failed("g++", *words)
@@ -938,7 +956,8 @@ NO_EXCEPTIONS = """
 #include <cstdio>
 int main() {
     sas::Task task("");
-    std::printf("%d %d %d\\n", int(sas::check("").status), int(task.plan("").status), task.is_held());
+    const sas::Answer answer = sas::check(""), other = task.plan_operators({1}, 1);
+    std::printf("%d %d %d %d\\n", int(answer.status), int(answer.verdict()), int(other.status), task.is_held());
 }
 """
 
@@ -952,9 +971,10 @@ def no_exception_tests(_, library, folder):
     for compiler in compilers("g++", "clang++"):
         words = ["-std=c++17", "-fno-exceptions", *C_WARNINGS, "-I", library.folder, path, f"{stub}/libsas.a", "-o", f"{path}.out"]
         yield f"C++ without exceptions, by {compiler}", failed(compiler, *words)
-        for number, status in ((YES, 0), (NO, 1), (OUT_OF_MEMORY, 2), (INPUT_TOO_LONG, 3), (NO_TASK, 4)):
+        # without an answer the verdict is none, the last one
+        for number, status, verdict in ((YES, 0, 3), (NO, 1, 4), (OUT_OF_MEMORY, 2, 5), (INPUT_TOO_LONG, 3, 5), (NO_TASK, 4, 5)):
             said = ended(f"{path}.out", env={**os.environ, "STUB": str(number)}).stdout.decode()
-            yield f"C++ without exceptions, number {number}", [] if said == f"{status} {status} 0\n" else [said]
+            yield f"C++ without exceptions, number {number}", [] if said == f"{status} {verdict} {status} 0\n" else [said]
 
 
 def refused_code_tests(_, library, folder):
@@ -989,17 +1009,22 @@ def builder_tests(_, __, ___):
 
 
 def processor_tests(_, __, folder):
-    """Yields what `make lib` hands on to build.py. It could show a number of processors that is lost."""
-    for name in ("Makefile", "library/build.py"):
+    """Yields what `make lib` hands on to build.py. It could show a number of processors that is lost, or a platform."""
+    for name in ("Makefile", "library/build.py", "crates.txt"):
         os.makedirs(os.path.dirname(os.path.join(folder, name)), exist_ok=True)
         shutil.copy(os.path.join(TOP, name), os.path.join(folder, name))
+    # what library/build.py imports is the file of the repository, and what it runs says its arguments
+    shutil.copy(os.path.join(TOP, "build.py"), os.path.join(folder, "whole.py"))
     with open(os.path.join(folder, "build.py"), "w", encoding="utf-8") as file:
-        file.write("import sys\nif __name__ == '__main__':\n    sys.exit(' '.join(sys.argv[1:]))\n")
-    env = {name: value for name, value in os.environ.items() if name not in ("MAKEFLAGS", "MFLAGS", "MAKELEVEL", "JOBS")}
-    for words, processors in ((["JOBS=1"], 1), (["JOBS=3"], 3), ([], int(ended("nproc").stdout))):
+        file.write("import sys\nfrom whole import *\nif __name__ == '__main__':\n    sys.exit(' '.join(sys.argv[1:]))\n")
+    env = {name: value for name, value in os.environ.items() if name not in ("MAKEFLAGS", "MFLAGS", "MAKELEVEL", "JOBS", "CC", "AR")}
+    calls = [(["JOBS=1"], "1 x86_64-linux"), (["JOBS=3"], "3 x86_64-linux"), ([], f"{int(ended('nproc').stdout)} x86_64-linux")]
+    if compilers("aarch64-linux-gnu-gcc"):
+        calls.append((["JOBS=2", "PLATFORM=aarch64-linux"], "2 aarch64-linux"))
+    for words, handed in calls:
         ran = ended("make", "-s", "lib", *words, cwd=folder, env=env)
         said = ran.stderr.decode().partition("\n")[0]
-        yield f"make lib {words}", [] if said == f"sas_c {processors}" else [f"{ran}"]
+        yield f"make lib {words}", [] if said == f"sas_c {handed}" else [f"{ran}"]
 
 
 # the page of the library, and its sections about languages: how their programs are marked, the end of their files' names, and what

@@ -38,14 +38,15 @@ fn main() {
             tell("held", held.plan(plan));
             tell("held plan_why", held.plan_why(plan));
             tell("held trace", held.trace(plan));
+            tell("held operators", held.plan_operators(&[0], 1));
             tell("elsewhere", std::thread::scope(|it| it.spawn(|| held.plan(plan)).join().unwrap()));
         }
-        Err(sas::ReadError::Refused(text)) => tell("read", Ok(sas::Answer { is_yes: false, text })),
+        Err(sas::ReadError::Refused(answer)) => tell("read", Ok(answer)),
         Err(sas::ReadError::Failed(error)) => tell("read", Err(error)),
     }
     match sas::Task::read(plan) {
         Ok(_) => println!("a plan is read as a task"),
-        Err(sas::ReadError::Refused(text)) => tell("read", Ok(sas::Answer { is_yes: false, text })),
+        Err(sas::ReadError::Refused(answer)) => tell("read", Ok(answer)),
         Err(sas::ReadError::Failed(error)) => tell("read", Err(error)),
     }
 }

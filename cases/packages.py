@@ -33,7 +33,6 @@ if(sas_FOUND)
   message(FATAL_ERROR "found as version 2")
 endif()
 find_package(sas 1.1 REQUIRED)
-set(CMAKE_CXX_STANDARD 17)
 add_executable(held_c {top}/library/examples/held.c)
 target_link_libraries(held_c PRIVATE sas::sas)
 add_executable(held_cpp {top}/library/examples/held.cpp)
@@ -41,19 +40,35 @@ target_link_libraries(held_cpp PRIVATE sas::static)
 add_executable(planner {here}/planner.cpp)
 target_link_libraries(planner PRIVATE sas::sas)
 """
+# a project in C alone, and one that sets an earlier standard
+C_PROJECT = """\
+cmake_minimum_required(VERSION 3.10)
+project(held C)
+find_package(sas 1.1 REQUIRED)
+add_executable(held_c {top}/library/examples/held.c)
+target_link_libraries(held_c PRIVATE sas::static)
+"""
+EARLIER_PROJECT = """\
+cmake_minimum_required(VERSION 3.10)
+project(held CXX)
+set(CMAKE_CXX_STANDARD 11)
+find_package(sas 1.1 REQUIRED)
+add_executable(held_cpp {top}/library/examples/held.cpp)
+target_link_libraries(held_cpp PRIVATE sas::sas)
+"""
 PLANNER_PRINTS = """\
 plan invalid: step 2: not applicable
 plan invalid: goal fact 0 not reached
 plan invalid: goal fact 0 not reached
 plan valid: 4 steps, cost 4
-step 4 6 1 put f2 feed
-change 0 1 0 Atom lit(yard)
-change 1 1 0 Atom lit(hall)
-change 3 0 1 NegatedAtom free(feed)
-change 5 0 1 Atom in(f2, feed)
-change 6 1 0 Atom handempty()
-change 7 0 1 NegatedAtom outage()
-plan valid: 4 steps, cost 4
+6 1 put f2 feed
+0 1 0 Atom lit(yard)
+1 1 0 Atom lit(hall)
+3 0 1 NegatedAtom free(feed)
+5 0 1 Atom in(f2, feed)
+6 1 0 Atom handempty()
+7 0 1 NegatedAtom outage()
+plan invalid: step 5: no operator of that number
 """
 SHARED = "libsas.so.1"
 # pip without a network, and without what is installed elsewhere
@@ -85,19 +100,25 @@ def wrong_held(top, *command, **more):
 
 
 def cmake_tests(top, prefix, place):
-    """Yields a project of CMake over the library in a folder. It could show a target that names no file, or a wrong version."""
+    """Yields projects of CMake over the library in a folder. They could show a target that names no file, a wrong version, a compiler
+    that isn't told the standard of sas.hpp, and a project in C that needs a compiler of C++."""
     if not is_there("cmake"):
         return
-    folder = os.path.join(place, "cmake")
-    os.makedirs(folder)
-    with open(os.path.join(folder, "CMakeLists.txt"), "w", encoding="utf-8") as file:
-        file.write(PROJECT.format(top=top, here=os.path.join(TOP, "cases")))
-    found = wrong("cmake", "-S", folder, "-B", f"{folder}/build", f"-DCMAKE_PREFIX_PATH={prefix}")
-    yield "CMake", found or wrong("cmake", "--build", f"{folder}/build")
-    yield "CMake, sas::sas", wrong_held(top, f"{folder}/build/held_c")
-    yield "CMake, sas::static", wrong_held(top, f"{folder}/build/held_cpp")
-    got = ended(f"{folder}/build/planner", os.path.join(top, "examples/fuses.sas"))
-    yield "CMake, a planner's loop", [] if got == (0, PLANNER_PRINTS) else [f"{got}"]
+    made = [("C alone", C_PROJECT, "")]
+    made += [(f"{name}{it}", project, it) for it in filter(is_there, ("g++", "clang++")) for name, project in (("", PROJECT), ("C++11, ", EARLIER_PROJECT))]
+    for name, project, compiler in made:
+        folder = os.path.join(place, f"cmake {name}")
+        os.makedirs(folder)
+        with open(os.path.join(folder, "CMakeLists.txt"), "w", encoding="utf-8") as file:
+            file.write(project.format(top=top, here=os.path.join(TOP, "cases")))
+        words = [f"-DCMAKE_PREFIX_PATH={prefix}", *([f"-DCMAKE_CXX_COMPILER={compiler}"] if compiler else [])]
+        found = wrong("cmake", "-S", folder, "-B", f"{folder}/build", *words)
+        yield f"CMake, {name}", found or wrong("cmake", "--build", f"{folder}/build")
+        for program in re.findall(r"add_executable\((held\w*)", project):
+            yield f"CMake, {name}, {program}", wrong_held(top, f"{folder}/build/{program}")
+        if "planner" in project:
+            got = ended(f"{folder}/build/planner", os.path.join(top, "examples/fuses.sas"))
+            yield f"CMake, {name}, a planner's loop", [] if got == (0, PLANNER_PRINTS) else [f"{got}"]
 
 
 def pkg_config_tests(top, place):
@@ -124,9 +145,18 @@ def cargo_tests(top, place):
     yield "cargo test", wrong("cargo", "test", *at, env=env)
     yield "cargo doc", wrong("cargo", "doc", *at, env=env)
     yield "cargo run", wrong_held(top, "cargo", "run", *at, "--example", "held", "--", env=env)
-    none = {**env, "SAS_LIB_DIR": place}
-    status, said = ended("cargo", "build", *at, env=none)
-    yield "cargo build, without the library", [] if status and "libsas isn't found" in said else [said]
+    # a relative folder is that of the caller first, then that of the crate
+    for folder, tried, where in (
+        (place, [place], place),
+        ("none", [os.path.join(place, "none"), os.path.join(top, "library/rust/none")], place),
+        ("out", [], os.path.join(top, "library")),
+        ("../out", [], place),
+        (os.path.join(top, "library/out"), [], place),
+    ):
+        status, said = ended("cargo", "build", *at, env={**env, "SAS_LIB_DIR": folder}, cwd=where)
+        line = f"libsas isn't found in {' or '.join(tried)}"
+        found = [it.strip() for it in said.splitlines()]
+        yield f"cargo build, SAS_LIB_DIR={folder} in {where}", [] if (status and line in found if tried else status == 0) else [said]
 
 
 def pip_tests(top, place):

@@ -6,7 +6,7 @@
 Each request and each flag that `sas --help` names stands in README.md, in the manual page and in each completion, and none stands there
 that it doesn't name. Each line that the program may print on standard error stands in docs/GUIDE.md and in the manual page. The version
 is one: that of the program, of the first entry of CHANGELOG.md, of the packages of the library and of the manual page. Links of documents
-lead to files. The function that docs/LIBRARY.md shows in Rattle is that of its crate. The completions are tried in bash and in fish and
+lead to files. The function that docs/ARCHITECTURE.md shows is that of its crate. The completions are tried in bash and in fish and
 read by zsh, and the manual page by mandoc, where these are there; what isn't there is named in a line that begins with `without`.
 
 No proof reads these files. A request that no page names, or a page of another version, would be found here alone.
@@ -22,7 +22,7 @@ from shown import documents
 from texts import TOP, text_of
 
 PAGE, README, GUIDE = "man/sas.1", "README.md", "docs/GUIDE.md"
-LIBRARY, CALLER = "docs/LIBRARY.md", "crates/test_verdicts/src/caller.rt"
+CALLED, CALLER = "docs/ARCHITECTURE.md", "crates/test_verdicts/src/caller.rt"
 COMPLETIONS = {"bash": "completions/sas.bash", "zsh": "completions/_sas", "fish": "completions/sas.fish"}
 # what is typed after requests and flags, and what bash and fish offer for it
 PLAN, DOORWAY = "examples/doorway.p", {"examples/doorway.plan"}
@@ -156,9 +156,9 @@ def link_cases(top=TOP):
 
 
 def code_cases():
-    """Yields the function that docs/LIBRARY.md shows of a program in Rattle: it is that of the crate, which is proved."""
-    shown = re.search(r"^## Rattle\n.*?```rust\n(.*?)```$", text_of(os.path.join(TOP, LIBRARY)), re.MULTILINE | re.DOTALL)
-    yield f"the function of {LIBRARY}", [] if shown and shown[1] in text_of(os.path.join(TOP, CALLER)) else [f"it isn't in {CALLER}"]
+    """Yields the function that docs/ARCHITECTURE.md shows: it is that of the crate, which is proved."""
+    shown = re.search(r"^```rust\n(.*?)```$", text_of(os.path.join(TOP, CALLED)), re.MULTILINE | re.DOTALL)
+    yield f"the function of {CALLED}", [] if shown and shown[1] in text_of(os.path.join(TOP, CALLER)) else [f"it isn't in {CALLER}"]
 
 
 def main(sas):

@@ -600,7 +600,8 @@ def type_tests(_, sas, folder):
     write(program, TYPED.encode())
     if not is_there("mypy"):
         return
-    words = ["mypy", "--strict", "--no-error-summary", "--cache-dir", os.path.join(folder, "cache")]
+    # reports are a command, not a module to import
+    words = ["mypy", "--strict", "--exclude", "/report/", "--no-error-summary", "--cache-dir", os.path.join(folder, "cache")]
     for name, command, env in (
         ("the package", [*words, package], os.environ),
         ("a program", [*words, program], {**os.environ, "MYPYPATH": os.path.dirname(package)}),

@@ -4,7 +4,9 @@
     python3 cases/reading.py crates/sas_run/specs/Plans.antt   prints these files, each with its number of lines without imports and
                                                                empty ones
     python3 cases/reading.py                                   tests that docs/READING.md names, in each section, the files in bold and
-                                                               exactly those that they rest on, with their numbers of lines
+                                                               exactly those that they rest on, with their numbers of lines; that the
+                                                               sum that it gives for `plan valid` is theirs; and that what it quotes of
+                                                               a file stands there, but for comments
 """
 import os
 import re
@@ -14,12 +16,17 @@ import report
 
 TOP = os.path.dirname(os.path.dirname(os.path.abspath(__file__)))
 READING = f"{TOP}/docs/READING.md"
-STARTS = 10
+STARTS = 13
+# what rests on this file has to be believed for `plan valid`, in at most so many lines
+THEOREM, MOST = "crates/sas_requests/specs/Headline.antt", 560
 # a heading of READING.md; a file that the page names; one with its number of lines; one in bold, with which a section starts
 HEADING = re.compile(r"^## (.*)$", re.MULTILINE)
 FILE = re.compile(r"`(crates/[^`]*)`")
 NAMED = re.compile(r"`(crates/\w+/specs/\w+\.antt)`(?:\*\*)? \((\d+)\)")
 START = re.compile(r"\*\*`(crates/[^`]*)`\*\*")
+# what the page quotes of a file, and the number of lines that it gives for `plan valid`
+QUOTED = re.compile(r"^```antt (\S+)\n(.*?)^```$", re.MULTILINE | re.DOTALL)
+SUM = re.compile(r"(\d+) for `plan valid`")
 
 
 def text_of(path):
@@ -73,6 +80,24 @@ def wrong_sections(reading):
             yield heading, starts, wrong
 
 
+def code_of(text):
+    """Returns the lines of a text that are no comments, each with its end."""
+    return "".join(f"{line}\n" for line in text.splitlines() if line.strip() and not line.lstrip().startswith(("--", "//")))
+
+
+def wrong_quotes(reading):
+    """Yields each file that READING.md quotes, with the paragraphs of the quote that don't stand there."""
+    for path, quote in QUOTED.findall(reading):
+        held = code_of(text_of(path))
+        yield path, [part for part in quote.split("\n\n") if code_of(part) not in held]
+
+
+def wrong_sum(reading):
+    """Returns what is wrong with the number of lines that READING.md gives for `plan valid`."""
+    lines, said = sum(map(size, closure(THEOREM))), [int(it) for it in SUM.findall(reading)]
+    return ([] if said == [lines] else [f"{lines} lines, not {said}"]) + ([f"{lines} lines, more than {MOST}"] if lines > MOST else [])
+
+
 def main():
     if len(sys.argv) > 1:
         sizes = {path: size(path) for path in closure(sys.argv[1])}
@@ -86,6 +111,10 @@ def main():
     starts = [start for _, found, _ in sections for start in found]
     cases = [(f"READING.md, {heading}", wrong) for heading, _, wrong in sections]
     cases.append(("the number of files with which sections start", [] if len(starts) == STARTS else [f"{len(starts)}, not {STARTS}"]))
+    quotes = list(wrong_quotes(reading))
+    cases += [(f"READING.md, the quote of {path}", wrong) for path, wrong in quotes]
+    cases.append(("READING.md quotes the theorem", [] if THEOREM in dict(quotes) else [f"it doesn't quote {THEOREM}"]))
+    cases.append(("READING.md, the lines for `plan valid`", wrong_sum(reading)))
     cases.append(("files that aren't there", [it for it in FILE.findall(reading) if not os.path.exists(f"{TOP}/{it}")]))
     report.end([{"name": name} for name, _ in cases], [wrong for _, wrong in cases])
 

@@ -1,7 +1,10 @@
 #!/usr/bin/env python3
 """Runs the command-line cases over an executable.
 
-    python3 cases/run.py ./sas
+    python3 cases/run.py ./sas [EMULATOR]
+
+EMULATOR is what runs the program where the machine can't, such as qemu-aarch64-static. A case that limits memory or the stack would limit
+the emulator, so it is left out there. All others take about an hour of processor time there.
 
 tasks.json: task files, and what is printed of each, as it stands and with CR LF at the end of each line. `print` prints
 it as it stands, and does so with CR LF at the end of one line alone. Cut off after any byte it ends early, on its last
@@ -97,6 +100,8 @@ LIMITS = (
     ("file", 512, "trap '' XFSZ; ulimit -f {}"),
     ("open", 1, "ulimit -n {}"),
 )
+# what would limit an emulator, which has memory of its own
+UNEMULATED = ("memory", "stack")
 CLOSING = {"input": "exec <&-", "output": "exec >&-", "error": "exec 2>&-"}
 
 
@@ -259,9 +264,9 @@ def output_device(case, folder):
 
 
 def command_of(program, case, folder):
-    """Returns the program with its words, and what closes its streams and sets its limits before it, where there is any of
+    """Returns the words of the program with those of the case, and what closes its streams and sets its limits before it, where there is any of
     that."""
-    words = [program, *(as_bytes(word.replace("FOLDER", folder)) for word in case["words"])]
+    words = [*program, *(as_bytes(word.replace("FOLDER", folder)) for word in case["words"])]
     # the shell needs some files itself to close a stream
     before = [CLOSING[name] for name in case.get("closed", ())]
     before += [line.format(case[name] // size) for name, size, line in LIMITS if name in case]
@@ -408,22 +413,28 @@ def faults(program, case, folder):
         return [f"no end within {SECONDS} seconds"]
 
 
-def main():
-    if len(sys.argv) != 2:
-        sys.exit(__doc__)
-    program = os.path.abspath(sys.argv[1])
+def cases_in(folder, one_of=1):
+    """Returns all cases, those that take longest first, or one of so many of those that are made by the thousand. Plan files are written
+    into the folder."""
+    files = [*whole_cases(), *line_cases(), *plan_cases(folder), *group_cases()]
+    plans = [*verdict_cases(), *why_cases(), *trace_cases(), *plans_cases()]
+    reasons = [*reason_cases(), *layer_cases(), *refusal_cases()]
+    made = [*files, *map(with_why, files), *cut_cases(), *plans, *family_cases(), *reasons]
+    large = [*nets_cases(), *idle_cases(), *lengthy_cases(), *plenty_cases(), *crowded_cases(), *large_cases()]
+    return [*large, *made[::one_of], *table("program.json")]
+
+
+def judged(program, emulator=(), one_of=1):
+    """Runs the program on the cases, or under an emulator on one of so many of them. Returns them, and what is wrong with each."""
     with tempfile.TemporaryDirectory() as plans, tempfile.TemporaryDirectory() as folder:
-        files = [*whole_cases(), *line_cases(), *plan_cases(plans), *group_cases()]
-        plans = [*verdict_cases(), *why_cases(), *trace_cases(), *plans_cases()]
-        reasons = [*reason_cases(), *layer_cases(), *refusal_cases()]
-        made = [*cut_cases(), *plans, *family_cases(), *reasons, *table("program.json")]
-        # those that take longest first
-        large = [*nets_cases(), *idle_cases(), *lengthy_cases(), *plenty_cases(), *crowded_cases(), *large_cases()]
-        cases = [*large, *files, *map(with_why, files), *made]
+        cases = [it for it in cases_in(plans, one_of) if not emulator or not any(name in it for name in UNEMULATED)]
         with ThreadPoolExecutor(os.cpu_count()) as pool:
-            wrong = list(pool.map(lambda case: faults(program, case, folder), cases))
-    report.end(cases, wrong)
+            return cases, list(pool.map(lambda case: faults([*emulator, program], case, folder), cases))
+
+
+def main(sas, *emulator):
+    report.end(*judged(os.path.abspath(sas), emulator))
 
 
 if __name__ == "__main__":
-    main()
+    main(*sys.argv[1:])

@@ -31,8 +31,10 @@ ESCAPES = {r"\-": "-", r"\(aq": "'", r"\e": "\\", r"\(ti": "~", r"\(ha": "^", r"
 
 
 def documents(top=TOP):
-    """Returns the documents of the repository, or of a release in a folder, and the manual page."""
-    return ["README.md", *sorted(glob.glob("docs/*.md", root_dir=top)), "examples/README.md", PAGE]
+    """Returns the documents of the repository, or of a release in a folder, and the manual page. Installed documents have none beside
+    them."""
+    pages = [PAGE] if os.path.isdir(os.path.join(top, "man")) else []
+    return ["README.md", *sorted(glob.glob("docs/*.md", root_dir=top)), "examples/README.md", *pages]
 
 
 def lines_of(document, top):

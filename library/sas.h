@@ -5,7 +5,7 @@
 
    The caller must ensure these, which no proof covers:
    - No pointer is null, even if the length is 0. As many bytes as the length says may be read there, or written in a
-     room. Nobody changes them until the call returns.
+     room. Nobody changes them until the call returns. The same holds of an array of numbers, aligned to 4 bytes.
    - `room` and `size` overlap no other argument.
    - A `sas_task` starts as SAS_TASK_NONE, or as zero bytes. The caller may read `is_there`, but changes and copies
      nothing of it. It is passed to one call at a time, and in the end to `sas_task_free`.
@@ -20,7 +20,8 @@
 /* The version of this header. `sas_version` returns that of the library. */
 #define SAS_VERSION "1.1.0"
 
-/* The size of a room that is enough for each answer of sas_plan, sas_check, sas_task_read and sas_task_plan. */
+/* The size of a room that is enough for each answer of sas_plan, sas_check, sas_task_read, sas_task_plan and
+   sas_task_plan_operators. */
 #define SAS_LINE_ROOM 128
 
 #ifdef __cplusplus
@@ -102,6 +103,13 @@ enum sas_number sas_task_plan_why(sas_task *task, const uint8_t *plan, size_t pl
    again. */
 enum sas_number sas_task_trace(sas_task *task, const uint8_t *plan, size_t plan_length,
                                uint8_t *room, size_t room_length, size_t *size);
+
+/* Whether these operators, in this order, solve the task that is held at this cost. `operators` has `count` numbers,
+   from 0 in the order of the task file. No name is looked up, so operators of one name are told apart. The answer is a
+   line that fits in SAS_LINE_ROOM bytes: one of those of sas_task_plan, or `plan invalid: step S: no operator of that
+   number`. The task is still held in any case. If no task is held, the call returns SAS_NO_TASK. */
+enum sas_number sas_task_plan_operators(sas_task *task, const uint32_t *operators, size_t count, uint64_t cost,
+                                        uint8_t *room, size_t room_length, size_t *size);
 
 /* Frees the task that is held, if there is one. After the call no task is held. */
 void sas_task_free(sas_task *task);

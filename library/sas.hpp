@@ -11,13 +11,13 @@
 #else
 
 #include "sas.h"
+#include "sas_answers.hpp"
 
-#include <charconv>
 #include <cstddef>
 #include <cstdint>
+#include <initializer_list>
 #include <iterator>
 #include <new>
-#include <optional>
 #include <stdexcept>
 #include <string>
 #include <string_view>
@@ -30,36 +30,6 @@ namespace sas {
 // a program may have files that are compiled with exceptions, and others without
 inline namespace without_exceptions {
 #endif
-
-// Yes or no. Without exceptions, also why there is no answer.
-enum class Status { yes, no, out_of_memory, input_too_long, no_task };
-
-// What `sas` prints, and its exit status.
-struct [[nodiscard]] Answer {
-    Status status = Status::no;
-    std::string text;
-
-    explicit operator bool() const noexcept { return status == Status::yes; }
-
-    // The number of steps, if the answer is `plan valid: S steps, cost C`.
-    [[nodiscard]] std::optional<std::uint64_t> steps() const noexcept { return number_after("plan valid: "); }
-
-    // The cost, if the answer is `plan valid: S steps, cost C`.
-    [[nodiscard]] std::optional<std::uint64_t> cost() const noexcept { return number_after(" steps, cost "); }
-
-private:
-    // The number after a word of the last line, if that is the line of a valid plan.
-    std::optional<std::uint64_t> number_after(std::string_view word) const noexcept {
-        const std::size_t before = text.size() < 2 ? text.npos : text.rfind('\n', text.size() - 2);
-        const std::string_view line = std::string_view(text).substr(before + 1);
-        if (line.substr(0, 12) != "plan valid: ") {
-            return std::nullopt;
-        }
-        std::uint64_t number = 0;
-        std::from_chars(line.data() + line.find(word) + word.size(), line.data() + line.size(), number);
-        return number;
-    }
-};
 
 // An input has more than 4,294,967,296 bytes.
 struct InputTooLong : std::length_error {
@@ -80,14 +50,15 @@ struct Refused : std::runtime_error {
 
 namespace detail {
 
+// The type of the items of a container or a span.
+template <class T> using item = std::decay_t<decltype(*std::data(std::declval<const T &>()))>;
+
 template <class T>
 inline constexpr bool is_byte = sizeof(T) == 1 && (std::is_integral_v<T> || std::is_same_v<T, std::byte>);
 
 // Whether a type is a container or a span of bytes.
 template <class T, class = void> inline constexpr bool has_bytes = false;
-template <class T>
-inline constexpr bool has_bytes<T, std::void_t<decltype(*std::data(std::declval<const T &>()))>> =
-    !std::is_array_v<T> && is_byte<std::decay_t<decltype(*std::data(std::declval<const T &>()))>>;
+template <class T> inline constexpr bool has_bytes<T, std::void_t<item<T>>> = !std::is_array_v<T> && is_byte<item<T>>;
 
 } // namespace detail
 
@@ -108,6 +79,24 @@ public:
 private:
     const void *at_;
     std::size_t length_;
+};
+
+// Numbers of operators: of a container, a span or an array of std::uint32_t, or a list in braces. The caller keeps them.
+class Operators {
+public:
+    Operators(const std::uint32_t *at, std::size_t count) noexcept : at_(at), count_(count) {}
+    Operators(std::initializer_list<std::uint32_t> it) noexcept : Operators(std::data(it), it.size()) {}
+    template <class Container, std::enable_if_t<std::is_same_v<detail::item<Container>, std::uint32_t>, int> = 0>
+    Operators(const Container &it) noexcept : Operators(std::data(it), std::size(it)) {}
+
+    // Where the numbers begin, which isn't null.
+    [[nodiscard]] const std::uint32_t *data() const noexcept { return count_ == 0 ? &none : at_; }
+    [[nodiscard]] std::size_t size() const noexcept { return count_; }
+
+private:
+    static constexpr std::uint32_t none = 0;
+    const std::uint32_t *at_;
+    std::size_t count_;
 };
 
 namespace detail {
@@ -220,6 +209,13 @@ public:
     // Whether a plan solves the task that is held: answers as `sas::plan`. If no task is held, it throws sas::NoTask, as do the next two
     // calls. None of the three reads the task again.
     Answer plan(Bytes plan) { return of_plan(sas_task_plan, plan, SAS_LINE_ROOM); }
+
+    // Whether the steps that are these operators solve the task at this cost: answers as `sas::plan`, but no name is looked up.
+    Answer plan_operators(Operators operators, std::uint64_t cost) {
+        return detail::answer(SAS_LINE_ROOM, [&](std::uint8_t *at, std::size_t length, std::size_t *size) {
+            return sas_task_plan_operators(&held_, operators.data(), operators.size(), cost, at, length, size);
+        });
+    }
 
     // The same with the reasons for a no: answers as `sas::plan_why`.
     Answer plan_why(Bytes plan) { return of_plan(sas_task_plan_why, plan, detail::usual_room); }

@@ -12,6 +12,10 @@ if(NOT TARGET sas::sas)
   set_target_properties(sas::static PROPERTIES
     IMPORTED_LOCATION "${_sas_lib}/libsas.a"
     INTERFACE_INCLUDE_DIRECTORIES "${_sas_include}")
+  # sas.hpp requires it; a project in C alone has no features of C++
+  if(CMAKE_CXX_COMPILER_LOADED)
+    set_target_properties(sas::sas sas::static PROPERTIES INTERFACE_COMPILE_FEATURES cxx_std_17)
+  endif()
 endif()
 unset(_sas_lib)
 unset(_sas_include)

@@ -1,13 +1,14 @@
 #!/usr/bin/env python3
-"""Packs a release, sas-VERSION-x86_64-linux.tar.gz, for those who have no prover: a program that is linked statically, the library, the
+"""Packs a release, sas-VERSION-PLATFORM.tar.gz, for those who have no prover: a program that is linked statically, the library, the
 manual page, completions, documents and examples. Prints its place and its SHA-256.
 
-    python3 release/dist.py [FOLDER]
+    python3 release/dist.py [FOLDER [PLATFORM]]
 
-FOLDER is where it is put, the top of the repository where none is named. The files stand in a release where they stand in the
-repository. The program is linked from the object of the crate `sas`, which `make` left, and the two archives of the toolchain; where
-there is none yet, or a file of a crate is younger, build.py proves the crate and what it stands on. library/build.py does so of the
-library. The C compiler is $CC or cc.
+FOLDER is where it is put, the top of the repository where none is named. PLATFORM is x86_64-linux, if left out, or aarch64-linux. The
+files stand in a release where they stand in the repository, and the library in library/out/. The program is linked from the object of the
+crate `sas`; where there is none yet for the platform, or a file of a crate is younger, build.py proves the crate and what it stands on.
+library/build.py does so of the library. What the program asks of C beside the C library is in two archives of the toolchain, or for
+another platform in process.c and library/sas_memory.c. The C compiler is $CC or cc, or aarch64-linux-gnu-gcc.
 
 The same files at the same commit, with the same compilers, give the same bytes: each file has the time of the commit, or that of
 SOURCE_DATE_EPOCH, and names are sorted. PROVED says with which toolchain and at which commit all was proved, and how `make test` ended
@@ -19,20 +20,22 @@ import hashlib
 import io
 import os
 import re
-import shlex
 import subprocess
 import sys
 import tarfile
 import tempfile
 
 TOP = os.path.dirname(os.path.dirname(os.path.abspath(__file__)))
-CRATE = f"{TOP}/crates/sas"
-OBJECT = f"{CRATE}/out/sas.o"
+sys.path.insert(0, TOP)
+import build as proving  # the file at the top
+
+PROGRAM = "sas"
 # what `make test` notes at its end: the commit, the toolchain, the last line
 GATE = f"{TOP}/gate.log"
-PLATFORM = "x86_64-linux"
+# the C code of a program for another platform than the native one
+IN_C = ("release/process.c", "library/sas_memory.c")
 # documents that describe the source; a release has the others
-OF_SOURCE = ("ARCHITECTURE", "CONTRIBUTING", "DECISIONS", "PROMISES", "READING", "SPEED")
+OF_SOURCE = ("ARCHITECTURE", "CONTRIBUTING", "DECISIONS", "PROMISES", "RATTLE", "READING", "SPEED")
 # what stands between these lines of a document is about the source, and left out of a release
 ONLY_SOURCE = re.compile(rb"<!-- of the source -->\n.*?<!-- end of the source -->\n", re.DOTALL)
 PACKED = (
@@ -46,15 +49,15 @@ PACKED = (
     "library/examples/*",
     "library/python/*.*",
     "library/python/sas/*",
+    "report/*",
+    "report/page/*",
     "library/rust/*.toml",
     "library/rust/build.rs",
     "library/rust/src/*",
     "library/rust/tests/*",
-    "library/out/*",
-    "library/out/sas/*",
 )
 BUILT = "library/out/"
-PROGRAMS = ("sas", "install.sh", "library/out/libsas.so.1")
+PROGRAMS = ("sas", "install.sh", "report/sas-report", "library/out/libsas.so.1")
 
 
 def printed(*command, cwd=TOP):
@@ -73,25 +76,13 @@ def run(*command, **more):
         sys.exit(f"not packed: {' '.join(command)} ended with status {ended.returncode}")
 
 
-def is_built():
-    """Whether the program's object is there, and no file that it is made of is younger."""
-    if not os.path.exists(OBJECT):
-        return False
-    sources = [f"{TOP}/crates.txt"]
-    for crate in ("sas", "sas_*"):
-        for kind in ("src", "specs", "proofs"):
-            sources += glob.glob(f"{TOP}/crates/{crate}/{kind}/**/*.*", recursive=True)
-    return os.path.getmtime(OBJECT) >= max(map(os.path.getmtime, sources))
-
-
-def linked(folder):
-    """Returns the program, linked statically."""
-    if not is_built():
-        run(sys.executable, f"{TOP}/build.py", "sas", stdout=subprocess.DEVNULL)
-    kit = os.path.dirname(printed("rt", "doc") or sys.exit("not packed: there is no rt on the PATH"))
-    archives = [f"{kit}/c/libos_c.a", f"{kit}/c/liblibc_c.a"]
-    compiler = shlex.split(os.environ.get("CC") or "cc")
-    run(*compiler, "-static", "-s", "-Wl,--build-id=none", OBJECT, *archives, "-o", f"{folder}/sas")
+def linked(platform, folder, *words):
+    """Returns the program, linked with these words of the C compiler; statically, if none is given."""
+    if not proving.is_built(PROGRAM, platform):
+        run(sys.executable, f"{TOP}/build.py", PROGRAM, str(os.cpu_count()), platform, stdout=subprocess.DEVNULL)
+    others = proving.archives() if platform == proving.NATIVE else ["-O2", *(f"{TOP}/{it}" for it in IN_C)]
+    words = [*(words or ["-static"]), "-s", "-Wl,--build-id=none", proving.path_of(PROGRAM, platform), *others]
+    run(*proving.compiler_for(platform), *words, "-o", f"{folder}/sas")
     return bytes_of(f"{folder}/sas")
 
 
@@ -123,40 +114,45 @@ def gate_of(commit):
     return "make test was not run here at this commit"
 
 
-def proved(version, commit):
+def proved(version, commit, platform):
     """Returns what PROVED says."""
-    compiler = printed(*shlex.split(os.environ.get("CC") or "cc"), "--version").splitlines()[0]
+    compiler = printed(*proving.compiler_for(platform), "--version").splitlines()[0]
     return f"""\
-sas {version} for {PLATFORM}
+sas {version} for {platform}
 
 commit     {commit}
 toolchain  {printed("rt", "version")}
+target     {proving.PLATFORMS[platform].target}
 gate       {gate_of(commit)}
 linker     {compiler}
 
 The toolchain builds the program and the library only where each function of theirs is proved to meet its contract. At this commit the
 contracts, definitions and proofs stand in the folder crates of the repository. Its document PROMISES has each promise, and READING says
-what must be believed. The program sas is linked statically; libsas.a and libsas.so require the C library of the machine.
+what must be believed. The program of a release is linked statically, that of a package of Debian isn't. libsas.a and libsas.so require the
+C library of the machine.
 """
 
 
-def names():
-    """Returns which files of the repository are packed: none that the repository doesn't know, but for what was built."""
+def names(platform):
+    """Returns the names of what is packed, each with its path: no file that the repository doesn't know, but for what was built."""
     known = printed("git", "ls-files", "-z")
-    found = [it for pattern in PACKED for it in glob.glob(pattern, root_dir=TOP) if os.path.isfile(f"{TOP}/{it}")]
+    found = [it for pattern in PACKED for it in glob.glob(pattern, root_dir=TOP)]
+    found = [it for it in found if os.path.isfile(f"{TOP}/{it}") or os.path.islink(f"{TOP}/{it}")]
     found = [it for it in found if it not in [f"docs/{name}.md" for name in OF_SOURCE]]
-    return [it for it in found if known is None or it.startswith(BUILT) or it in known.split("\0")]
+    found = {it: f"{TOP}/{it}" for it in found if known is None or it in known.split("\0")}
+    library = TOP + ("/library/out" if platform == proving.NATIVE else f"/library/out-{platform}")
+    built = [it for it in glob.glob("**", root_dir=library, recursive=True) if os.path.isfile(f"{library}/{it}")]
+    return found | {f"{BUILT}{it}": f"{library}/{it}" for it in built}
 
 
-def released(name):
-    """Returns what a file of the repository holds in a release."""
-    held = bytes_of(f"{TOP}/{name}")
+def released(name, path):
+    """Returns what a release holds of a file under a name."""
+    held = b"" if os.path.islink(path) else bytes_of(path)
     return ONLY_SOURCE.sub(b"", held) if name.endswith(".md") else held
 
 
-def packed(version, commit, time, files):
-    """Returns a release of these files. A file that is a link stays one."""
-    top = f"sas-{version}-{PLATFORM}"
+def packed(top, time, files, links):
+    """Returns these files in a folder, as an archive. Some of them are links, each with what it leads to."""
     sums = "".join(f"{hashlib.sha256(held).hexdigest()}  {name}\n" for name, held in sorted(files.items()))
     files = files | {"SHA256SUMS": sums.encode()}
     out = io.BytesIO()
@@ -165,23 +161,32 @@ def packed(version, commit, time, files):
             for name, held in sorted(files.items()):
                 entry = tarfile.TarInfo(f"{top}/{name}")
                 entry.size, entry.mtime, entry.mode = len(held), time, 0o755 if name in PROGRAMS else 0o644
-                if os.path.islink(f"{TOP}/{name}"):
-                    entry.size, entry.type, entry.linkname = 0, tarfile.SYMTYPE, os.readlink(f"{TOP}/{name}")
+                if name in links:
+                    entry.size, entry.type, entry.linkname = 0, tarfile.SYMTYPE, links[name]
                 tar.addfile(entry, io.BytesIO(held))
-    return f"{top}.tar.gz", out.getvalue()
+    return out.getvalue()
 
 
-def main(to=TOP):
-    run(sys.executable, f"{TOP}/library/build.py", stdout=subprocess.DEVNULL)
+def release(platform):
+    """Returns the folder of a release for a platform, and its archive."""
+    run(sys.executable, f"{TOP}/library/build.py", str(os.cpu_count()), platform, stdout=subprocess.DEVNULL)
     version, (commit, time) = version_of(), commit_of()
-    files = {name: released(name) for name in names()}
+    paths = names(platform)
+    files = {name: released(name, path) for name, path in paths.items()}
+    links = {name: os.readlink(path) for name, path in paths.items() if os.path.islink(path)}
     with tempfile.TemporaryDirectory() as folder:
-        files["sas"] = linked(folder)
-    files["PROVED"] = proved(version, commit).encode()
-    name, held = packed(version, commit, time, files)
-    with open(os.path.join(to, name), "wb") as file:
+        files["sas"] = linked(platform, folder)
+    files["PROVED"] = proved(version, commit, platform).encode()
+    top = f"sas-{version}-{platform}"
+    return top, packed(top, time, files, links)
+
+
+def main(to=TOP, platform=proving.NATIVE):
+    top, held = release(proving.known(platform))
+    path = os.path.join(to, f"{top}.tar.gz")
+    with open(path, "wb") as file:
         file.write(held)
-    print(f"{hashlib.sha256(held).hexdigest()}  {os.path.join(to, name)}")
+    print(f"{hashlib.sha256(held).hexdigest()}  {path}")
 
 
 if __name__ == "__main__":

@@ -1,6 +1,7 @@
 //! Finds the library: in the folder that SAS_LIB_DIR names, else in ../out, where `make lib` puts it, else by pkg-config. Links the
-//! static library if there is one.
+//! static library if there is one. A relative SAS_LIB_DIR is looked for in the folder in which cargo was called, then in that of the crate.
 
+use std::os::unix::process::parent_id;
 use std::path::{Path, PathBuf};
 use std::process::{exit, Command};
 
@@ -11,24 +12,33 @@ fn has_library(folder: &Path) -> bool {
 /// Returns the folder that pkg-config names.
 fn installed() -> Option<PathBuf> {
     let ran = Command::new("pkg-config").args(["--variable=libdir", "sas"]).output().ok()?;
-    let folder = PathBuf::from(String::from_utf8(ran.stdout).ok()?.trim_end());
-    (ran.status.success() && has_library(&folder)).then_some(folder)
+    ran.status.success().then(|| PathBuf::from(String::from_utf8_lossy(&ran.stdout).trim_end()))
 }
 
-/// Returns the folder of the library.
-fn library() -> Option<PathBuf> {
-    if let Some(folder) = std::env::var_os("SAS_LIB_DIR") {
-        return Some(PathBuf::from(folder)).filter(|it| has_library(it));
+/// Returns the folders in which a relative path is looked for. Cargo, which starts this program in that of the crate, stays where it was
+/// called.
+fn starts() -> Vec<PathBuf> {
+    let called = std::fs::read_link(format!("/proc/{}/cwd", parent_id())).ok();
+    called.into_iter().chain([PathBuf::from(env!("CARGO_MANIFEST_DIR"))]).collect()
+}
+
+/// Returns the folders that may have the library.
+fn folders() -> Vec<PathBuf> {
+    match std::env::var_os("SAS_LIB_DIR") {
+        Some(named) => starts().iter().map(|start| start.join(&named)).collect(),
+        None => [Path::new(env!("CARGO_MANIFEST_DIR")).join("../out")].into_iter().chain(installed()).collect(),
     }
-    let built = Path::new(env!("CARGO_MANIFEST_DIR")).join("../out");
-    if has_library(&built) { Some(built) } else { installed() }
 }
 
 fn main() {
     println!("cargo:rerun-if-env-changed=SAS_LIB_DIR");
     println!("cargo:rerun-if-env-changed=PKG_CONFIG_PATH");
-    let Some(folder) = library() else {
-        eprintln!("libsas isn't found: name its folder in SAS_LIB_DIR, build it by `make lib`, or install it for pkg-config");
+    let mut folders = folders();
+    folders.dedup();
+    let Some(folder) = folders.iter().find(|it| has_library(it)) else {
+        let tried: Vec<_> = folders.iter().map(|it| it.display().to_string()).collect();
+        eprintln!("libsas isn't found in {}", tried.join(" or "));
+        eprintln!("name its folder in SAS_LIB_DIR, build it by `make lib`, or install it for pkg-config");
         exit(1);
     };
     let folder = folder.canonicalize().expect("the folder is there");

@@ -37,7 +37,7 @@ pub use Rattle.sas_lines.proofs.EndedLines.{text_of_both}
 pub use Rattle.sas_lines.proofs.Words.{Without-decimal, NoSpace, words-first, same_first, NoSpace-decimal, own_decimal}
 pub use Rattle.sas_lines.specs.Device.{Device}
 pub use Rattle.sas_lines.specs.Lines.{text}
-unfoldable pub use Rattle.sas_lines.specs.Parts.{parts}
+unfoldable pub use Rattle.sas_lines.specs.Segments.{segments}
 pub use Rattle.sas_lines.specs.Spelling.{joined}
 pub use Rattle.sas_lines.specs.declared.devices.Short.{Short}
 pub use Rattle.sas_meaning.proofs.LayerChecksAreRules.{checks_are_rules}

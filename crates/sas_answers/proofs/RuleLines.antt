@@ -1,5 +1,5 @@
 -- The bytes of a line of a rule are those of no other line.
-use Rattle.sas_answers.proofs.Imports.{◌≡◌, ◌⊎◌, inl, inr, ℕ, ◌<◌, ◌^◌, true, false, List, [], ◌∷◌, ◌++◌, length, drop, get_or, refl, sym, ap, subst, ◌∙◌, arith, ◌==◌, not, bytes_eq, codes, AllByRecursion, list_all, and_parts, and_from, eq-eqb, false≢true, bytes_eq-Decides, unwrap_or, Fact, Parts, rule_at, value_name, parts, joined, NoSpace, words-first, same_first, NoSpace-decimal, own_decimal, line, Line, RuleDerives, RuleRequires, Metric, NamelessSteps, FailingGoalFacts, Bool, ◌&&◌, ne_eqb, change_of, fact_of, words_of, shown_name, line_bytes, rule_numbers, is_rule_line, is_same_rule_line, RuleLinesDiffer}
+use Rattle.sas_answers.proofs.Imports.{◌≡◌, ◌⊎◌, inl, inr, ℕ, ◌<◌, ◌^◌, true, false, List, [], ◌∷◌, ◌++◌, length, drop, get_or, refl, sym, ap, subst, ◌∙◌, arith, ◌==◌, not, bytes_eq, codes, AllByRecursion, list_all, and_parts, and_from, eq-eqb, false≢true, bytes_eq-Decides, unwrap_or, Fact, Parts, rule_at, value_name, segments, joined, NoSpace, words-first, same_first, NoSpace-decimal, own_decimal, line, Line, RuleDerives, RuleRequires, Metric, NamelessSteps, FailingGoalFacts, Bool, ◌&&◌, ne_eqb, change_of, fact_of, words_of, shown_name, line_bytes, rule_numbers, is_rule_line, is_same_rule_line, RuleLinesDiffer}
 use Rattle.std.specs.Prelude.{decimal}
 
 -- ---- lines of rules
@@ -61,7 +61,7 @@ abbrev behind_rule : ℕ → List (List ℕ) → List ℕ
 behind_rule rule words = line 4 (codes "rule" ∷ decimal rule ∷ words)
 
 behind_number : (r r' : ℕ) (w w' : List ℕ) (ws ws' : List (List ℕ)) → behind_rule r (w ∷ ws) ≡ behind_rule r' (w' ∷ ws')
-    → (decimal r ≡ decimal r') × (parts 32 (joined (w ∷ ws)) ≡ parts 32 (joined (w' ∷ ws')))
+    → (decimal r ≡ decimal r') × (segments 32 (joined (w ∷ ws)) ≡ segments 32 (joined (w' ∷ ws')))
 behind_number r r' w w' ws ws' e =
     same_first (decimal r) (decimal r') (joined (w ∷ ws)) (joined (w' ∷ ws')) (NoSpace-decimal r) (NoSpace-decimal r') (ap (λ (l : List ℕ). drop 9 l) e)
 
@@ -71,14 +71,14 @@ no_space (b ∷ bytes) h =
     let both = and_parts (not (b == 32)) (list_all (λ c. not (c == 32)) bytes) h in
     (λ (e : b ≡ 32). let is : (b == 32) ≡ true = eq-eqb b 32 e in let not_so : not true ≡ true = ap not (sym is) ∙ both.0 in absurd cc, no_space bytes both.1)
 
-first_word : (w v a b : List ℕ) → NoSpace w → NoSpace v → parts 32 (w ++ 32 ∷ a) ≡ parts 32 (v ++ 32 ∷ b) → (w ≡ v) × (parts 32 a ≡ parts 32 b)
-first_word w v a b h i e = let l : w ∷ parts 32 a ≡ v ∷ parts 32 b = sym (words-first w a h) ∙ e ∙ words-first v b i in (cc, cc)
+first_word : (w v a b : List ℕ) → NoSpace w → NoSpace v → segments 32 (w ++ 32 ∷ a) ≡ segments 32 (v ++ 32 ∷ b) → (w ≡ v) × (segments 32 a ≡ segments 32 b)
+first_word w v a b h i e = let l : w ∷ segments 32 a ≡ v ∷ segments 32 b = sym (words-first w a h) ∙ e ∙ words-first v b i in (cc, cc)
 
 module _ (p : Parts) where
   abbrev rest_of : Fact → List ℕ
   rest_of f = decimal f.value ++ 32 ∷ shown_name (unwrap_or (value_name p.variables f.var f.value) [])
 
-  same_fact : (f f' : Fact) → f.var < 2 ^ 64 → f.value < 2 ^ 64 → parts 32 (joined (words_of p f)) ≡ parts 32 (joined (words_of p f')) → f ≡ f'
+  same_fact : (f f' : Fact) → f.var < 2 ^ 64 → f.value < 2 ^ 64 → segments 32 (joined (words_of p f)) ≡ segments 32 (joined (words_of p f')) → f ≡ f'
   same_fact f f' var value e =
       let first = first_word (decimal f.var) (decimal f'.var) (rest_of f) (rest_of f') (NoSpace-decimal f.var) (NoSpace-decimal f'.var) e in
       let second = first_word (decimal f.value) (decimal f'.value) _ _ (NoSpace-decimal f.value) (NoSpace-decimal f'.value) first.1 in

@@ -15,7 +15,8 @@ use Rattle.sas_answers.specs.declared.ending.Status.TheVariants.{Yes, No}
 use Rattle.sas_answers.specs.Ending.{Output}
 use Rattle.sas_answers.specs.GroupWords.{verdict_lines, groups_status}
 use Rattle.sas_answers.specs.LayerWords.{layer_words, layers_line}
-use Rattle.sas_answers.specs.PlanWords.{valid_line, fault_words, invalid_line}
+use Rattle.sas_answers.specs.PlanWords.{fault_words, invalid_line}
+use Rattle.sas_answers.specs.ValidLine.{valid_line}
 
 -- ---- the layers of a task
 

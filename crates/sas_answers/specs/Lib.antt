@@ -9,6 +9,8 @@ pub mod Laws
 pub mod Line
 pub mod Wording
 pub mod LayerWords
+pub mod ValidLine
 pub mod PlanWords
 pub mod GroupWords
 pub mod Answers
+pub mod NumberedPlans

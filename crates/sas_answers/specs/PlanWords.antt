@@ -1,12 +1,7 @@
--- The words for whether a plan solves a task.
+-- The words for why a plan doesn't solve a task.
 use Rattle.std.specs.Prelude.{ℕ, List, ◌++◌, codes, decimal, Option, Some, None}
 use Rattle.sas_run.specs.declared.plan_check.PlanFault.{PlanFault}
 use Rattle.sas_run.specs.declared.plan_check.PlanFault.TheVariants.{Memory, NoOperator, NotApplicable, Conflict, GoalMissed, CostDiffers}
-
--- `plan valid: S steps, cost C`, with the LF after it
-abbrev pub valid_line : ℕ → ℕ → List ℕ
-valid_line steps cost =
-    codes "plan valid: " ++ decimal steps ++ codes " steps, cost " ++ decimal cost ++ codes "\n"
 
 -- `step S: WHAT`, where S is the step's number, counted from 1
 abbrev pub step_words : ℕ → List ℕ → List ℕ

@@ -2,7 +2,9 @@
 ghost use Rattle.std.specs.Prelude.{◌≡◌, option_map, Some, IfOk};
 ghost use Rattle.sas_answers.specs.Answers.{VerdictAnswer, valid_answer, invalid_answer};
 ghost use Rattle.sas_answers.specs.Ending.{output_of};
-ghost use Rattle.sas_answers.specs.PlanWords.{valid_line, fault_words, step_words, goal_words, sum_words, invalid_line};
+ghost use Rattle.sas_answers.specs.NumberedPlans.{NumbersAnswer, number_fault_words};
+ghost use Rattle.sas_answers.specs.PlanWords.{fault_words, step_words, goal_words, sum_words, invalid_line};
+ghost use Rattle.sas_answers.specs.ValidLine.{valid_line};
 
 use crate::{Answer, Status};
 use sas_axioms::Worklist;
@@ -10,7 +12,7 @@ use sas_core::{Grounded, Stepwise};
 use sas_flat::{FlatPlan, FlatTask};
 use sas_lines::{push_line, push_number};
 use sas_meaning::Layered;
-use sas_run::{LoadedTask, PlanFault, check_once};
+use sas_run::{LoadedTask, NumberedPlan, PlanFault, check_once};
 use std::alloc::{AllocError, Global};
 
 /// Returns the answer about whether the plan is valid. The evaluator counts open conditions.
@@ -40,6 +42,28 @@ pub fn answer_by(
     match loaded.check_plan(alloc, plan) {
         Ok(_) => accept_plan(alloc, plan),
         Err(fault) => answer_fault(alloc, plan.cost(), fault),
+    }
+}
+
+/// Returns the answer about whether these operators are a valid plan. No name is looked up.
+pub fn answer_numbers(
+    alloc: Global,
+    loaded: &mut LoadedTask<Worklist, FlatTask>,
+    plan: &NumberedPlan<'_>,
+) -> Result<Answer, AllocError>
+    ensures answer { IfOk result (λ a. NumbersAnswer loaded.old
+        plan.now.operators.now plan.now.cost (output_of a)) }
+    ensures same { loaded.new ≡ loaded.old }
+{
+    match loaded.check_numbers(alloc, plan) {
+        Ok(()) => Ok(Answer {
+            text: valid_text(alloc, plan.operators.len(), plan.cost)?,
+            status: Status::Yes,
+        }),
+        Err(fault) => Ok(Answer {
+            text: number_fault_text(alloc, plan.cost, fault)?,
+            status: Status::No,
+        }),
     }
 }
 
@@ -86,6 +110,17 @@ fn fault_text(alloc: Global, cost: u64, fault: PlanFault) -> Result<Vec<u8>, All
         PlanFault::GoalMissed { index } => goal_text(alloc, index),
         PlanFault::CostDiffers { sum } => cost_text(alloc, sum, cost),
         PlanFault::Memory => Err(AllocError),
+    }
+}
+
+/// Returns the line that reports why operators aren't a valid plan of this cost.
+fn number_fault_text(alloc: Global, cost: u64, fault: PlanFault) -> Result<Vec<u8>, AllocError>
+    ensures { IfOk result (λ t.
+        option_map invalid_line (number_fault_words cost fault) ≡ Some t.items) }
+{
+    match fault {
+        PlanFault::NoOperator { step } => step_text(alloc, step, "no operator of that number"),
+        _ => fault_text(alloc, cost, fault),
     }
 }
 

@@ -11,6 +11,12 @@ pub struct PlainBytes {
     pub but: u8,
 }
 
+/// The bytes of a name that are shown as they are.
+const IN_NAMES: PlainBytes = PlainBytes {
+    last: 255,
+    but: 127,
+};
+
 /// The most bytes of a name that are shown.
 const MOST: usize = 256;
 
@@ -36,15 +42,11 @@ pub fn show_name(room: &mut [u8], name: &[u8]) -> usize
     requires { 1028 ≤ length room.old }
     ensures { Places room.old room.new 0 (shown_name name.now) result }
 {
-    let plain = PlainBytes {
-        last: 255,
-        but: 127,
-    };
     if name.len() > MOST {
         let front = &name[..MOST];
-        return show(room, plain, front, true);
+        return show(room, IN_NAMES, front, true);
     }
-    show(room, plain, name, false)
+    show(room, IN_NAMES, name, false)
 }
 
 /// Returns whether the name is shown as it is. If it isn't known, the answer is no.
@@ -54,13 +56,9 @@ pub(crate) fn is_shown_whole(name: &[u8]) -> bool
     if name.len() > MOST {
         return false;
     }
-    let plain = PlainBytes {
-        last: 255,
-        but: 127,
-    };
     match name.strip_suffix(b" ") {
         Some(_front) => false,
-        None => are_plain(plain, name),
+        None => are_plain(IN_NAMES, name),
     }
 }
 

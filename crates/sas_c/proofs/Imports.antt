@@ -1,6 +1,7 @@
 -- What the proofs use of other crates, and of the definitions of this one.
 pub use Rattle.std.proofs.Common.{◌≡◌, ℕ, zero, suc, List, [], ◌∷◌, ◌++◌, refl, subst, Option, Some, None, ◌<◌, length, take, drop, codes, arith, sym, ap, ◌∙◌, inr, Result, Ok, Err, IfSome, decimal, inl, Bor, true≢false, IsSome, lit<}
 pub use Rattle.std.proofs.lemmas.List.{same_from_push}
+pub use Rattle.std.proofs.lemmas.Option.{same_Some}
 pub use Rattle.std.proofs.raw_atomic.Walks.{proved_at, leaves}
 pub use Rattle.std.specs.Global.{Vec}
 pub use Rattle.std.specs.Io.KnownBytes.{Appends}
@@ -16,7 +17,9 @@ pub use Rattle.std_alloc.proofs.ResultValues.{and_tt}
 pub use Rattle.std_alloc.proofs.boxed.Box.from_raw.Met.{met}
 pub use Rattle.std_alloc.specs.Box.Ownership.{box_owns}
 pub use Rattle.sas_answers.specs.Answers.{layers_verdict, VerdictAnswer, MutexAnswer}
-pub use Rattle.sas_answers.specs.PlanWords.{valid_line}
+pub use Rattle.sas_answers.specs.ValidLine.{valid_line}
+pub use Rattle.sas_answers.specs.NumberedPlans.{NumbersAnswer, number_fault_words}
+pub use Rattle.sas_answers.specs.PlanWords.{invalid_line}
 pub use Rattle.sas_core.specs.PlanParts.{PlanParts}
 pub use Rattle.sas_core.specs.declared.parts.Parts.{Parts}
 pub use Rattle.sas_lines.proofs.Splitting.{lines-append, lines-one, unfinished-text}
@@ -29,10 +32,11 @@ pub use Rattle.sas_answers.specs.declared.ending.Status.{Status}
 pub use Rattle.sas_answers.specs.declared.ending.Status.TheVariants.{Yes, No}
 pub use Rattle.sas_answers.specs.declared.ending.ToolFault.{ToolFault}
 pub use Rattle.sas_answers.specs.declared.ending.ToolFault.TheVariants.{Memory, Read, TooLong, Write}
-pub use Rattle.sas_requests.proofs.Headlines.{ReportsValid, headline_of, reports_valid}
+pub use Rattle.sas_requests.proofs.Headlines.{ReportsValid, headline_of, reports_valid, other_words, invalid_line_apart}
 pub use Rattle.sas_requests.proofs.Outputs.{same_output}
 pub use Rattle.sas_requests.proofs.PlanOutputs.{Refuses, plain_refuses}
-pub use Rattle.sas_requests.specs.Headline.{Headline, Invariants}
+pub use Rattle.sas_requests.specs.Headline.{Headline}
+pub use Rattle.sas_requests.specs.Invariants.{Invariants}
 pub use Rattle.sas_requests.specs.Output.{CheckOut, FileOut, TaskOut, UnlayeredAnswer, PlanOut, PlanOutBy, VerdictOut, plain_refusal}
 pub use Rattle.sas_requests.specs.declared.Request.{Request}
 pub use Rattle.sas_requests.specs.declared.Request.TheVariants.{Plan, Mutex}
@@ -54,8 +58,9 @@ pub use Rattle.sas_requests.specs.declared.question.PlanDetail.{PlanDetail}
 pub use Rattle.sas_task_file.specs.TaskFormat.{task_format}
 pub use Rattle.sas_plan_reasons.specs.Traced.{TraceVerdict}
 pub use Rattle.sas_plan_reasons.specs.Verdict.{WhyVerdict}
-pub use Rattle.sas_c.specs.Holding.{HoldsTask, HeldOut}
-pub use Rattle.sas_c.specs.Reporting.{Returns, ReturnsHeadline, EndsInLine, ReturnsLastLine, ReturnsInvariants, number_of_fault, number_of_status}
+pub use Rattle.sas_run.proofs.NumberVerdicts.{numbers_have_no_fault}
+pub use Rattle.sas_c.specs.Holding.{HoldsTask, HeldOut, NumbersOut}
+pub use Rattle.sas_c.specs.Reporting.{Returns, HeadlineByNumbers, SolvesByNumbers, ReturnsByNumbers, ReturnsHeadline, EndsInLine, ReturnsLastLine, ReturnsInvariants, number_of_fault, number_of_status}
 pub use Rattle.sas_c.specs.TaskPointers.{owns_task}
 pub use Rattle.sas_c.specs.Written.{IsWritten}
 pub use Rattle.sas_c.specs.contracts.box_pointer.BoxPointer.into_box.{ended, clauses}

@@ -1,5 +1,5 @@
 -- What is returned follows from how a run ended.
-use Rattle.sas_c.proofs.Imports.{◌≡◌, ℕ, ◌<◌, List, [], ◌++◌, length, take, drop, codes, arith, refl, sym, ap, subst, ◌∙◌, inr, Option, Some, None, Result, Ok, Err, IfSome, Appends, Parts, LayerFault, IsLayered, ReadsAs, most_bytes, task_format, Status, Yes, No, ToolFault, Memory, Read, TooLong, Write, Output, EndsCounting, layers_verdict, VerdictAnswer, Call, PlanCall, PlanDetail, HeldOut, HoldsTask, IsWritten, Returns, ReturnsHeadline, EndsInLine, ReturnsLastLine, ReturnsInvariants, number_of_fault, number_of_status, PlanParts, WhyVerdict, TraceVerdict, Plan, Mutex, Headline, Invariants, CheckOut, FileOut, TaskOut, UnlayeredAnswer, plain_refusal, PlanOut, PlanOutBy, VerdictOut, same_output, ReportsValid, headline_of, Refuses, ReportsGroups, invariants_of, headline_why, invariants_why, judged_by, check_yes, check_no, task_refused, Reasons, PlanFileReasons, OutWhy, WithReasons, TraceOut}
+use Rattle.sas_c.proofs.Imports.{◌≡◌, ℕ, ◌<◌, List, [], ◌++◌, length, take, drop, codes, arith, refl, sym, ap, subst, ◌∙◌, inr, Option, Some, None, Result, Ok, Err, IfSome, Appends, Parts, LayerFault, IsLayered, ReadsAs, most_bytes, task_format, Status, Yes, No, ToolFault, Memory, Read, TooLong, Write, Output, EndsCounting, layers_verdict, VerdictAnswer, Call, HoldsTask, IsWritten, Returns, ReturnsHeadline, EndsInLine, ReturnsLastLine, ReturnsInvariants, number_of_fault, number_of_status, PlanParts, WhyVerdict, TraceVerdict, Plan, Mutex, Headline, Invariants, CheckOut, FileOut, TaskOut, UnlayeredAnswer, plain_refusal, PlanOut, PlanOutBy, VerdictOut, same_output, ReportsValid, headline_of, Refuses, ReportsGroups, invariants_of, headline_why, invariants_why, judged_by, check_yes, check_no, task_refused, Reasons, PlanFileReasons, OutWhy, WithReasons, TraceOut}
 use Rattle.sas_requests.specs.Answering.{QuestionOut}
 use Rattle.sas_requests.specs.declared.question.Detail.TheVariants.{Plain}
 use Rattle.sas_requests.specs.declared.question.Question.{Question}
@@ -131,13 +131,6 @@ last_line_reported b c before room size number t = λ status is.
     subst (λ (text : List ℕ). Headline b c (EndsInLine text) status) (sym x.4) (subst (λ (s : Status). Headline b c (EndsInLine (x.0).text) s) x.2 (traced_headline b c x.0 x.1))
 
 -- ---- a plan of a task that is held
-
--- what is returned for a call is returned for its plan
-pub held_asked : (call : PlanCall) (detail : PlanDetail) (c before room : List ℕ) (size number : ℕ) (held : Option Parts) → call.detail ≡ detail → call.plan.now ≡ c
-    → IfSome held (λ loaded. Returns (HeldOut call.detail loaded call.plan.now) before room size number) → IfSome held (λ loaded. Returns (HeldOut detail loaded c) before room size number)
-held_asked call detail c before room size number held as_much same t =
-    subst (λ (d : PlanDetail). IfSome held (λ loaded. Returns (HeldOut d loaded c) before room size number)) as_much
-    (subst (λ (xs : List ℕ). IfSome held (λ loaded. Returns (HeldOut call.detail loaded xs) before room size number)) same t)
 
 -- what is returned for the task that is held is returned for the bytes that it was read from
 module _ (For : Parts → Option Output → Type 0) (Out : Option Output → Type 0) (b before room : List ℕ) (size number : ℕ) (to : (p : Parts) → IsLayered p → ReadsAs task_format most_bytes b (Ok p) → (o : Option Output) → For p o → Out o) where

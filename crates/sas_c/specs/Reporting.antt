@@ -1,12 +1,16 @@
 -- What a call of the library returns: a number, and an answer in the caller's memory.
-use Rattle.std.specs.Prelude.{◌≡◌, ℕ, ◌<◌, ◌≤◌, List, ◌++◌, length, take, drop, Option, Some, None}
+use Rattle.std.specs.Prelude.{◌≡◌, ◌↔◌, ℕ, ◌<◌, ◌≤◌, List, ◌++◌, length, take, drop, Option, Some, None}
+use Rattle.sas_core.specs.declared.parts.Parts.{Parts}
 use Rattle.sas_lines.specs.Lines.{text}
+use Rattle.sas_run.specs.ByNumbers.{IsValidByNumbers}
 use Rattle.sas_answers.specs.declared.ending.Status.{Status}
 use Rattle.sas_answers.specs.declared.ending.Status.TheVariants.{Yes, No}
 use Rattle.sas_answers.specs.declared.ending.ToolFault.{ToolFault}
 use Rattle.sas_answers.specs.declared.ending.ToolFault.TheVariants.{TooLong}
 use Rattle.sas_answers.specs.Ending.{Output}
-use Rattle.sas_requests.specs.Headline.{Headline, Invariants}
+use Rattle.sas_answers.specs.ValidLine.{valid_line}
+use Rattle.sas_requests.specs.Headline.{Headline}
+use Rattle.sas_requests.specs.Invariants.{Invariants}
 
 -- the number of an answer that is written
 abbrev pub number_of_status : Status → ℕ
@@ -46,6 +50,26 @@ pub record Returns (Out : Option Output → Type 0) (before room : List ℕ) (si
 abbrev pub ReturnsHeadline : List ℕ → List ℕ → List ℕ → ℕ → ℕ → Type 0
 ReturnsHeadline b c room size number = (status : Status) → number ≡ number_of_status status
     → Headline b c (λ line. take size room ≡ line) status
+
+-- the operators with these numbers are a plan that is valid for the task p at this cost, and the
+-- line says so
+pub record SolvesByNumbers (p : Parts) (operators : List ℕ) (cost : ℕ) (line : List ℕ)
+    : Type 0 where
+  pub valid : IsValidByNumbers p operators cost
+  pub printed : line ≡ valid_line (length operators) cost
+
+-- If an answer about operators of the task p is written, `plan valid` is in the room exactly if
+-- they solve the task at that cost, and exactly then the answer is yes.
+pub record HeadlineByNumbers (p : Parts) (operators : List ℕ) (cost : ℕ) (text : List ℕ)
+    (status : Status) : Type 0 where
+  pub line : (steps sum : ℕ) → (text ≡ valid_line steps sum)
+      ↔ SolvesByNumbers p operators cost (valid_line steps sum)
+  pub yes : (status ≡ Yes) ↔ IsValidByNumbers p operators cost
+
+abbrev pub ReturnsByNumbers : Parts → List ℕ → ℕ → List ℕ → ℕ → ℕ → Type 0
+ReturnsByNumbers p operators cost room size number = (status : Status)
+    → number ≡ number_of_status status
+    → HeadlineByNumbers p operators cost (take size room) status
 
 -- the bytes are some lines, each ended by LF, and after them this one
 abbrev pub EndsInLine : List ℕ → List ℕ → Type 0

@@ -1,20 +1,23 @@
 // Plans of a task that is held. It stays held.
 ghost use Rattle.std.specs.Prelude.{◌≡◌, List, ℕ, IfSome, IsNone};
 ghost use Rattle.sas_answers.specs.Answers.{VerdictAnswer};
+ghost use Rattle.sas_meaning.specs.Layers.{IsLayered};
 ghost use Rattle.sas_plan_reasons.specs.Verdict.{WhyVerdict};
 ghost use Rattle.sas_requests.specs.Output.{PlanOut, VerdictOut};
 ghost use Rattle.sas_plan_reasons.specs.Traced.{TraceVerdict};
 ghost use Rattle.sas_requests.specs.FileReasons.{PlanFileReasons};
 ghost use Rattle.sas_requests.specs.Why.{OutWhy, WithReasons};
 ghost use Rattle.sas_requests.specs.TraceOut.{TraceOut};
-ghost use Rattle.sas_c.specs.Reporting.{Returns, ReturnsHeadline, ReturnsLastLine};
-ghost use Rattle.sas_c.specs.Holding.{HeldOut, HoldsTask};
+ghost use Rattle.sas_c.specs.Reporting.{Returns, ReturnsByNumbers, ReturnsHeadline, ReturnsLastLine};
+ghost use Rattle.sas_c.specs.Holding.{HeldOut, HoldsTask, NumbersOut};
 
-use crate::numbers::{NO_TASK, fault_number};
+use crate::numbers::{NO_TASK, OUT_OF_MEMORY, fault_number};
 use crate::reporting::{report_ended, return_answer};
 use crate::sas_task::{HeldTask, SasTask};
+use sas_answers::answer_numbers;
 use sas_lines::Watched;
 use sas_requests::{PlanDetail, Request, answer_bytes, judge_bytes};
+use sas_run::NumberedPlan;
 use std::alloc::Global;
 
 /// Answers whether the plan solves the task that is held, as `sas_plan` does. It stays held.
@@ -36,7 +39,8 @@ pub extern "C" fn sas_task_plan(
     ensures same { task.new.pointer.task ≡ task.old.pointer.task }
     ensures none { IsNone task.old.pointer.task → (result ≡ 5) × (room.new ≡ room.old) }
 {
-    let call = PlanCall::new(PlanDetail::Plain, plan);
+    let detail = PlanDetail::Plain;
+    let call = PlanCall::Bytes { detail, plan };
     answer_held(alloc, task, call, room, size)
 }
 
@@ -59,7 +63,8 @@ pub extern "C" fn sas_task_plan_why(
     ensures same { task.new.pointer.task ≡ task.old.pointer.task }
     ensures none { IsNone task.old.pointer.task → (result ≡ 5) × (room.new ≡ room.old) }
 {
-    let call = PlanCall::new(PlanDetail::Reasons, plan);
+    let detail = PlanDetail::Reasons;
+    let call = PlanCall::Bytes { detail, plan };
     answer_held(alloc, task, call, room, size)
 }
 
@@ -82,25 +87,39 @@ pub extern "C" fn sas_task_trace(
     ensures same { task.new.pointer.task ≡ task.old.pointer.task }
     ensures none { IsNone task.old.pointer.task → (result ≡ 5) × (room.new ≡ room.old) }
 {
-    let call = PlanCall::new(PlanDetail::Trace, plan);
+    let detail = PlanDetail::Trace;
+    let call = PlanCall::Bytes { detail, plan };
     answer_held(alloc, task, call, room, size)
 }
 
-/// The bytes of a plan, and how much is reported.
-#[derive(Clone, Copy)]
-pub struct PlanCall<'b> {
-    pub detail: PlanDetail,
-    pub plan: &'b [u8],
+/// Answers whether the operators with these numbers solve the task that is held, at this cost. No name is looked up. It stays held.
+#[unsafe(no_mangle)]
+pub extern "C" fn sas_task_plan_operators(
+    alloc: Global,
+    task: &mut SasTask,
+    operators: &[u32],
+    cost: u64,
+    room: &mut [u8],
+    size: &mut usize,
+) -> u32
+    ensures answers { IfSome task.old.pointer.task (λ loaded.
+        Returns (NumbersOut loaded operators.now cost) room.old room.new size.new result) }
+    ensures headline { IfSome task.old.pointer.task (λ loaded.
+        ReturnsByNumbers loaded operators.now cost room.new size.new result) }
+    ensures same { task.new.pointer.task ≡ task.old.pointer.task }
+    ensures none { IsNone task.old.pointer.task → (result ≡ 5) × (room.new ≡ room.old) }
+{
+    let call = PlanCall::Numbers(NumberedPlan { operators, cost });
+    answer_held(alloc, task, call, room, size)
 }
 
-impl<'b> PlanCall<'b> {
-    /// Returns a call about this plan.
-    fn new(detail: PlanDetail, plan: &'b [u8]) -> PlanCall<'b>
-        ensures detail { result.detail ≡ detail }
-        ensures plan { result.plan.now ≡ plan.now }
-    {
-        PlanCall { detail, plan }
-    }
+/// What a call about a plan gives.
+#[derive(Clone, Copy)]
+pub enum PlanCall<'b> {
+    /// The bytes of the plan, and how much is reported.
+    Bytes { detail: PlanDetail, plan: &'b [u8] },
+    /// The numbers of its operators, and its cost.
+    Numbers(NumberedPlan<'b>),
 }
 
 /// Writes the answer about the plan for the task that is held. It stays held.
@@ -112,8 +131,8 @@ fn answer_held(
     size: &mut usize,
 ) -> u32
     ensures answers { IfSome task.old.pointer.task (λ loaded.
-        Returns (HeldOut call.entry.detail loaded call.entry.plan.now)
-        room.old room.new size.new result) }
+        Returns (HeldOut call.entry loaded) room.old room.new size.new result) }
+    ensures layered { IfSome task.old.pointer.task IsLayered }
     ensures same { task.new.pointer.task ≡ task.old.pointer.task }
     ensures none { IsNone task.old.pointer.task → (result ≡ 5) × (room.new ≡ room.old) }
 {
@@ -135,22 +154,31 @@ fn answer_loaded(
     room: &mut [u8],
     size: &mut usize,
 ) -> u32
-    ensures answers { Returns
-        (HeldOut call.entry.detail loaded.old call.entry.plan.now)
+    ensures answers { Returns (HeldOut call.entry loaded.old)
         room.old room.new size.new result }
+    ensures layered { IsLayered loaded.old }
     ensures same { loaded.new ≡ loaded.old }
 {
-    match call.detail {
+    // By its contract the task is layered.
+    let _ = loaded.layered().task();
+    match call {
         // The names and the evaluator of the loaded task serve all its plans.
-        PlanDetail::Plain => match judge_bytes(alloc, loaded, call.plan) {
+        PlanCall::Bytes {
+            detail: PlanDetail::Plain,
+            plan,
+        } => match judge_bytes(alloc, loaded, plan) {
             Ok(answer) => return_answer(answer, room, size),
             Err(fault) => fault_number(fault),
         },
-        PlanDetail::Reasons | PlanDetail::Trace => {
+        PlanCall::Bytes { detail, plan } => {
             let mut text = Watched::new(Vec::new(alloc));
             let layered = loaded.layered();
-            let ended = answer_bytes(alloc, call.detail, layered, call.plan, &mut text);
+            let ended = answer_bytes(alloc, detail, layered, plan, &mut text);
             report_ended(ended, text, room, size)
         }
+        PlanCall::Numbers(plan) => match answer_numbers(alloc, loaded, &plan) {
+            Ok(answer) => return_answer(answer, room, size),
+            Err(_) => OUT_OF_MEMORY,
+        },
     }
 }

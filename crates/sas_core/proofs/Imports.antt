@@ -22,7 +22,7 @@ pub use Rattle.sas_core.specs.Grounded.{operator_at, no_effect, effect_at, rule_
 pub use Rattle.sas_core.specs.Names.{IsName, is_name, is_plain}
 pub use Rattle.sas_core.specs.Numbers.{IsNumber, is_number, IsSigned}
 pub use Rattle.sas_core.specs.Plain.{IsPlain}
-pub use Rattle.sas_core.specs.Plans.{IsFirstBadName}
+pub use Rattle.sas_core.specs.FirstBadName.{IsFirstBadName}
 pub use Rattle.sas_core.specs.Variables.{range_of, HasValue, has_value, MayHaveValue, FactExists, IsState}
 pub use Rattle.sas_core.specs.WellRanged.{Listed, VariableFits, EffectFits, OperatorFits, WellRanged}
 pub use Rattle.sas_core.specs.declared.checks.PartsFault.{PartsFault}

@@ -2,7 +2,8 @@ pub mod Names
 pub mod Plain
 pub mod Numbers
 pub mod PlanParts
-pub mod Plans
+pub mod WellNamed
+pub mod FirstBadName
 pub mod Variables
 pub mod WellRanged
 pub mod FirstFault

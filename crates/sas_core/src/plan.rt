@@ -3,7 +3,8 @@ ghost use Rattle.std.specs.Prelude.{◌≡◌, IfOk, IfErr, IfSome, IfNone, IsOk
 ghost use Rattle.std.specs.List.{AllByRecursion};
 ghost use Rattle.sas_core.specs.Names.{IsName};
 ghost use Rattle.sas_core.specs.PlanParts.{PlanParts};
-ghost use Rattle.sas_core.specs.Plans.{WellNamed, IsFirstBadName};
+ghost use Rattle.sas_core.specs.FirstBadName.{IsFirstBadName};
+ghost use Rattle.sas_core.specs.WellNamed.{WellNamed};
 
 use crate::items::Items;
 use crate::names::is_name;
@@ -34,7 +35,7 @@ pub struct Plan {
 
 impl Model for Plan {
     ghost use Rattle.sas_core.specs.PlanParts.{PlanParts};
-    ghost use Rattle.sas_core.specs.Plans.{WellNamed};
+    ghost use Rattle.sas_core.specs.WellNamed.{WellNamed};
 
     ghost Value = { PlanParts };
 

@@ -9,6 +9,7 @@ use crate::lists::Lists;
 use sas_core::{Change, Fact};
 use std::alloc::{AllocError, Global};
 use std::marker::Model;
+use std::mem;
 
 /// A list of effects, or of rules, which have the same form. In a contract its value is that list.
 ///
@@ -133,7 +134,7 @@ impl Effects {
     }
 
     /// Appends all effects of `more`. On `Err` (out of memory) the effects are unchanged.
-    pub(crate) fn append(&mut self, more: &Effects) -> Result<(), AllocError>
+    fn append(&mut self, more: &Effects) -> Result<(), AllocError>
         ensures ok { OnOk result (self.new ≡ self.old ++ more.now) }
         ensures err { OnErr result (self.new ≡ self.old) }
     {
@@ -144,6 +145,19 @@ impl Effects {
         }
         self.changes.extend_from_slice(more.changes.as_slice())?;
         Ok(())
+    }
+
+    /// Appends all effects of `more`. If there are none before them, takes them over and needs no memory. Afterwards the content of `more` is
+    /// unspecified. On `Err` (out of memory) the effects are unchanged.
+    pub(crate) fn take_all(&mut self, more: &mut Effects) -> Result<(), AllocError>
+        ensures ok { OnOk result (self.new ≡ self.old ++ more.old) }
+        ensures err { OnErr result (self.new ≡ self.old) }
+    {
+        if self.len() == 0 {
+            mem::swap(self, more);
+            return Ok(());
+        }
+        self.append(more)
     }
 
     /// Keeps the first `count` effects.

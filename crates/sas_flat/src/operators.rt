@@ -130,22 +130,23 @@ impl OperatorColumns {
         Ok(())
     }
 
-    /// Appends an operator. On `Err` (out of memory) its prevail conditions and effects may have been appended.
+    /// Appends an operator. Afterwards the content of `effects` is unspecified. On `Err` (out of memory) its prevail conditions and effects
+    /// may have been appended.
     pub fn append(
         &mut self,
         name: &[u8],
         prevail: &[Fact],
-        effects: &Effects,
+        effects: &mut Effects,
         cost: u32,
     ) -> Result<(), AllocError>
         requires { OperatorColumnsAlign AreEnds self.old }
         ensures ok { OnOk result (Hold (OperatorColumnsAlign AreEnds) operators_in self.new
-            (operators_in self.old ++ operator name.now prevail.now effects.now cost ∷ [])) }
+            (operators_in self.old ++ operator name.now prevail.now effects.old cost ∷ [])) }
         ensures err { OnErr result
             (Hold (OperatorColumnsAlign AreOpen) operators_in self.new (operators_in self.old)) }
     {
         self.prevail.extend_from_slice(prevail)?;
-        self.effects.append(effects)?;
+        self.effects.take_all(effects)?;
         self.push(name, cost)?;
         Ok(())
     }

@@ -17,7 +17,7 @@ pub struct FlatPlan {
 
 impl Model for FlatPlan {
     ghost use Rattle.sas_core.specs.PlanParts.{PlanParts};
-    ghost use Rattle.sas_core.specs.Plans.{WellNamed};
+    ghost use Rattle.sas_core.specs.WellNamed.{WellNamed};
 
     ghost Value = { PlanParts };
 

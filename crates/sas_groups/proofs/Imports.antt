@@ -35,10 +35,13 @@ pub use Rattle.sas_flat.proofs.ByKey.{under_holds, under_ascends}
 pub use Rattle.sas_flat.proofs.Tables.{length-table}
 pub use Rattle.sas_flat.specs.ByKey.{by_key}
 pub use Rattle.sas_flat.specs.declared.by_key.Entry.{Entry}
+pub use Rattle.sas_meaning.proofs.Exists.{initial_exists}
 pub use Rattle.sas_meaning.proofs.Facts.{SetBy, Untouched, set_or_kept}
+pub use Rattle.sas_meaning.proofs.FastDownwardSteps.{no_more}
 pub use Rattle.sas_meaning.proofs.Forced.{fact_within}
 pub use Rattle.sas_meaning.specs.Layers.{IsBasic}
-pub use Rattle.sas_meaning.specs.Reachable.{IsInitial, Reachable, Initial, Next}
+pub use Rattle.sas_meaning.specs.Reachable.{Reachable, Initial, Next}
+pub use Rattle.sas_meaning.specs.InitialStates.{IsInitial}
 pub use Rattle.sas_meaning.specs.States.{Holds, AllHold}
 pub use Rattle.sas_meaning.specs.Steps.{preconditions, Fires, Step}
 pub use Rattle.sas_groups.specs.ByVariable.{IsLarge, effect_entry, AreEntered, AreByVariable, place_of}
@@ -56,6 +59,7 @@ pub use Rattle.sas_groups.specs.Lists.{known, known_on, known_left, facts_left}
 pub use Rattle.sas_groups.specs.Notes.{value_note, group_note, AreBlank, AreFrom, IsValueNote, IsOfGroup, IsOfGroupBeside, IsNoteOf, IsGroupNote, AreNotesOf}
 pub use Rattle.sas_groups.specs.Noting.{AreBelow, IsNotedToo, NotesForGroup, TakenBySome, ShareKept, ChangesAt, IsSetApart, IsSet, IsCompleted, Forgets, IsForgotten, IsExcluded}
 pub use Rattle.sas_groups.specs.Runs.{AreOnOne, AreRuns, runs_at}
+pub use Rattle.sas_groups.specs.VerdictLaws.{InitialIsNoInvariant, InvariantInFastDownward, ExclusiveInFastDownward}
 pub use Rattle.sas_groups.specs.Verdicts.{IsJointVerdict, IsFirstBreaking, IsVerdictAlone}
 pub use Rattle.sas_groups.specs.declared.index.Index.{Index}
 pub use Rattle.sas_groups.specs.declared.notes.GroupNote.{GroupNote}

@@ -7,6 +7,7 @@ pub mod ByVariable
 pub mod Existing
 pub mod NotesOfFacts
 pub mod Invariance
+mod StateVerdicts
 pub mod GreatestFamily
 pub mod Turns
 pub mod Iff

@@ -13,5 +13,6 @@ pub mod Families
 pub mod Verdicts
 pub mod Joint
 pub mod Laws
+pub mod VerdictLaws
 pub mod Lists
 pub mod Checks

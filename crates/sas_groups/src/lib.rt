@@ -20,6 +20,7 @@ mod notes;
 mod removal;
 mod runs;
 mod verdict;
+mod verdict_laws;
 
 pub use deciding::{DecidingGroups, MOST_GROUPS};
 pub use facts::Facts;
@@ -33,3 +34,4 @@ pub use notes::{
     some_has, wider, widest_of,
 };
 pub use verdict::Verdict;
+pub use verdict_laws::group_verdict_laws;

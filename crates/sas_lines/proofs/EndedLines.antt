@@ -1,8 +1,8 @@
 -- Any bytes are their lines, each with a line end, followed by the rest.
-use Rattle.sas_lines.proofs.Imports.{◌≡◌, ℕ, Bool, true, false, eqb, List, [], ◌∷◌, ◌++◌, refl, sym, ap, subst, ◌∙◌, append_assoc, ◌⊎◌, inl, inr, if◌then◌else◌, ◌==◌, eqb-true, parts, onto_first, without_return, lines_among, rest_among, lines, unfinished, EndedLines, text, flat_map-append}
-use Rattle.sas_lines.proofs.Separated.{parts-some}
+use Rattle.sas_lines.proofs.Imports.{◌≡◌, ℕ, Bool, true, false, eqb, List, [], ◌∷◌, ◌++◌, refl, sym, ap, subst, ◌∙◌, append_assoc, ◌⊎◌, inl, inr, if◌then◌else◌, ◌==◌, eqb-true, segments, onto_first, without_return, lines_among, rest_among, lines, unfinished, EndedLines, text, flat_map-append}
+use Rattle.sas_lines.proofs.Separated.{segments-some}
 
--- ---- parts, joined again
+-- ---- segments, joined again
 
 join : ℕ → List (List ℕ) → List ℕ
 join separator [] = []
@@ -20,13 +20,13 @@ unfolding join
 join_by true separator byte p ps e = ap (λ (x : ℕ). x ∷ join separator (p ∷ ps)) (sym (eqb-true byte separator e))
 join_by false separator byte p ps e = join-onto_first separator byte (p ∷ ps)
 
-join-parts : (separator : ℕ) (bytes : List ℕ) → join separator (parts separator bytes) ≡ bytes
-unfolding parts join
-join-parts separator [] = refl
-join-parts separator (b ∷ bytes) =
-    let s = parts-some separator bytes in
+join-segments : (separator : ℕ) (bytes : List ℕ) → join separator (segments separator bytes) ≡ bytes
+unfolding segments join
+join-segments separator [] = refl
+join-segments separator (b ∷ bytes) =
+    let s = segments-some separator bytes in
     ap (λ (ps : List (List ℕ)). join separator (if b == separator then [] ∷ ps else onto_first b ps)) s.are ∙ join_by (b == separator) separator b s.first s.others refl
-    ∙ ap (λ (x : List ℕ). b ∷ x) (ap (join separator) (sym s.are) ∙ join-parts separator bytes)
+    ∙ ap (λ (x : List ℕ). b ∷ x) (ap (join separator) (sym s.are) ∙ join-segments separator bytes)
 
 -- ---- from bytes to lines with their ends
 
@@ -51,7 +51,7 @@ ended_among (p ∷ q ∷ ps) = (join 10 (q ∷ ps), ended_part p (without_return
 
 pub ended_lines : (bytes : List ℕ) → EndedLines (lines bytes) (unfinished bytes) bytes
 unfolding lines unfinished
-ended_lines bytes = subst (EndedLines (lines_among (parts 10 bytes)) (rest_among (parts 10 bytes))) (join-parts 10 bytes) (ended_among (parts 10 bytes))
+ended_lines bytes = subst (EndedLines (lines_among (segments 10 bytes)) (rest_among (segments 10 bytes))) (join-segments 10 bytes) (ended_among (segments 10 bytes))
 
 -- ---- the text of lines
 

@@ -19,9 +19,11 @@ pub use Rattle.std.specs.Option.{IfNone}
 pub use Rattle.std.specs.Str.Parse.{AllDigits, digits_value}
 pub use Rattle.memchr.specs.Find.{Nowhere, NoneBefore, Passes, is_byte}
 pub use Rattle.sas_lines.specs.FirstLines.{LinesStandFirst, TakesLine}
-pub use Rattle.sas_lines.specs.Lines.{text, without_return, lines_among, rest_among, EndedLines, NoEnd}
-pub use Rattle.sas_lines.specs.Parts.{onto_first, StandsFirst, Without}
+pub use Rattle.sas_lines.specs.Lines.{text, without_return, lines_among, rest_among}
+pub use Rattle.sas_lines.specs.EndedLines.{EndedLines, NoEnd}
+pub use Rattle.sas_lines.specs.Segments.{onto_first}
+pub use Rattle.sas_lines.specs.Separators.{StandsFirst, Without}
 pub use Rattle.sas_lines.specs.Progress.{Progress}
 pub use Rattle.sas_lines.specs.Spelling.{signed_decimal, joined}
 unfoldable pub use Rattle.sas_lines.specs.Lines.{lines, unfinished}
-unfoldable pub use Rattle.sas_lines.specs.Parts.{parts}
+unfoldable pub use Rattle.sas_lines.specs.Segments.{segments}

@@ -1,8 +1,8 @@
 -- The lines of concatenated bytes.
-use Rattle.sas_lines.proofs.Imports.{◌≡◌, ℕ, suc, ◌≤◌, ◌≢◌, Bool, true, false, ◌==◌, if◌then◌else◌, length, List, [], ◌∷◌, ◌++◌, refl, sym, ap, ◌∙◌, arith, AllByRecursion, append-nil, parts, onto_first, without_return, lines_among, rest_among, lines, unfinished, text, NoEnd}
-use Rattle.sas_lines.proofs.Separated.{Without-append, parts-first, parts-only, parts-some, front, parts-append, last-without}
+use Rattle.sas_lines.proofs.Imports.{◌≡◌, ℕ, suc, ◌+◌, ◌≤◌, ◌≢◌, Bool, true, false, ◌==◌, if◌then◌else◌, length, List, [], ◌∷◌, ◌++◌, refl, sym, ap, ◌∙◌, arith, AllByRecursion, append-nil, segments, onto_first, without_return, lines_among, rest_among, lines, unfinished, text, NoEnd}
+use Rattle.sas_lines.proofs.Separated.{Without-append, segments-first, segments-only, segments-some, front, segments-append, last-without}
 
--- ---- parts in a row
+-- ---- segments in a row
 
 lines-front : (ps : List (List ℕ)) (q : List ℕ) (qs : List (List ℕ)) → lines_among (front ps ++ q ∷ qs) ≡ lines_among ps ++ lines_among (q ∷ qs)
 lines-front [] q qs = refl
@@ -21,21 +21,21 @@ rest-front (p ∷ r ∷ t ∷ ps) q qs = rest-front (r ∷ t ∷ ps) q qs
 pub lines-append : (a b : List ℕ) → lines (a ++ b) ≡ lines a ++ lines (unfinished a ++ b)
 unfolding lines unfinished
 lines-append a b =
-    let s = parts-some 10 (rest_among (parts 10 a) ++ b) in
-    ap lines_among (parts-append 10 a b ∙ ap (λ (l : List (List ℕ)). front (parts 10 a) ++ l) s.are) ∙ lines-front (parts 10 a) s.first s.others ∙ ap (λ (l : List (List ℕ)). lines_among (parts 10 a) ++ lines_among l) (sym s.are)
+    let s = segments-some 10 (rest_among (segments 10 a) ++ b) in
+    ap lines_among (segments-append 10 a b ∙ ap (λ (l : List (List ℕ)). front (segments 10 a) ++ l) s.are) ∙ lines-front (segments 10 a) s.first s.others ∙ ap (λ (l : List (List ℕ)). lines_among (segments 10 a) ++ lines_among l) (sym s.are)
 
 pub unfinished-append : (a b : List ℕ) → unfinished (a ++ b) ≡ unfinished (unfinished a ++ b)
 unfolding unfinished
 unfinished-append a b =
-    let s = parts-some 10 (rest_among (parts 10 a) ++ b) in
-    ap rest_among (parts-append 10 a b ∙ ap (λ (l : List (List ℕ)). front (parts 10 a) ++ l) s.are) ∙ rest-front (parts 10 a) s.first s.others ∙ ap rest_among (sym s.are)
+    let s = segments-some 10 (rest_among (segments 10 a) ++ b) in
+    ap rest_among (segments-append 10 a b ∙ ap (λ (l : List (List ℕ)). front (segments 10 a) ++ l) s.are) ∙ rest-front (segments 10 a) s.first s.others ∙ ap rest_among (sym s.are)
 
 pub lines-none : lines [] ≡ []
-unfolding lines parts
+unfolding lines segments
 lines-none = refl
 
 pub unfinished-none : unfinished [] ≡ []
-unfolding unfinished parts
+unfolding unfinished segments
 unfinished-none = refl
 
 pub unfinished-plain_all : (bytes : List ℕ) → NoEnd (unfinished bytes)
@@ -46,11 +46,11 @@ unfinished-plain_all bytes = last-without 10 bytes
 
 pub lines-without : (w : List ℕ) → NoEnd w → lines w ≡ []
 unfolding lines
-lines-without w h = ap lines_among (parts-only 10 w h)
+lines-without w h = ap lines_among (segments-only 10 w h)
 
 pub unfinished-without : (w : List ℕ) → NoEnd w → unfinished w ≡ w
 unfolding unfinished
-unfinished-without w h = ap rest_among (parts-only 10 w h)
+unfinished-without w h = ap rest_among (segments-only 10 w h)
 
 pub lines-part : (bytes w : List ℕ) → NoEnd w → lines (bytes ++ w) ≡ lines bytes
 lines-part bytes w h =
@@ -69,13 +69,18 @@ unfinished-plain bytes byte h = unfinished-part bytes (byte ∷ []) (h, tt)
 -- ---- up to a line end
 
 -- one line
+pub return_length : (line : List ℕ) → length line ≤ length (without_return line) + 1
+return_length [] = omega arith
+return_length (b ∷ []) = omega arith
+return_length (b ∷ c ∷ line) = let more = return_length (c ∷ line) in omega (arith, more)
+
 pub lines-one : (w : List ℕ) → NoEnd w → lines (w ++ 10 ∷ []) ≡ without_return w ∷ []
-unfolding lines parts
-lines-one w h = ap lines_among (parts-first 10 w [] h)
+unfolding lines segments
+lines-one w h = ap lines_among (segments-first 10 w [] h)
 
 pub unfinished-one : (w : List ℕ) → NoEnd w → unfinished (w ++ 10 ∷ []) ≡ []
-unfolding unfinished parts
-unfinished-one w h = ap rest_among (parts-first 10 w [] h)
+unfolding unfinished segments
+unfinished-one w h = ap rest_among (segments-first 10 w [] h)
 
 pub lines-end : (bytes : List ℕ) → lines (bytes ++ 10 ∷ []) ≡ lines bytes ++ without_return (unfinished bytes) ∷ []
 lines-end bytes = lines-append bytes (10 ∷ []) ∙ ap (λ (l : List (List ℕ)). lines bytes ++ l) (lines-one (unfinished bytes) (unfinished-plain_all bytes))
@@ -113,10 +118,10 @@ split_few : (ends : Bool) (byte : ℕ) (ps : List (List ℕ)) (n : ℕ) → leng
 split_few true byte ps n h = omega (arith, h)
 split_few false byte ps n h = onto_first_few byte ps n h
 
-parts_few : (bytes : List ℕ) → length (parts 10 bytes) ≤ suc (length bytes)
-unfolding parts
-parts_few [] = omega arith
-parts_few (b ∷ bytes) = split_few (b == 10) b (parts 10 bytes) (suc (length bytes)) (parts_few bytes)
+segments_few : (bytes : List ℕ) → length (segments 10 bytes) ≤ suc (length bytes)
+unfolding segments
+segments_few [] = omega arith
+segments_few (b ∷ bytes) = split_few (b == 10) b (segments 10 bytes) (suc (length bytes)) (segments_few bytes)
 
 among_few : (part : List ℕ) (ps : List (List ℕ)) → length (lines_among (part ∷ ps)) ≡ length ps
 among_few part [] = refl
@@ -129,4 +134,4 @@ among_fewer (p ∷ ps) n h = omega (arith, among_few p ps, h)
 -- no more than there are bytes
 pub lines-few : (bytes : List ℕ) → length (lines bytes) ≤ length bytes
 unfolding lines
-lines-few bytes = among_fewer (parts 10 bytes) (length bytes) (parts_few bytes)
+lines-few bytes = among_fewer (segments 10 bytes) (length bytes) (segments_few bytes)

@@ -1,27 +1,27 @@
 -- Splitting at single spaces is the inverse of joining; a decimal contains no space.
-use Rattle.sas_lines.proofs.Imports.{◌≡◌, ℕ, zero, suc, ◌+◌, ◌<◌, ◌≤◌, ◌^◌, ◌≢◌, Bool, true, false, cond, eqb, List, [], ◌∷◌, ◌++◌, length, refl, sym, ap, ◌∙◌, arith, Option, Some, None, inl, inr, AllByRecursion, ◌/◌, ◌%◌, nat_lt, decimal, digits, digits_onto, digit_glyph, AllDigits, digits_value, eqb-true, ne_eqb, cases_lt, digits_decimal, decimal_injective, decimal_is_IsNumeral, Without, onto_first, parts, signed_decimal, joined, decimal_is_IsNumeral_wide, length-decimal-le, digit_from_value, IfSome}
-use Rattle.sas_lines.proofs.Separated.{parts-first, parts-only, parts-some}
+use Rattle.sas_lines.proofs.Imports.{◌≡◌, ℕ, zero, suc, ◌+◌, ◌<◌, ◌≤◌, ◌^◌, ◌≢◌, Bool, true, false, cond, eqb, List, [], ◌∷◌, ◌++◌, length, refl, sym, ap, ◌∙◌, arith, Option, Some, None, inl, inr, AllByRecursion, ◌/◌, ◌%◌, nat_lt, decimal, digits, digits_onto, digit_glyph, AllDigits, digits_value, eqb-true, ne_eqb, cases_lt, digits_decimal, decimal_injective, decimal_is_IsNumeral, Without, onto_first, segments, signed_decimal, joined, decimal_is_IsNumeral_wide, length-decimal-le, digit_from_value, IfSome}
+use Rattle.sas_lines.proofs.Separated.{segments-first, segments-only, segments-some}
 use Rattle.sas_lines.proofs.Digits.{own}
 
 abbrev pub NoSpace : List ℕ → Type 0
 NoSpace bytes = Without 32 bytes
 
-pub words-first : (w rest : List ℕ) → NoSpace w → parts 32 (w ++ 32 ∷ rest) ≡ w ∷ parts 32 rest
-words-first w rest h = parts-first 32 w rest h
+pub words-first : (w rest : List ℕ) → NoSpace w → segments 32 (w ++ 32 ∷ rest) ≡ w ∷ segments 32 rest
+words-first w rest h = segments-first 32 w rest h
 
-pub words-only : (w : List ℕ) → NoSpace w → parts 32 w ≡ w ∷ []
-words-only w h = parts-only 32 w h
+pub words-only : (w : List ℕ) → NoSpace w → segments 32 w ≡ w ∷ []
+words-only w h = segments-only 32 w h
 
-pub words-joined : (w : List ℕ) (ws : List (List ℕ)) → NoSpace w → AllByRecursion NoSpace ws → parts 32 (joined (w ∷ ws)) ≡ w ∷ ws
+pub words-joined : (w : List ℕ) (ws : List (List ℕ)) → NoSpace w → AllByRecursion NoSpace ws → segments 32 (joined (w ∷ ws)) ≡ w ∷ ws
 words-joined w [] h g = words-only w h
 words-joined w (v ∷ ws) h g = words-first w (joined (v ∷ ws)) h ∙ ap (λ (l : List (List ℕ)). w ∷ l) (words-joined v ws g.0 g.1)
 
 -- words without a space can be separated again from what they are joined to
 pub same_words : (w v : List ℕ) (ws vs : List (List ℕ)) → NoSpace w → AllByRecursion NoSpace ws → NoSpace v → AllByRecursion NoSpace vs → joined (w ∷ ws) ≡ joined (v ∷ vs) → w ∷ ws ≡ v ∷ vs
-same_words w v ws vs h g i j e = sym (words-joined w ws h g) ∙ ap (parts 32) e ∙ words-joined v vs i j
+same_words w v ws vs h g i j e = sym (words-joined w ws h g) ∙ ap (segments 32) e ∙ words-joined v vs i j
 
-pub same_first : (w v a b : List ℕ) → NoSpace w → NoSpace v → w ++ 32 ∷ a ≡ v ++ 32 ∷ b → (w ≡ v) × (parts 32 a ≡ parts 32 b)
-same_first w v a b h i e = let l : w ∷ parts 32 a ≡ v ∷ parts 32 b = sym (words-first w a h) ∙ ap (parts 32) e ∙ words-first v b i in (cc, cc)
+pub same_first : (w v a b : List ℕ) → NoSpace w → NoSpace v → w ++ 32 ∷ a ≡ v ++ 32 ∷ b → (w ≡ v) × (segments 32 a ≡ segments 32 b)
+same_first w v a b h i e = let l : w ∷ segments 32 a ≡ v ∷ segments 32 b = sym (words-first w a h) ∙ ap (segments 32) e ∙ words-first v b i in (cc, cc)
 
 joined-push : (b : ℕ) (ws : List (List ℕ)) → joined (onto_first b ws) ≡ b ∷ joined ws
 joined-push b [] = refl
@@ -32,12 +32,12 @@ joined_by : (t : Bool) (b : ℕ) (w : List ℕ) (ws : List (List ℕ)) → eqb b
 joined_by true b w ws e = ap (λ (x : ℕ). x ∷ joined (w ∷ ws)) (sym (eqb-true b 32 e))
 joined_by false b w ws e = joined-push b (w ∷ ws)
 
--- the parts joined again are the line
-pub joined-words : (line : List ℕ) → joined (parts 32 line) ≡ line
-unfolding parts
+-- the segments joined again are the line
+pub joined-words : (line : List ℕ) → joined (segments 32 line) ≡ line
+unfolding segments
 joined-words [] = refl
 joined-words (b ∷ bytes) =
-    let s = parts-some 32 bytes in
+    let s = segments-some 32 bytes in
     ap (λ (x : List (List ℕ)). joined (cond (eqb b 32) ([] ∷ x) (onto_first b x))) s.are ∙ joined_by (eqb b 32) b s.first s.others refl ∙ ap (λ (x : List ℕ). b ∷ x) (ap joined (sym s.are) ∙ joined-words bytes)
 
 -- ---- numbers

@@ -1,6 +1,7 @@
 -- The first lines of some bytes.
 use Rattle.std.specs.Prelude.{◌≡◌, ℕ, ◌+◌, ◌≤◌, Bool, true, false, List, [], ◌∷◌, ◌++◌, length, take}
-use Rattle.sas_lines.specs.Lines.{lines, unfinished, NoEnd}
+use Rattle.sas_lines.specs.Lines.{lines, unfinished}
+use Rattle.sas_lines.specs.EndedLines.{NoEnd}
 
 -- the bytes taken are those up to and including the first LF, or all if there is none
 abbrev pub TakesLine : List ℕ → ℕ → Bool → Type 0

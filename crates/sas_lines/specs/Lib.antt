@@ -1,7 +1,10 @@
-pub mod Parts
+pub mod Segments
+pub mod Separators
 pub mod Lines
+pub mod EndedLines
 pub mod FirstLines
 pub mod Spelling
+pub mod SpellingLaw
 pub mod Progress
 pub mod Device
 pub mod Inputs

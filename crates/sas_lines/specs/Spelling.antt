@@ -1,6 +1,6 @@
 -- How numbers are written, alone and several on a line. `decimal n` is a single digit for n below
 -- 10, else `decimal (n / 10)` followed by the digit of n % 10.
-use Rattle.std.specs.Prelude.{◌≡◌, ℕ, ◌+◌, ◌/◌, ◌%◌, ◌^◌, ◌<◌, ◌≤◌, List, [], ◌∷◌, ◌++◌, Option, Some, None, codes}
+use Rattle.std.specs.Prelude.{ℕ, List, [], ◌∷◌, ◌++◌, Option, Some, None, codes}
 use Rattle.std.specs.Fmt.{decimal}
 
 -- a signed number as bytes; `-1` stands for none
@@ -13,10 +13,3 @@ abbrev pub joined : List (List ℕ) → List ℕ
 joined [] = []
 joined (word ∷ []) = word
 joined (word ∷ next ∷ words) = word ++ 32 ∷ joined (next ∷ words)
-
--- `decimal` as a plain recursion, for each number of 128 bits: a digit if below 10, else the
--- decimal of a tenth followed by a digit
-abbrev pub SpellingIsDecimal : Type 0
-SpellingIsDecimal =
-    ((n : ℕ) → n < 10 → decimal n ≡ (48 + n) ∷ [])
-    × ((n : ℕ) → 10 ≤ n → n < 10 ^ 39 → decimal n ≡ decimal (n / 10) ++ (48 + n % 10) ∷ [])

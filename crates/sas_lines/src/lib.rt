@@ -12,7 +12,7 @@ mod writing;
 
 pub use devices::{Failed, Short, Watched, write_out};
 pub use inputs::OpenInput;
-pub use lines::{Fed, FirstLine, Lines, first_line, lines_law};
+pub use lines::{Fed, FirstLine, Lines, first_line, lines_law, without_return};
 pub use numbers::Numbers;
 pub use spelling::{cost, number, signed, spelling_is_decimal};
 pub use writing::{push_line, push_number};

@@ -1,6 +1,7 @@
 // Splits a stream that arrives in pieces into lines.
 ghost use Rattle.std.specs.Prelude.{◌≡◌, ◌<◌, [], ◌++◌, take, false, true, IfOk, OnErr, IfSome, IfNone, if◌then◌else◌};
-ghost use Rattle.sas_lines.specs.Lines.{lines, unfinished, without_return, NoEnd, BytesAreEndedLines};
+ghost use Rattle.sas_lines.specs.Lines.{lines, unfinished, without_return};
+ghost use Rattle.sas_lines.specs.EndedLines.{NoEnd, BytesAreEndedLines};
 ghost use Rattle.sas_lines.specs.FirstLines.{TakesLine, LineStandsFirst};
 ghost use Rattle.sas_lines.specs.Progress.{completed};
 
@@ -24,7 +25,7 @@ pub struct FirstLine<'a> {
 
 /// Returns the line without a CR at its end, since that CR is part of the line end.
 #[tactic(auto, using(crate::proofs::Found::return_at, crate::proofs::Found::no_return_at))]
-fn without_return(line: &[u8]) -> &[u8]
+pub fn without_return(line: &[u8]) -> &[u8]
     ensures { result.now ≡ without_return line.now }
 {
     match line {
@@ -72,7 +73,7 @@ pub struct Lines {
 
 impl Model for Lines {
     ghost use Rattle.std.specs.Prelude.{[], if◌then◌else◌};
-    ghost use Rattle.sas_lines.specs.Lines.{NoEnd};
+    ghost use Rattle.sas_lines.specs.EndedLines.{NoEnd};
     ghost use Rattle.sas_lines.specs.Progress.{Progress};
 
     ghost Value = { Progress };

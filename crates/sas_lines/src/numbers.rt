@@ -1,12 +1,13 @@
 // Splits a line at its spaces.
 ghost use Rattle.std.specs.Prelude.{◌≡◌, ◌∷◌};
-ghost use Rattle.sas_lines.specs.Parts.{parts, parts_within};
+ghost use Rattle.sas_lines.specs.Segments.{segments};
+ghost use Rattle.sas_lines.specs.Separators.{segments_within};
 
 use std::marker::Model;
 
 /// Returns the bytes before the first space, and the bytes after it (`None` if there is no space).
 fn cut(line: &[u8]) -> (&[u8], Option<&[u8]>)
-    ensures { parts 32 line.now ≡ result.0.now ∷ parts_within 32 result.1 }
+    ensures { segments 32 line.now ≡ result.0.now ∷ segments_within 32 result.1 }
 {
     // The next space is usually a few bytes away, so checking byte by byte is faster than `memchr`.
     match line.iter().position(|&byte| byte == b' ') {
@@ -15,7 +16,7 @@ fn cut(line: &[u8]) -> (&[u8], Option<&[u8]>)
     }
 }
 
-/// Iterates over the parts of a line between its spaces, in order. A line with k spaces has k + 1 parts, some of which may be empty.
+/// Iterates over the segments of a line between its spaces, in order. A line with k spaces has k + 1 segments. Some may be empty.
 #[derive(Debug, Drop)]
 pub struct Numbers<'a> {
     rest: Option<&'a [u8]>,
@@ -23,19 +24,26 @@ pub struct Numbers<'a> {
 
 impl<'a> Model for Numbers<'a> {
     ghost use Rattle.std.specs.Prelude.{ℕ, List};
-    ghost use Rattle.sas_lines.specs.Parts.{parts_within};
+    ghost use Rattle.sas_lines.specs.Separators.{segments_within};
 
     ghost Value = { List (List ℕ) };
 
-    ghost view = { λ numbers. parts_within 32 numbers.rest };
+    ghost view = { λ numbers. segments_within 32 numbers.rest };
 }
 
 impl<'a> Numbers<'a> {
-    /// Returns the iterator over all parts of the line.
+    /// Returns the iterator over all segments of the line.
     pub fn new(line: &'a [u8]) -> Numbers<'a>
-        ensures { result ≡ parts 32 line.now }
+        ensures { result ≡ segments 32 line.now }
     {
         Numbers { rest: Some(line) }
+    }
+
+    /// Returns the bytes of the segments that are left, or `None` if none is left.
+    pub fn rest(&self) -> Option<&'a [u8]>
+        ensures { self.now ≡ segments_within 32 result }
+    {
+        self.rest
     }
 }
 

@@ -1,6 +1,6 @@
 // Finds a separator.
 ghost use Rattle.std.specs.Prelude.{MatchOption};
-ghost use Rattle.sas_lines.specs.Parts.{Without, StandsFirst};
+ghost use Rattle.sas_lines.specs.Separators.{Without, StandsFirst};
 
 use memchr::memchr;
 

@@ -2,7 +2,8 @@
 #![tactic(auto, using(crate::proofs::Digits::spelled))]
 
 ghost use Rattle.std.specs.Prelude.{◌≡◌, ◌<◌, ◌≤◌, ◌^◌, ◌↔◌, ℕ, Option, Some, None, IfSome, IfNone, IsTrue, length, slice_index, decimal};
-ghost use Rattle.sas_lines.specs.Spelling.{SpellingIsDecimal, signed_decimal};
+ghost use Rattle.sas_lines.specs.Spelling.{signed_decimal};
+ghost use Rattle.sas_lines.specs.SpellingLaw.{SpellingIsDecimal};
 
 /// Returns whether the digits begin with a zero that other digits follow.
 fn has_leading_zero(digits: &[u8]) -> bool

@@ -21,7 +21,7 @@ pub use Rattle.sas_core.specs.Changes.{change_of}
 pub use Rattle.sas_core.specs.FirstFault.{Check, first_fault, check}
 pub use Rattle.sas_core.specs.Grounded.{no_effect, rule_at, operator_at, effect_at}
 pub use Rattle.sas_core.specs.Variables.{IsDerived, layer_of, IsState, range_of, HasValue, FactExists}
-pub use Rattle.sas_core.specs.WellRanged.{WellRanged, EffectFits}
+pub use Rattle.sas_core.specs.WellRanged.{WellRanged, OperatorFits, EffectFits}
 pub use Rattle.sas_core.specs.declared.grounded.Change.{Change}
 pub use Rattle.sas_core.specs.declared.parts.Effect.{Effect}
 pub use Rattle.sas_core.specs.declared.parts.Fact.{Fact}
@@ -31,15 +31,18 @@ pub use Rattle.sas_core.specs.declared.parts.Variable.{Variable}
 pub use Rattle.sas_meaning.specs.DerivedVariables.{AreDerived}
 pub use Rattle.sas_meaning.specs.Following.{HaveGone}
 pub use Rattle.sas_meaning.specs.Forced.{OnlyForced, HasFired, Changes, SameOff, AtDefault, equal_places, Occurs}
+pub use Rattle.sas_meaning.specs.FastDownward.{FiresLast, FastDownwardStep, FastDownwardReachable, Start, Onward}
 pub use Rattle.sas_meaning.specs.Laws.{SettledExists, InitialExists, SettledIsOne, StepIsOne}
 pub use Rattle.sas_meaning.specs.LayerChecks.{numbered_checks, agrees_with, looks_down, firing_checks, effect_layer_checks, operator_layer_checks, rule_layer_checks, layer_checks, LayerChecksAreTheRules}
 pub use Rattle.sas_meaning.specs.Layers.{IsBasic, IsOnLayer, default_of, IsLayered, CanFire, LooksDown, can_fire, IsLayeredRule}
 pub use Rattle.sas_meaning.specs.NewValues.{NewValues, IsGiverBefore}
 pub use Rattle.sas_meaning.specs.Places.{places_from, places}
 pub use Rattle.sas_meaning.specs.Preconditions.{preconditions_left, IsAtOperator}
-pub use Rattle.sas_meaning.specs.Settled.{IsSettledAt, SameBasic, new_value_of, value_with, IsClosed, differs, is_on_layer, IsSettled}
+pub use Rattle.sas_meaning.specs.Reachable.{Reachable, Initial, Next}
+pub use Rattle.sas_meaning.specs.Settled.{Settles, IsSettledAt, SameBasic, new_value_of, value_with, IsClosed, differs, is_on_layer, IsSettled}
 pub use Rattle.sas_meaning.specs.States.{Holds, AllHold}
-pub use Rattle.sas_meaning.specs.Steps.{Fires, Step}
+pub use Rattle.sas_meaning.specs.Steps.{preconditions, Fires, Agree, Step}
+pub use Rattle.sas_meaning.specs.StepLaws.{fires, written, StepExists, FastDownwardStepExists, FastDownwardStepIsOne, StepIsFastDownwards, FastDownwardStepIsStep, FastDownwardReaches, FastDownwardReachesNoMore, FastDownwardWrites}
 pub use Rattle.sas_meaning.specs.ChangedVariables.{MayHaveChanged, IsCleared, AddsTouched, CoversChanges, StillCovers}
 pub use Rattle.sas_meaning.specs.declared.layered.LayerFault.{LayerFault}
 pub use Rattle.sas_meaning.specs.declared.layered.LayerFault.TheVariants.{OldValue, TwoValues, LayerOrder, EffectOnDerived, RuleOnBasic}

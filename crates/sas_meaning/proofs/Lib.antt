@@ -6,6 +6,8 @@ pub mod Settling
 pub mod Covering
 pub mod Unique
 pub mod Exists
+mod Writing
+pub mod FastDownwardSteps
 pub mod NumberedChecks
 pub mod RuleTests
 pub mod KnownValues

@@ -8,7 +8,7 @@ use Rattle.sas_core.specs.WellRanged.{WellRanged}
 use Rattle.sas_meaning.specs.Layers.{IsLayered}
 use Rattle.sas_meaning.specs.Settled.{Settles}
 use Rattle.sas_meaning.specs.Steps.{Step}
-use Rattle.sas_meaning.specs.Reachable.{IsInitial}
+use Rattle.sas_meaning.specs.InitialStates.{IsInitial}
 
 -- for all values of the basic variables there is a settled state
 abbrev pub SettledExists : Type 0

@@ -5,10 +5,13 @@ pub mod Following
 pub mod ChangedVariables
 pub mod Steps
 pub mod Preconditions
+pub mod InitialStates
 pub mod Reachable
+pub mod FastDownward
 pub mod NewValues
 pub mod LayerChecks
 pub mod Laws
+pub mod StepLaws
 pub mod Forced
 pub mod DerivedVariables
 pub mod Places

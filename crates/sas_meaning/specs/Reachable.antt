@@ -2,13 +2,8 @@
 use Rattle.std.specs.Prelude.{ℕ, List, Contains}
 use Rattle.sas_core.specs.declared.parts.Operator.{Operator}
 use Rattle.sas_core.specs.declared.parts.Parts.{Parts}
-use Rattle.sas_meaning.specs.Settled.{Settles}
 use Rattle.sas_meaning.specs.Steps.{Step}
-
--- The initial state: basic variables have their values in the state section, and derived variables
--- the values that follow from the rules.
-abbrev pub IsInitial : Parts → List ℕ → Type 0
-IsInitial p s = Settles p p.init s
+use Rattle.sas_meaning.specs.InitialStates.{IsInitial}
 
 -- a state is reachable if it is the initial state or if a step leads to it from a reachable state
 pub data Reachable (p : Parts) : List ℕ → Type 0 where

@@ -23,8 +23,8 @@ abbrev pub Fires : List ℕ → Effect → Type 0
 Fires s e = AllHold (slice_index s) e.conditions
 
 -- No two effects that fire set a variable to different values. If two effects conflict, the
--- operator has no step. A planner in which the last effect wins reaches states that are not
--- reachable here.
+-- operator has no step. In a planner in which the last effect wins, it has one, so that planner may
+-- reach states that are not reachable here.
 abbrev pub Agree : List ℕ → List Effect → Type 0
 Agree s effects = All (λ (e : Effect). All (λ (f : Effect). Fires s e → Fires s f
     → e.var ≡ f.var → e.new ≡ f.new) effects) effects

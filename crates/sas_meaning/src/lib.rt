@@ -9,6 +9,7 @@ mod layered;
 mod preconditions;
 mod settle;
 mod state;
+mod steps;
 
 pub use changed_variables::ChangedVariables;
 pub use derived::derived_variables;
@@ -17,3 +18,4 @@ pub use layered::{LayerFault, Layered};
 pub use preconditions::Preconditions;
 pub use settle::Settle;
 pub use state::{State, StateFault};
+pub use steps::step_laws;

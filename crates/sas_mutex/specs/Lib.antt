@@ -4,6 +4,7 @@ pub use Rattle.sas_groups.specs.Groups
 pub use Rattle.sas_groups.specs.Families
 pub use Rattle.sas_groups.specs.Verdicts
 pub use Rattle.sas_groups.specs.Laws
+pub use Rattle.sas_groups.specs.VerdictLaws
 pub use Rattle.sas_groups.specs.Lists
 pub mod Judging
 pub mod Marks

@@ -14,4 +14,4 @@ mod watches;
 pub use effects::{FiringEffect, begins_run};
 pub use joint::{check_groups, exclusive_of};
 pub use marks::Marks;
-pub use sas_groups::{Facts, Verdict, check_group, group_laws};
+pub use sas_groups::{Facts, Verdict, check_group, group_laws, group_verdict_laws};

@@ -16,9 +16,9 @@ pub use Rattle.sas_core.specs.Names.{IsName}
 pub use Rattle.sas_core.specs.Numbers.{IsPlanCost}
 pub use Rattle.sas_core.specs.Plain.{IsPlain}
 pub use Rattle.sas_core.specs.PlanParts.{PlanParts}
-pub use Rattle.sas_core.specs.Plans.{WellNamed}
+pub use Rattle.sas_core.specs.WellNamed.{WellNamed}
 pub use Rattle.sas_core.specs.declared.plan.CostKind.{CostKind}
-pub use Rattle.sas_lines.proofs.Splitting.{lines-one, unfinished-one}
+pub use Rattle.sas_lines.proofs.Splitting.{lines-one, unfinished-one, return_length}
 pub use Rattle.sas_lines.proofs.Words.{NoSpace, NoSpace-decimal}
 pub use Rattle.sas_lines.specs.Lines.{text, without_return}
 unfoldable pub use Rattle.sas_lines.specs.Lines.{lines}
@@ -28,7 +28,7 @@ pub use Rattle.sas_reader.proofs.Conversion.{Follows, reads_of_format, some_read
 pub use Rattle.sas_reader.proofs.Every.{laws_of}
 pub use Rattle.sas_reader.proofs.Live.{leads_line}
 pub use Rattle.sas_reader.proofs.Paths.{one_ended, after_ends}
-pub use Rattle.sas_reader.proofs.Plain.{plain, plain-decimal, return_dropped}
+pub use Rattle.sas_reader.proofs.Plain.{plain, plain-decimal}
 pub use Rattle.sas_reader.proofs.Reading.{end_fault, reads_all, refuses_all, feeds}
 pub use Rattle.sas_reader.proofs.Refusals.{reported_by, explains, reads_explained, refuses_explained}
 pub use Rattle.sas_reader.specs.About.{ConcernsText, EndsUnended}

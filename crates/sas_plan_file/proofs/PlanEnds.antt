@@ -1,27 +1,10 @@
 -- A plan that lacks only its last line end: after its steps, the text is a cost.
-use Rattle.sas_plan_file.proofs.Imports.{Behavior, ◌≡◌, ℕ, ◌+◌, ◌<◌, ◌≤◌, true, false, List, [], ◌∷◌, ◌++◌, length, length-append, length-decimal-le, take, map, refl, sym, ap, subst, ◌∙◌, arith, IsTrue, ◌↔◌, append-nil, decimal, CostKind, PlanParts, IsPlanCost, without_return, return_dropped, Kind, Excerpt, IsFoundOf, kept_bytes, take_all, Bool, AreAllLines, EndsUnended, StandsBehind, behind_line, behind_text, at_end, LeadsToEnd, Leads, IsRejected, Rejects, after_ends, Follows, PlanLine, step, cost, plan_line_bytes, plan_format, PlanLineFits, plan_line_ok, PlanKind, like_step, like_cost, like_none, cost_front, cost_words, PlanState, going, closed, plan_node, plan_start, PlanRefusal, IsCostLine, TellsLineEnd}
+use Rattle.sas_plan_file.proofs.Imports.{Behavior, ◌≡◌, ℕ, ◌+◌, ◌<◌, ◌≤◌, true, false, List, [], ◌∷◌, ◌++◌, length, length-append, length-decimal-le, take, map, refl, sym, ap, subst, ◌∙◌, arith, IsTrue, ◌↔◌, append-nil, decimal, CostKind, PlanParts, IsPlanCost, without_return, return_length, Kind, Excerpt, IsFoundOf, kept_bytes, take_all, Bool, AreAllLines, EndsUnended, StandsBehind, behind_line, behind_text, at_end, LeadsToEnd, Leads, IsRejected, Rejects, after_ends, Follows, PlanLine, step, cost, plan_line_bytes, plan_format, PlanLineFits, plan_line_ok, PlanKind, like_step, like_cost, like_none, cost_front, cost_words, PlanState, going, closed, plan_node, plan_start, PlanRefusal, IsCostLine, TellsLineEnd}
 use Rattle.sas_core.specs.declared.plan.CostKind.TheVariants as costs
 use Rattle.sas_reader.specs.declared.fault.Kind.TheVariants as kinds
 use Rattle.sas_plan_file.proofs.PlanFilling.{none, step_lines, steps_line}
 use Rattle.sas_plan_file.proofs.PlanGrammar.{plan_grammar}
 use Rattle.sas_plan_file.proofs.PlanSteps.{led_on}
-
--- ---- a CR at the end of a line
-
-pub return_gone : (line front : List ℕ) → line ≡ front ++ 13 ∷ [] → front ≡ without_return line
-return_gone line front e = sym (return_dropped front) ∙ ap without_return (sym e)
-
-pub no_return_gone : (line : List ℕ) → ((front : List ℕ) → line ≡ front ++ 13 ∷ [] → ⊥) → line ≡ without_return line
-no_return_gone [] none = refl
-no_return_gone (b ∷ []) none = grind (arith, none [])
-no_return_gone (b ∷ c ∷ line) none = ap (λ (l : List ℕ). b ∷ l) (no_return_gone (c ∷ line) (λ front e. none (b ∷ front) (ap (λ (l : List ℕ). b ∷ l) e)))
-
-pub ruleset without_returns = (return_gone, no_return_gone)
-
-return_length : (line : List ℕ) → length line ≤ length (without_return line) + 1
-return_length [] = omega arith
-return_length (b ∷ []) = omega arith
-return_length (b ∷ c ∷ line) = let more = return_length (c ∷ line) in omega (arith, more)
 
 -- ---- a cost
 

@@ -2,7 +2,7 @@
 use Rattle.std.specs.Prelude.{◌≡◌, ℕ, ◌⊎◌, List, [], ◌∷◌, ◌++◌}
 use Rattle.sas_core.specs.declared.plan.CostKind.TheVariants as costs
 use Rattle.sas_core.specs.PlanParts.{PlanParts}
-use Rattle.sas_core.specs.Plans.{WellNamed}
+use Rattle.sas_core.specs.WellNamed.{WellNamed}
 use Rattle.sas_reader.specs.Texts.{lines_of}
 use Rattle.sas_reader.specs.Format.{IsBegun}
 use Rattle.sas_plan_file.specs.PlanFormat.{cost, plan_line_bytes, plan_texts, plan_format}

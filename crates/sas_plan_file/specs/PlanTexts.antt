@@ -4,7 +4,7 @@ use Rattle.std.specs.Fmt.{decimal}
 use Rattle.sas_core.specs.declared.plan.CostKind.{CostKind}
 use Rattle.sas_core.specs.declared.plan.CostKind.TheVariants as costs
 use Rattle.sas_core.specs.PlanParts.{PlanParts}
-use Rattle.sas_core.specs.Plans.{WellNamed}
+use Rattle.sas_core.specs.WellNamed.{WellNamed}
 use Rattle.sas_reader.specs.Texts.{Texts}
 
 -- the content of a line of a plan file: the name of a step, or the cost

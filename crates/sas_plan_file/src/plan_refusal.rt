@@ -4,7 +4,8 @@ ghost use Rattle.sas_lines.specs.Lines.{without_return};
 ghost use Rattle.sas_reader.specs.Found.{IsFoundOf};
 ghost use Rattle.sas_plan_file.specs.PlanRefusal.{IsCostLine};
 
-use crate::plan_line::{PlanLine, before, plan_line};
+use crate::plan_line::{PlanLine, plan_line};
+use sas_lines::without_return;
 use sas_reader::{Excerpt, Fault, Kind, Refusal};
 
 /// Why a plan is refused: its first fault, the text at the fault, and whether only the last line end is missing.
@@ -14,17 +15,6 @@ pub struct PlanRefusal {
     pub found: Excerpt,
     /// The fault is `End`, and with one line end (LF) more the bytes are a plan.
     pub lacks_line_end: bool,
-}
-
-/// Returns the line without a CR at its end.
-#[tactic(auto, using(crate::proofs::PlanEnds::without_returns))]
-fn without_return(line: &[u8]) -> &[u8]
-    ensures { result.now ≡ without_return line.now }
-{
-    match before(line, b"\r") {
-        Some(front) => front,
-        None => line,
-    }
 }
 
 /// Returns whether the line is the cost.

@@ -91,7 +91,8 @@ pub use Rattle.sas_run.proofs.PlanVerdicts.{some_verdict, valid_has_no_fault, fa
 pub use Rattle.sas_run.proofs.Ranges.{preconditions_within, effect_within}
 pub use Rattle.sas_run.proofs.Runs.{some_run, one_run, leads_to_last, last_rests, operators_exist, to_fault, state_fits}
 pub use Rattle.sas_run.specs.Executions.{Executed, next_name, next_operator, Executes, Advances}
-pub use Rattle.sas_run.specs.Named.{IsNamed, nameless_steps}
+pub use Rattle.sas_run.specs.Named.{IsNamed}
+pub use Rattle.sas_run.specs.Nameless.{nameless_steps}
 pub use Rattle.sas_run.specs.Plans.{LeadTo, LeadsTo, IsValid}
 pub use Rattle.sas_run.specs.Running.{IsLater, IsLaterIfAny}
 pub use Rattle.sas_run.specs.Runs.{Run, last_state, state_at, StepsSucceed, steps_before, RunEndsWith}

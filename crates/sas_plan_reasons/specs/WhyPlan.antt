@@ -15,7 +15,7 @@ use Rattle.sas_run.specs.declared.plan_check.PlanFault.TheVariants.{Memory, NoOp
 use Rattle.sas_answers.specs.declared.line.Line.{Line}
 use Rattle.sas_answers.specs.declared.line.Line.TheVariants as line
 use Rattle.sas_plan_reasons.specs.Lines.{with_lines, LineThen, LinesOfEach}
-use Rattle.sas_run.specs.Named.{nameless_steps}
+use Rattle.sas_run.specs.Nameless.{nameless_steps}
 use Rattle.sas_run.specs.Runs.{Run, last_state, StepsSucceed, steps_before}
 use Rattle.sas_plan_reasons.specs.Lowest.{AreLowest}
 use Rattle.sas_plan_reasons.specs.MayMean.{similar_operator, IsOther, MayMean}

@@ -18,7 +18,7 @@ pub record IsSolved (b c : List ℕ) (o : Output) : Type 0 where
   pub solves : Solves b c o.text
 
 -- no line with words of its own is that of a valid plan
-other_words : (words : Option (List ℕ)) (line_of : List ℕ → List ℕ) (o : Output) → ((w : List ℕ) (steps cost : ℕ) → line_of w ≡ valid_line steps cost → ⊥)
+pub other_words : (words : Option (List ℕ)) (line_of : List ℕ → List ℕ) (o : Output) → ((w : List ℕ) (steps cost : ℕ) → line_of w ≡ valid_line steps cost → ⊥)
     → option_map (λ w. record { text = line_of w; status = No }) words ≡ Some o → IsOther o
 other_words words line_of o apart is =
     let w = worded words line_of o is in
@@ -33,7 +33,7 @@ task_refusal_apart line steps cost w e = not_same 112 116 (omega arith) (ap (λ 
 plan_refusal_apart : (line steps cost : ℕ) (w : List ℕ) → refusal_line (codes "plan") line w ≡ valid_line steps cost → ⊥
 plan_refusal_apart line steps cost w e = not_same 114 118 (omega arith) (sym (ap (λ (t : List ℕ). get_or t 5 0) e))
 
-invalid_line_apart : (steps cost : ℕ) (w : List ℕ) → invalid_line w ≡ valid_line steps cost → ⊥
+pub invalid_line_apart : (steps cost : ℕ) (w : List ℕ) → invalid_line w ≡ valid_line steps cost → ⊥
 invalid_line_apart steps cost w e = not_same 105 118 (omega arith) (sym (ap (λ (t : List ℕ). get_or t 5 0) e))
 
 -- nor is the refusal of a task for a fault of its layers, whatever follows it

@@ -37,7 +37,8 @@ pub use Rattle.sas_answers.specs.GroupWords.{group_line, verdict_lines_from, ver
 pub use Rattle.sas_answers.specs.Laws.{IsReasonLine}
 pub use Rattle.sas_answers.specs.LayerWords.{layer_words, layers_line, words_at_part}
 pub use Rattle.sas_answers.specs.Line.{line_bytes, reasons_text}
-pub use Rattle.sas_answers.specs.PlanWords.{valid_line, fault_words, invalid_line, step_words}
+pub use Rattle.sas_answers.specs.PlanWords.{fault_words, invalid_line, step_words}
+pub use Rattle.sas_answers.specs.ValidLine.{valid_line}
 pub use Rattle.sas_answers.specs.Sink.{Pushes}
 pub use Rattle.sas_answers.specs.declared.answer.Answer.{Answer}
 pub use Rattle.sas_answers.specs.declared.ending.Status.{Status}
@@ -49,7 +50,7 @@ pub use Rattle.sas_core.specs.FirstFault.{first_fault}
 pub use Rattle.sas_core.specs.Names.{is_plain, IsName}
 pub use Rattle.sas_core.specs.Plain.{IsPlain}
 pub use Rattle.sas_core.specs.PlanParts.{PlanParts}
-pub use Rattle.sas_core.specs.Plans.{WellNamed}
+pub use Rattle.sas_core.specs.WellNamed.{WellNamed}
 pub use Rattle.sas_core.specs.Variables.{layer_of, value_name}
 pub use Rattle.sas_core.specs.WellRanged.{WellRanged}
 pub use Rattle.sas_core.specs.declared.parts.Fact.{Fact}
@@ -67,8 +68,8 @@ pub use Rattle.sas_lines.proofs.Words.{same_first, NoSpace-decimal, own_decimal}
 pub use Rattle.sas_lines.specs.Device.{Device}
 pub use Rattle.sas_lines.specs.Lines.{text, lines_among, without_return}
 unfoldable pub use Rattle.sas_lines.specs.Lines.{lines, unfinished}
-pub use Rattle.sas_lines.specs.Parts.{onto_first}
-unfoldable pub use Rattle.sas_lines.specs.Parts.{parts}
+pub use Rattle.sas_lines.specs.Segments.{onto_first}
+unfoldable pub use Rattle.sas_lines.specs.Segments.{segments}
 pub use Rattle.sas_lines.specs.Spelling.{joined}
 pub use Rattle.sas_meaning.proofs.LayerChecksAreRules.{checks_are_rules}
 pub use Rattle.sas_meaning.proofs.Members.{contains_cases, contains_none}
@@ -138,7 +139,8 @@ pub use Rattle.sas_requests.specs.FileLines.{file_text, file_lines, line_if}
 pub use Rattle.sas_requests.specs.Hint.{hint_words, task_hint, plan_hint}
 pub use Rattle.sas_requests.specs.declared.hint.Hint.{Hint}
 pub use Rattle.sas_requests.specs.FileReasons.{FaultReasons, reported, past_limit, FileReasons, AreTaskReasons, ArePlanReasons, RefusalReasons, ReadReasons, TaskFileReasons, PlanFileReasons}
-pub use Rattle.sas_requests.specs.Headline.{Solves, Headline, HasInvariant, Invariants}
+pub use Rattle.sas_requests.specs.Headline.{Solves, Headline}
+pub use Rattle.sas_requests.specs.Invariants.{HasInvariant, Invariants}
 pub use Rattle.sas_requests.specs.InTurn.{IsRightlyLong, OpensFirst, OpensInTurn, OpensTo}
 pub use Rattle.sas_requests.specs.Inputs.{HaveBytes, tool_result, judge_result, IsLabel, WereRead, tool_fault}
 pub use Rattle.sas_requests.specs.Judged.{Judged, IsBest, IsSummary, count_words, HasCost, IsJudged, PlansAnswer, PlansOut, JudgeOut, is_valid, labelled}

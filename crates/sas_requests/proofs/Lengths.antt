@@ -1,6 +1,6 @@
 -- The lines of some bytes aren't longer than the bytes.
 use Rattle.std.proofs.lemmas.Grind.{common_steps}
-use Rattle.sas_requests.proofs.Imports.{ℕ, ◌+◌, ◌≤◌, Bool, true, false, ◌==◌, if◌then◌else◌, List, [], ◌∷◌, ◌++◌, length, length-append, arith, text, lines, lines_among, without_return, parts, onto_first}
+use Rattle.sas_requests.proofs.Imports.{ℕ, ◌+◌, ◌≤◌, Bool, true, false, ◌==◌, if◌then◌else◌, List, [], ◌∷◌, ◌++◌, length, length-append, arith, text, lines, lines_among, without_return, segments, onto_first}
 
 without_short : (bytes : List ℕ) → length (without_return bytes) ≤ length bytes
 without_short [] = omega arith
@@ -39,11 +39,11 @@ spread_either : (ends : Bool) (b : ℕ) (ps : List (List ℕ)) → spread (if en
 spread_either true b ps = spread_behind ps
 spread_either false b ps = spread_onto b ps
 
-spread_short : (bytes : List ℕ) → spread (parts 10 bytes) ≤ length bytes + 1
-unfolding parts spread
+spread_short : (bytes : List ℕ) → spread (segments 10 bytes) ≤ length bytes + 1
+unfolding segments spread
 spread_short [] = omega arith
-spread_short (b ∷ bytes) = omega (arith, spread_either (b == 10) b (parts 10 bytes), spread_short bytes)
+spread_short (b ∷ bytes) = omega (arith, spread_either (b == 10) b (segments 10 bytes), spread_short bytes)
 
 pub text_short : (bytes : List ℕ) → length (text (lines bytes)) ≤ length bytes
 unfolding lines
-text_short bytes = omega (arith, among_short (parts 10 bytes), spread_short bytes)
+text_short bytes = omega (arith, among_short (segments 10 bytes), spread_short bytes)

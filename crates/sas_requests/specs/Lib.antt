@@ -7,7 +7,9 @@ pub mod FileLaws
 pub mod Output
 pub mod EndsFile
 pub mod Headline
+pub mod Invariants
 pub use Rattle.sas_answers.specs.LayerWords
+pub use Rattle.sas_answers.specs.ValidLine
 pub use Rattle.sas_answers.specs.PlanWords
 pub use Rattle.sas_answers.specs.GroupWords
 pub use Rattle.sas_answers.specs.Answers

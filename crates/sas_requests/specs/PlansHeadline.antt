@@ -3,7 +3,7 @@ use Rattle.std.specs.Prelude.{◌≡◌, ◌↔◌, ℕ, ◌<◌, List, [], ◌+
 use Rattle.sas_lines.specs.Lines.{lines}
 use Rattle.sas_answers.specs.declared.ending.Status.{Status}
 use Rattle.sas_answers.specs.declared.ending.Status.TheVariants.{Yes}
-use Rattle.sas_answers.specs.PlanWords.{valid_line}
+use Rattle.sas_answers.specs.ValidLine.{valid_line}
 use Rattle.sas_requests.specs.Output.{IsLayeredText}
 use Rattle.sas_requests.specs.Headline.{Solves}
 

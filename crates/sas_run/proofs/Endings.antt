@@ -23,7 +23,7 @@ module _ (p : Parts) (plan : PlanParts) (k : ℕ) (lt : k < length plan.steps) (
 
   stops : (fault : PlanFault) → StepFails p s name (k + 1) fault → IsFaultOf p plan fault × (take k plan.steps ≡ steps_before plan fault)
   stops (NoOperator step) (is, none) = ((s, name, comes step is, none), at_step step is)
-  stops (NotApplicable step) (is, some, none) = ((s, name, comes step is, some, none), at_step step is)
+  stops (NotApplicable step) (is, blocked) = ((s, name, comes step is, blocked.0, blocked.1), at_step step is)
   stops (Conflict step operator) (is, chosen, none) = ((s, name, comes step is, chosen, none), at_step step is)
   stops (GoalMissed index) why = absurd why
   stops (CostDiffers sum) why = absurd why

@@ -17,7 +17,7 @@ pub use Rattle.std.specs.BTreeMap.{BTreeMap, is_at}
 pub use Rattle.std.specs.Cmp.{nat_eq_equiv}
 pub use Rattle.std.specs.Cmp.Lexicographic.{pointwise, bytes_decides, slice_cmp, lists_equiv}
 pub use Rattle.std.specs.Global.{Vec}
-pub use Rattle.std.specs.List.{All, cons_option, AllByRecursion, count_by}
+pub use Rattle.std.specs.List.{All, AllZip, cons_option, AllByRecursion, count_by}
 pub use Rattle.std.specs.Map.{IsKeyTest, AreApart}
 unfoldable pub use Rattle.std.specs.Map.{KeepsOthers}
 pub use Rattle.std.specs.Option.{option_and_then}
@@ -41,31 +41,39 @@ pub use Rattle.sas_core.specs.declared.parts.Parts.{Parts}
 pub use Rattle.sas_core.specs.declared.parts.Variable.{Variable}
 pub use Rattle.sas_meaning.proofs.Exists.{settled_exists, initial_exists}
 pub use Rattle.sas_meaning.proofs.Facts.{hold_or_not, Untouched}
+pub use Rattle.sas_meaning.proofs.FastDownwardSteps.{step_there, is_one_there}
 pub use Rattle.sas_meaning.proofs.Forced.{state_set, fact_within}
 pub use Rattle.sas_meaning.proofs.Layers.{layer_cases}
 pub use Rattle.sas_meaning.proofs.Settling.{settled_where_empty}
 pub use Rattle.sas_meaning.proofs.Unique.{settled_is_one, step_is_one}
 pub use Rattle.sas_meaning.specs.ChangedVariables.{CoversChanges}
+pub use Rattle.sas_meaning.specs.FastDownward.{FastDownwardStep}
 pub use Rattle.sas_meaning.specs.Following.{HaveGone}
 pub use Rattle.sas_meaning.specs.Layers.{IsBasic, IsLayered}
-pub use Rattle.sas_meaning.specs.Reachable.{IsInitial, Reachable, Initial, Next}
+pub use Rattle.sas_meaning.specs.Reachable.{Reachable, Initial, Next}
+pub use Rattle.sas_meaning.specs.InitialStates.{IsInitial}
 pub use Rattle.sas_meaning.specs.Settled.{Settles, IsSettled, SameBasic}
 pub use Rattle.sas_meaning.specs.States.{Holds, AllHold}
 pub use Rattle.sas_meaning.specs.Steps.{preconditions, Step, Fires, Agree, old_fact}
 pub use Rattle.sas_meaning.specs.declared.changed_variables.ChangedVariables.{ChangedVariables}
+pub use Rattle.sas_run.specs.ByNumbers.{OperatorsLead, GoThrough, GoesThrough, IsValidByNumbers}
 pub use Rattle.sas_run.specs.Chains.{AreChains, AreFound, HaveChains, IsChain, has_none}
+pub use Rattle.sas_run.specs.Choosers.{AreLowest, IsNumberChoice, Makes, EndsSteps}
 pub use Rattle.sas_run.specs.Deletions.{DeletedHasRoom, NotesOn}
 pub use Rattle.sas_run.specs.Executions.{Executed, next_name, next_operator, Executes, IsFound, Advances, executed_of, IsExecuting}
 pub use Rattle.sas_run.specs.Given.{given_to, Replaces, value_after, NothingGiven, IsGiven, IsGivenTo, GivesValue, GivesOther}
-pub use Rattle.sas_run.specs.Laws.{LeadsToReachable, LastIsReachable, SomeVerdict, ValidHasNoFault, ValidIsOne, FaultIsOne, SomeRun, OneRun}
+pub use Rattle.sas_run.specs.Laws.{AreChosen, ValidByNumbers, SomeVerdictByNumbers, NumbersHaveNoFault, FaultByNumbersIsOne, LeadsToReachable, LastIsReachable, SomeVerdict, ValidHasNoFault, ValidIsOne, FaultIsOne, SomeRun, OneRun}
 pub use Rattle.sas_run.specs.Likely.{IsLikely, AreLikely}
 unfoldable pub use Rattle.sas_run.specs.NameDigest.{digest_of}
 pub use Rattle.sas_run.specs.NameTable.{value_of, AreNames, other_of, own_else, first_else, likely_of, operator_names, AreMappedFrom, AreNamesFrom, Exist, IsEmptyTable, PutsName, PutsDigest, PutsOther}
-pub use Rattle.sas_run.specs.Named.{IsNamed, is_nameless, nameless_steps}
+pub use Rattle.sas_run.specs.Named.{IsNamed}
+pub use Rattle.sas_run.specs.Nameless.{is_nameless, nameless_steps}
 pub use Rattle.sas_run.specs.Names.{IsNextNamed, IsLowestNamed, AreFirsts}
+pub use Rattle.sas_run.specs.NumberFaults.{IsStuck, IsMissed, IsFaultByNumbers}
+pub use Rattle.sas_run.specs.OtherSensesLaws.{ValidIsUsuallyValid, ValidInFastDownward, EndsInFastDownward}
 pub use Rattle.sas_run.specs.PlainSteps.{AreMade, IsPlainStep, OldHolds}
 pub use Rattle.sas_run.specs.Plans.{IsApplicable, NoneApplicable, IsChosen, LeadTo, LeadsTo, IsValid, cost_of_all}
-pub use Rattle.sas_run.specs.Running.{StepFails, IsFinalVerdict, MakesStep, Steps, IsApplied, IsFirstConflict, IsFirstMissedFact, IsFirstChosen, IsStepFault}
+pub use Rattle.sas_run.specs.Running.{IsChoice, StepFailsBy, StepFails, IsFinalVerdict, MakesStep, Steps, IsApplied, IsFirstConflict, IsFirstMissedFact, IsFirstChosen, IsStepFault}
 pub use Rattle.sas_run.specs.Runs.{Run, steps_before, RunEndsWith, IsEnding, state_at, last_state, StepsSucceed}
 unfoldable pub use Rattle.sas_run.specs.Shapes.{shape_of}
 pub use Rattle.sas_run.specs.StepNames.{AreStepNames, step_names, AreStepsOf, Numbers, HaveNumbers}
@@ -78,6 +86,8 @@ pub use Rattle.sas_run.specs.declared.names.Names.{Names}
 pub use Rattle.sas_run.specs.declared.plan_check.PlanFault.{PlanFault}
 pub use Rattle.sas_run.specs.declared.plan_check.PlanFault.TheVariants.{Memory, NoOperator, NotApplicable, Conflict, GoalMissed, CostDiffers}
 pub use Rattle.sas_run.specs.declared.progress.Progress.{Progress}
+pub use Rattle.sas_run.specs.declared.runner.Choice.{Choice}
+pub use Rattle.sas_run.specs.declared.runner.Choice.TheVariants.{Unknown, Blocked, Found}
 pub use Rattle.sas_run.specs.declared.step_names.StepNames.{StepNames}
 pub use Rattle.sas_run.specs.declared.stepper.Stepper.{Stepper}
 pub use Rattle.sas_run.specs.declared.steps.StepFault.{StepFault}

@@ -7,6 +7,7 @@ mod ChainsFrom
 mod FoundSteps
 mod LikelyOperators
 pub mod Determined
+mod OtherSenses
 pub mod Choosing
 pub mod NextStates
 pub mod PlanVerdicts
@@ -18,6 +19,9 @@ pub mod PlainSteps
 pub mod NamedAlike
 pub mod Going
 pub mod PlanStates
+pub mod GoingByNumbers
+pub mod NumberVerdicts
+pub mod MadeSteps
 pub mod Runs
 pub mod Endings
 pub mod Executing

@@ -19,7 +19,7 @@ fails_one : (p : Parts) (s name : List ℕ) (step : ℕ) (a b : PlanFault) → S
 fails_one p s name step a b x y = grind (arith, chosen_is_one p s name)
 
 -- after the last step there is one verdict
-judged_one : (p : Parts) (operators s : List ℕ) (cost : ℕ) (a b : Option PlanFault) → IsFinalVerdict p operators s cost a → IsFinalVerdict p operators s cost b → a ≡ b
+pub judged_one : (p : Parts) (operators s : List ℕ) (cost : ℕ) (a b : Option PlanFault) → IsFinalVerdict p operators s cost a → IsFinalVerdict p operators s cost b → a ≡ b
 judged_one p operators s cost a b x y = grind (arith, none_missed (slice_index s) p.goal, first_missed_is_one (slice_index s) p.goal)
 
 -- the plan has this fault, or is valid
@@ -47,7 +47,7 @@ record EndsAt (p : Parts) (plan : PlanParts) (verdict : Option PlanFault) : Type
 stuck_or_ended : (p : Parts) (plan : PlanParts) (verdict : Option PlanFault) → IsVerdict p plan verdict → StuckAt p plan verdict ⊎ EndsAt p plan verdict
 stuck_or_ended p plan None v = inr (record { operators = v.0; last = v.1.last; leads = v.1.leads; judged = (v.1.goal, v.1.cost) })
 stuck_or_ended p plan (Some (NoOperator step)) f = inl (record { step = step; s = f.0; name = f.1; fault = NoOperator step; is = refl; comes = f.2; fails = (refl, f.3) })
-stuck_or_ended p plan (Some (NotApplicable step)) f = inl (record { step = step; s = f.0; name = f.1; fault = NotApplicable step; is = refl; comes = f.2; fails = (refl, f.3, f.4) })
+stuck_or_ended p plan (Some (NotApplicable step)) f = inl (record { step = step; s = f.0; name = f.1; fault = NotApplicable step; is = refl; comes = f.2; fails = (refl, (f.3, f.4)) })
 stuck_or_ended p plan (Some (Conflict step operator)) f = inl (record { step = step; s = f.0; name = f.1; fault = Conflict step operator; is = refl; comes = f.2; fails = (refl, f.3, f.4) })
 stuck_or_ended p plan (Some (GoalMissed index)) f = inr (record { operators = f.0; last = f.1; leads = f.2; judged = f.3 })
 stuck_or_ended p plan (Some (CostDiffers sum)) f = inr (record { operators = f.0; last = f.1; leads = f.2; judged = (f.3, f.4, f.5) })
@@ -110,7 +110,7 @@ module _ (p : Parts) (ranged : WellRanged p) (layered : IsLayered p) (plan : Pla
       | inr none ↦ inr (Conflict step w.0, (refl, w.1, none))
     ]
     | inr none ↦ elim (named_or_none p name) [
-      | inl w ↦ inr (NotApplicable step, (refl, w, none))
+      | inl w ↦ inr (NotApplicable step, (refl, (w, none)))
       | inr nowhere ↦ inr (NoOperator step, (refl, nowhere))
     ]
   ]

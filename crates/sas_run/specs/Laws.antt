@@ -1,13 +1,16 @@
 -- What follows from the definitions: a plan of a layered task is valid in one way, or has exactly
--- one fault. Its steps lead to a reachable state, and are those of exactly one run.
-use Rattle.std.specs.Prelude.{◌≡◌, ◌⊎◌, ℕ, List}
+-- one fault. Its steps lead to a reachable state, and are those of exactly one run. A plan by names
+-- is one by numbers, of the operators that the names mean.
+use Rattle.std.specs.Prelude.{◌≡◌, ◌↔◌, ◌⊎◌, ℕ, ◌<◌, List, [], length, take, slice_index, slice_index_or}
 use Rattle.sas_core.specs.declared.parts.Parts.{Parts}
 use Rattle.sas_core.specs.PlanParts.{PlanParts}
 use Rattle.sas_core.specs.WellRanged.{WellRanged}
 use Rattle.sas_meaning.specs.Layers.{IsLayered}
 use Rattle.sas_meaning.specs.Reachable.{Reachable}
 use Rattle.sas_run.specs.declared.plan_check.PlanFault.{PlanFault}
-use Rattle.sas_run.specs.Plans.{LeadsTo, IsValid}
+use Rattle.sas_run.specs.ByNumbers.{GoesThrough, IsValidByNumbers}
+use Rattle.sas_run.specs.NumberFaults.{IsFaultByNumbers}
+use Rattle.sas_run.specs.Plans.{IsChosen, LeadsTo, IsValid}
 use Rattle.sas_run.specs.Runs.{Run, last_state, StepsSucceed}
 use Rattle.sas_run.specs.Verdicts.{IsFaultOf}
 
@@ -53,3 +56,32 @@ SomeRun = (p : Parts) (steps : List (List ℕ)) (operators last : List ℕ)
 abbrev pub OneRun : Type 0
 OneRun = (p : Parts) (a b : Run) → IsLayered p → StepsSucceed p a → StepsSucceed p b
     → a.steps ≡ b.steps → a ≡ b
+
+-- each operator is the one that its step's name means in the state to which those before it lead
+pub record AreChosen (p : Parts) (steps : List (List ℕ)) (operators : List ℕ) : Type 0 where
+  pub one_each : length operators ≡ length steps
+  pub each : (step : ℕ) (s : List ℕ) → step < length steps → GoesThrough p (take step operators) s
+      → IsChosen p s (slice_index_or steps step []) (slice_index operators step)
+
+-- a plan of a layered task is valid with some operators exactly if its names mean them, and they
+-- are valid by numbers
+abbrev pub ValidByNumbers : Type 0
+ValidByNumbers = (p : Parts) (plan : PlanParts) (operators : List ℕ) → IsLayered p
+    → IsValid p plan operators
+    ↔ (AreChosen p plan.steps operators × IsValidByNumbers p operators plan.cost)
+
+-- by numbers, too, a plan is valid or has a fault
+abbrev pub SomeVerdictByNumbers : Type 0
+SomeVerdictByNumbers = (p : Parts) (operators : List ℕ) (cost : ℕ) → WellRanged p → IsLayered p
+    → IsValidByNumbers p operators cost
+    ⊎ ((fault : PlanFault) × IsFaultByNumbers p operators cost fault)
+
+-- not both
+abbrev pub NumbersHaveNoFault : Type 0
+NumbersHaveNoFault = (p : Parts) (operators : List ℕ) (cost : ℕ) (fault : PlanFault) → IsLayered p
+    → IsValidByNumbers p operators cost → IsFaultByNumbers p operators cost fault → ⊥
+
+-- and at most one fault
+abbrev pub FaultByNumbersIsOne : Type 0
+FaultByNumbersIsOne = (p : Parts) (operators : List ℕ) (cost : ℕ) (a b : PlanFault) → IsLayered p
+    → IsFaultByNumbers p operators cost a → IsFaultByNumbers p operators cost b → a ≡ b

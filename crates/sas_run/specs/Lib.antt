@@ -1,5 +1,6 @@
 -- The modules that public contracts cite.
 pub mod Named
+pub mod Nameless
 pub mod Names
 pub mod Likely
 pub mod NameDigest
@@ -8,10 +9,15 @@ pub mod Shapes
 pub mod StepNames
 pub mod Chains
 pub mod Plans
+pub mod ByNumbers
 pub mod Verdicts
 pub mod Laws
+pub mod OtherSenses
+pub mod OtherSensesLaws
 pub mod Runs
 pub mod Running
+pub mod Choosers
+pub mod NumberFaults
 pub mod Given
 pub mod PlainSteps
 pub mod Stepping

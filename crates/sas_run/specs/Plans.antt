@@ -7,7 +7,7 @@ use Rattle.sas_core.specs.PlanParts.{PlanParts}
 use Rattle.sas_core.specs.Tasks.{cost_of}
 use Rattle.sas_meaning.specs.States.{AllHold}
 use Rattle.sas_meaning.specs.Steps.{preconditions, Step}
-use Rattle.sas_meaning.specs.Reachable.{IsInitial}
+use Rattle.sas_meaning.specs.InitialStates.{IsInitial}
 use Rattle.sas_run.specs.Named.{IsNamed}
 
 -- an operator is applicable in a state if its preconditions hold there

@@ -109,17 +109,19 @@ pub record MakesStep (p : Parts) (s name : List ℕ) (operator : ℕ) (s' : List
   pub chosen : IsChosen p s name operator
   pub step : Step p s (operator_at p operator) s'
 
--- the fault says why the step fails that has this name and this number, counted from 1
-abbrev pub StepFails : Parts → List ℕ → List ℕ → ℕ → PlanFault → Type 0
-StepFails p s name step (plan_fault.NoOperator at) = (at ≡ step)
-    × ((operator : ℕ) → IsNamed p name operator → ⊥)
-StepFails p s name step (plan_fault.NotApplicable at) = (at ≡ step)
-    × ((operator : ℕ) × IsNamed p name operator)
-    × NoneApplicable p s name
-StepFails p s name step (plan_fault.Conflict at operator) = (at ≡ step)
-    × IsChosen p s name operator
+-- The fault says why the step with this number, counted from 1, fails in the state s. `Means` holds
+-- for what it means there.
+abbrev pub StepFailsBy : Parts → (Choice → Type 0) → List ℕ → ℕ → PlanFault → Type 0
+StepFailsBy p Means s step (plan_fault.NoOperator at) = (at ≡ step) × Means Unknown
+StepFailsBy p Means s step (plan_fault.NotApplicable at) = (at ≡ step) × Means Blocked
+StepFailsBy p Means s step (plan_fault.Conflict at operator) = (at ≡ step)
+    × Means (Found operator)
     × (Agree s (operator_at p operator).effects → ⊥)
-StepFails p s name step _ = ⊥
+StepFailsBy p Means s step _ = ⊥
+
+-- the same for a step with this name
+abbrev pub StepFails : Parts → List ℕ → List ℕ → ℕ → PlanFault → Type 0
+StepFails p s name = StepFailsBy p (IsChoice p s name) s
 
 -- The verdict after the last step: nothing fails if the goal holds and the operators' costs add up
 -- to `cost`. Otherwise it is the first fact of the goal that doesn't hold, or the sum of the costs.

@@ -1,10 +1,12 @@
 // Laws of plans.
 ghost use Rattle.sas_run.specs.Laws.{SomeVerdict, ValidHasNoFault, ValidIsOne, FaultIsOne};
 ghost use Rattle.sas_run.specs.Laws.{LeadsToReachable, LastIsReachable, SomeRun, OneRun};
+ghost use Rattle.sas_run.specs.Laws.{ValidByNumbers, SomeVerdictByNumbers, NumbersHaveNoFault, FaultByNumbersIsOne};
 
 /// Ensures the laws of plans. A plan of a layered task either is valid with exactly one list of operators, or has exactly one fault. In any
 /// task, executable steps lead to a reachable state, and so the last state of a valid plan is reachable. Executable steps are those of a
-/// run. In a layered task there is only one such run.
+/// run. In a layered task there is only one such run. There a plan is valid with some operators exactly if each is the one that its step's
+/// name means, and they are valid by numbers.
 pub fn verdict_laws()
     ensures some { SomeVerdict }
     ensures not_both { ValidHasNoFault }
@@ -14,4 +16,13 @@ pub fn verdict_laws()
     ensures reached { LastIsReachable }
     ensures some_run { SomeRun }
     ensures one_run { OneRun }
+    ensures by_numbers { ValidByNumbers }
+{}
+
+/// Ensures the laws of plans by numbers. In a layered task, operators with some numbers are a valid plan of a cost, or have exactly one
+/// fault.
+pub fn number_laws()
+    ensures some { SomeVerdictByNumbers }
+    ensures not_both { NumbersHaveNoFault }
+    ensures fault_one { FaultByNumbersIsOne }
 {}

@@ -2,6 +2,7 @@
 #![tactic(auto)]
 
 mod chains;
+mod choosers;
 mod deletions;
 mod digest;
 mod execution;
@@ -11,6 +12,7 @@ mod looking_up;
 mod name_table;
 mod named;
 mod names;
+mod other_senses;
 mod plain_steps;
 mod plan_check;
 mod progress;
@@ -22,11 +24,13 @@ mod stepper;
 mod steps;
 
 pub use chains::next_in;
+pub use choosers::{Chooser, NumberedPlan};
 pub use execution::Execution;
-pub use laws::verdict_laws;
+pub use laws::{number_laws, verdict_laws};
 pub use loaded_task::LoadedTask;
 pub use looking_up::first_operators;
 pub use names::{NamedTask, Names};
+pub use other_senses::other_senses_laws;
 pub use plan_check::{PlanFault, Valid, check_once};
 pub use runner::{Choice, Runner};
 pub use step_operators::{PlanOperators, StepOperators, count_nameless};

@@ -1,17 +1,21 @@
 // Checks whether a plan is valid.
-ghost use Rattle.std.specs.Prelude.{◌≡◌, ◌+◌, ◌<◌, ◌≤◌, [], length, IfOk, IfErr, slice_index, vec_capacity};
+ghost use Rattle.std.specs.Prelude.{◌≡◌, ◌+◌, ◌^◌, ◌<◌, ◌≤◌, [], length, IfOk, IfErr, IsErr, OnOk, vec_capacity};
 ghost use Rattle.sas_core.specs.Grounded.{operator_at};
 ghost use Rattle.sas_core.specs.Variables.{IsState};
-ghost use Rattle.sas_meaning.specs.Reachable.{IsInitial};
-ghost use Rattle.sas_run.specs.Chains.{IsChain, AreStepOperators};
-ghost use Rattle.sas_run.specs.Names.{IsFirst};
-ghost use Rattle.sas_run.specs.Running.{IsSolution, IsFaultOrMemory, MakesStep, StepFails};
+ghost use Rattle.sas_meaning.specs.InitialStates.{IsInitial};
+ghost use Rattle.sas_meaning.specs.Steps.{Step};
+ghost use Rattle.sas_run.specs.ByNumbers.{IsValidByNumbers};
+ghost use Rattle.sas_run.specs.Chains.{AreStepOperators};
+ghost use Rattle.sas_run.specs.Choosers.{Makes, EndsSteps};
+ghost use Rattle.sas_run.specs.NumberFaults.{IsNumberFaultOrMemory};
+ghost use Rattle.sas_run.specs.Running.{IsSolution, IsFaultOrMemory, StepFailsBy};
 ghost use Rattle.sas_run.specs.Runs.{IsEnding};
 ghost use Rattle.sas_run.specs.Stepping.{Follows, IsPrepared};
 
+use crate::choosers::{Chooser, NumberedPlan};
 use crate::loaded_task::LoadedTask;
 use crate::progress::{Progress, judge_last};
-use crate::runner::{Runner, first_applicable};
+use crate::runner::{Choice, Runner};
 use crate::stepper::{Stepper, go_on_from, stepper_for};
 use crate::{NamedTask, PlanOperators, StepOperators, first_operators};
 use sas_core::{Grounded, Stepwise};
@@ -91,6 +95,18 @@ impl<E: Settle<T> + Drop, T: Grounded + Drop> LoadedTask<E, T> {
         };
         check_found(alloc, &self.layered, &mut self.stepper, plan, found)
     }
+
+    /// Checks whether the operators with these numbers are a valid plan. No name is looked up. Returns the plan's fault if it isn't valid. All
+    /// memory is allocated before the first step.
+    pub fn check_numbers(&mut self, alloc: Global, plan: &NumberedPlan<'_>) -> Result<(), PlanFault>
+        ensures valid { OnOk result (IsValidByNumbers self.old
+            plan.now.operators.now plan.now.cost) }
+        ensures fault { IfErr result (IsNumberFaultOrMemory self.old
+            plan.now.operators.now plan.now.cost) }
+        ensures same { self.new ≡ self.old }
+    {
+        check_numbers(alloc, &self.layered, &mut self.stepper, plan)
+    }
 }
 
 /// Checks whether the plan is valid, like `Runner::check_plan`. The evaluator must be ready for the task. Use it to check a single plan: it
@@ -161,11 +177,8 @@ pub fn find_fault<E: Settle<T> + Drop, T: Grounded, P: Stepwise>(
     ensures state { IsState layered.now.variables progress.new.state }
     ensures room { vec_capacity progress.old.operators ≤ vec_capacity progress.new.operators }
 {
-    for before in 0..found.firsts.len() {
-        match make_plan_step(layered, stepper, found, before, &mut progress.state) {
-            Ok(operator) => progress.operators.push(operator).unwrap(),
-            Err(fault) => return Some(fault),
-        }
+    if let Some(fault) = make_steps(layered, stepper, &found, progress) {
+        return Some(fault);
     }
     if found.firsts.len() < plan.steps() {
         return Some(PlanFault::NoOperator {
@@ -175,43 +188,101 @@ pub fn find_fault<E: Settle<T> + Drop, T: Grounded, P: Stepwise>(
     judge_last(layered, progress, plan.cost())
 }
 
-/// Chooses the operator that the step after the first `before` ones means in the state, and makes its step from the state that the
-/// evaluator settled last. Returns the operator.
-#[tactic(auto, using(crate::proofs::NextStates::fault_is_conflict))]
-#[inline(always)]
-fn make_plan_step<E: Settle<T> + Drop, T: Grounded>(
+/// Checks whether these operators are a valid plan. All memory is allocated before the first step.
+fn check_numbers<E: Settle<T> + Drop, T: Grounded>(
+    alloc: Global,
     layered: &Layered<T>,
     stepper: &mut Stepper<E>,
-    found: PlanOperators<'_>,
+    plan: &NumberedPlan<'_>,
+) -> Result<(), PlanFault>
+    requires prepared { IsPrepared E.ready layered.now stepper.old }
+    ensures prepared { IsPrepared E.ready layered.now stepper.new }
+    ensures valid { OnOk result (IsValidByNumbers layered.now
+        plan.now.operators.now plan.now.cost) }
+    ensures fault { IfErr result (IsNumberFaultOrMemory layered.now
+        plan.now.operators.now plan.now.cost) }
+{
+    let mut progress = Progress::new(alloc, layered, stepper, plan.operators.len())?;
+    if let Some(fault) = make_steps(layered, stepper, plan, &mut progress) {
+        return Err(fault);
+    }
+    match judge_last(layered, &progress, plan.cost) {
+        Some(fault) => Err(fault),
+        None => Ok(()),
+    }
+}
+
+/// Makes the steps that the chooser chooses operators for, from the initial state, up to the first that fails. Returns its fault, or `None`
+/// if all succeed. Adds their operators to `progress`, which must have room for them.
+fn make_steps<E: Settle<T> + Drop, T: Grounded, C: Chooser<T>>(
+    layered: &Layered<T>,
+    stepper: &mut Stepper<E>,
+    chooser: &C,
+    progress: &mut Progress,
+) -> Option<PlanFault>
+    requires prepared { IsPrepared E.ready layered.now stepper.old }
+    requires follows { Follows E.follows layered.now stepper.old progress.old.state }
+    requires ready { C.ready chooser.now layered.now }
+    requires initial { IsInitial layered.now progress.old.state }
+    requires room { C.count chooser.now ≤ vec_capacity progress.old.operators }
+    requires empty { progress.old.operators.items ≡ [] }
+    ensures prepared { IsPrepared E.ready layered.now stepper.new }
+    ensures noted { stepper.new.deleted.noted ≡ stepper.old.deleted.noted }
+    ensures makes { Makes layered.now (C.means chooser.now layered.now)
+        progress.new.operators.items progress.new.state }
+    ensures ends { EndsSteps layered.now (C.means chooser.now layered.now) (C.count chooser.now)
+        progress.new.operators.items progress.new.state result }
+    ensures state { IsState layered.now.variables progress.new.state }
+    ensures room { vec_capacity progress.old.operators ≤ vec_capacity progress.new.operators }
+{
+    // By its contract the task is well ranged and layered.
+    let _ = layered.task();
+    for step in 0..chooser.steps() {
+        match make_plan_step(layered, stepper, chooser, step, &mut progress.state) {
+            Ok(operator) => progress.operators.push(operator).unwrap(),
+            Err(fault) => return Some(fault),
+        }
+    }
+    None
+}
+
+/// Chooses the operator that the step means in the state, and makes its step from the state that the evaluator settled last. Returns the
+/// operator. If the step fails, leaves the state unchanged and returns the fault.
+#[tactic(auto, using(crate::proofs::NextStates::fault_is_conflict))]
+#[inline(always)]
+fn make_plan_step<E: Settle<T> + Drop, T: Grounded, C: Chooser<T>>(
+    layered: &Layered<T>,
+    stepper: &mut Stepper<E>,
+    chooser: &C,
     before: usize,
     state: &mut State,
 ) -> Result<u32, PlanFault>
     requires prepared { IsPrepared E.ready layered.now stepper.old }
     requires follows { Follows E.follows layered.now stepper.old state.old }
-    requires exists { before < length found.firsts.now }
-    requires first { IsFirst layered.now (slice_index found.firsts.now before) }
-    requires chain { IsChain layered.now (slice_index found.firsts.now before) found.nexts.now }
+    requires ready { C.ready chooser.now layered.now }
+    requires exists { before < C.count chooser.now }
+    requires few { C.count chooser.now < 2 ^ 64 }
     requires state { IsState layered.now.variables state.old }
     ensures prepared { IsPrepared E.ready layered.now stepper.new }
     ensures noted { stepper.new.deleted.noted ≡ stepper.old.deleted.noted }
     ensures follows { IfOk result (λ _. Follows E.follows layered.now stepper.new state.new) }
-    ensures ok { IfOk result (λ operator. MakesStep layered.now state.old
-        (operator_at layered.now (slice_index found.entry.firsts.now before)).name operator
-        state.new) }
-    ensures err { IfErr result (λ fault. StepFails layered.now state.old
-        (operator_at layered.now (slice_index found.entry.firsts.now before)).name (before + 1)
-        fault) }
+    ensures means { IfOk result (λ operator.
+        C.means chooser.now layered.now before state.old (Choice.Found operator)) }
+    ensures exists { IfOk result (λ operator. operator < length layered.now.operators) }
+    ensures step { IfOk result (λ operator.
+        Step layered.now state.old (operator_at layered.now operator) state.new) }
+    ensures err { IfErr result (λ fault. StepFailsBy layered.now
+        (C.means chooser.now layered.now before state.old) state.old (before + 1) fault) }
+    ensures same { IsErr result → state.new ≡ state.old }
     ensures state { IsState layered.now.variables state.new }
 {
-    let first = found.firsts[before];
-    let Some(operator) = first_applicable(layered, found.nexts, state, first) else {
-        return Err(PlanFault::NotApplicable { step: before + 1 });
-    };
-    match go_on_from(layered, stepper, operator, state) {
-        Ok(()) => Ok(operator),
-        Err(_) => Err(PlanFault::Conflict {
-            step: before + 1,
-            operator,
-        }),
+    let step = before + 1;
+    match chooser.choose(layered, state, before) {
+        Choice::Unknown => Err(PlanFault::NoOperator { step }),
+        Choice::Blocked => Err(PlanFault::NotApplicable { step }),
+        Choice::Found(operator) => match go_on_from(layered, stepper, operator, state) {
+            Ok(()) => Ok(operator),
+            Err(_) => Err(PlanFault::Conflict { step, operator }),
+        },
     }
 }

@@ -2,7 +2,7 @@
 ghost use Rattle.std.specs.Prelude.{◌≡◌, ◌<◌, ◌≤◌, ℕ, [], length, All, IfOk, IfSome, IfNone, slice_index, vec_capacity};
 ghost use Rattle.sas_core.specs.declared.parts.Fact.{Fact};
 ghost use Rattle.sas_core.specs.Variables.{IsState};
-ghost use Rattle.sas_meaning.specs.Reachable.{IsInitial};
+ghost use Rattle.sas_meaning.specs.InitialStates.{IsInitial};
 ghost use Rattle.sas_meaning.specs.States.{AllHold};
 ghost use Rattle.sas_run.specs.Plans.{cost_of_all};
 ghost use Rattle.sas_run.specs.Running.{IsFinalVerdict};

@@ -2,7 +2,7 @@
 ghost use Rattle.std.specs.Prelude.{◌≡◌, ◌<◌, ◌↔◌, length, IfOk, IfErr, None, IsTrue};
 ghost use Rattle.sas_core.specs.Grounded.{operator_at};
 ghost use Rattle.sas_core.specs.Variables.{IsState};
-ghost use Rattle.sas_meaning.specs.Reachable.{IsInitial};
+ghost use Rattle.sas_meaning.specs.InitialStates.{IsInitial};
 ghost use Rattle.sas_run.specs.Chains.{IsChain};
 ghost use Rattle.sas_run.specs.Plans.{IsApplicable};
 ghost use Rattle.sas_run.specs.Running.{IsChoice, IsFirstChosen, IsLaterIfAny, IsGoalAnswer, Steps};
@@ -148,7 +148,7 @@ impl<'a, E: Settle<T> + Drop, T: Grounded> Runner<'a, E, T> {
 
 /// Returns whether the operator's preconditions hold in the state.
 #[inline(always)]
-fn is_applicable<T: Grounded>(layered: &Layered<T>, state: &State, operator: u32) -> bool
+pub fn is_applicable<T: Grounded>(layered: &Layered<T>, state: &State, operator: u32) -> bool
     requires operator { operator < length layered.now.operators }
     requires state { IsState layered.now.variables state.now }
     ensures { IsTrue result ↔ IsApplicable state.now (operator_at layered.now operator) }

@@ -1,7 +1,7 @@
 // The operators whose names occur in one plan.
 ghost use Rattle.std.specs.Prelude.{◌≡◌, IfOk};
 ghost use Rattle.sas_run.specs.Chains.{AreStepOperators};
-ghost use Rattle.sas_run.specs.Named.{nameless_steps};
+ghost use Rattle.sas_run.specs.Nameless.{nameless_steps};
 
 use crate::chains::Chains;
 use crate::looking_up::first_operators;

@@ -3,7 +3,7 @@ ghost use Rattle.std.specs.Prelude.{◌≡◌, ◌<◌, ◌≤◌, ℕ, length, 
 ghost use Rattle.sas_core.specs.Grounded.{operator_at};
 ghost use Rattle.sas_core.specs.Variables.{IsState};
 ghost use Rattle.sas_meaning.specs.Layers.{IsBasic};
-ghost use Rattle.sas_meaning.specs.Reachable.{IsInitial};
+ghost use Rattle.sas_meaning.specs.InitialStates.{IsInitial};
 ghost use Rattle.sas_run.specs.Deletions.{DeletedHasRoom};
 ghost use Rattle.sas_run.specs.Given.{NothingGiven};
 ghost use Rattle.sas_run.specs.Plans.{IsApplicable};

@@ -30,11 +30,11 @@ pub use Rattle.sas_core.specs.declared.parts.Variable.{Variable}
 pub use Rattle.sas_lines.proofs.Beginnings.{lines_stand_first}
 pub use Rattle.sas_lines.proofs.EndedLines.{text_of_both}
 pub use Rattle.sas_lines.proofs.Splitting.{lines-plain, unfinished-end, Plain}
-pub use Rattle.sas_lines.proofs.Words.{NoSpace, same_words, NoSpace-number, NoSpace-signed, same_signed, ten_pos, words-joined, joined-words}
+pub use Rattle.sas_lines.proofs.Words.{NoSpace, same_words, NoSpace-number, NoSpace-signed, same_signed, ten_pos, words-first, words-joined, joined-words}
 pub use Rattle.sas_lines.specs.FirstLines.{LinesStandFirst}
 unfoldable pub use Rattle.sas_lines.specs.Lines.{lines, unfinished}
 pub use Rattle.sas_lines.specs.Lines.{text}
-unfoldable pub use Rattle.sas_lines.specs.Parts.{parts}
+unfoldable pub use Rattle.sas_lines.specs.Segments.{segments}
 pub use Rattle.sas_lines.specs.Spelling.{signed_decimal, joined}
 pub use Rattle.sas_reader.proofs.About.{about_laws_of}
 pub use Rattle.sas_reader.proofs.Every.{laws_of}

@@ -1,9 +1,9 @@
 -- A line of several numbers spells exactly the content that is parsed from its words, if no word is
 -- left.
-use Rattle.sas_task_file.proofs.Imports.{◌≡◌, ℕ, ◌+◌, ◌<◌, ◌≤◌, List, [], ◌∷◌, ◌++◌, length, refl, sym, ap, ◌∙◌, arith, Option, flat_map, AllByRecursion, decimal, Fact, Effect, IsNumber, parts, signed_decimal, joined, NoSpace, NoSpace-number, NoSpace-signed, words-joined, joined-words, fact, effect, head, fact_words, head_words, FactNumbers, EffectNumbers, decimal_injective, Spells, TakesNumber, TakesFact, TakesFacts, TakesHead}
+use Rattle.sas_task_file.proofs.Imports.{◌≡◌, ℕ, ◌+◌, ◌<◌, ◌≤◌, List, [], ◌∷◌, ◌++◌, length, refl, sym, ap, ◌∙◌, append_assoc, arith, Option, flat_map, AllByRecursion, decimal, Fact, Effect, IsNumber, segments, signed_decimal, joined, NoSpace, NoSpace-number, NoSpace-signed, words-first, words-joined, joined-words, fact, effect, head, fact_words, head_words, FactNumbers, EffectNumbers, decimal_injective, Spells, FactAhead, TakesNumber, TakesFact, TakesFacts, TakesHead}
 use Rattle.sas_task_file.proofs.TaskLines.{NoSpace-facts}
 
-module _ (line : List ℕ) (words : List (List ℕ)) (parted : words ≡ parts 32 line) where
+module _ (line : List ℕ) (words : List (List ℕ)) (parted : words ≡ segments 32 line) where
   -- a line is its words, joined
   spelled : (read : List (List ℕ)) → words ≡ read → joined read ≡ line
   spelled read e = ap joined (sym e ∙ parted) ∙ joined-words line
@@ -11,7 +11,7 @@ module _ (line : List ℕ) (words : List (List ℕ)) (parted : words ≡ parts 3
   -- ---- a fact
 
   fact_parts : (f : Fact) → Spells (fact f) line → words ≡ fact_words f
-  fact_parts f s = parted ∙ ap (parts 32) (sym s.1) ∙ words-joined (decimal f.var) (decimal f.value ∷ []) (NoSpace-number f.var s.0.0) (NoSpace-number f.value s.0.1, tt)
+  fact_parts f s = parted ∙ ap (segments 32) (sym s.1) ∙ words-joined (decimal f.var) (decimal f.value ∷ []) (NoSpace-number f.var s.0.0) (NoSpace-number f.value s.0.1, tt)
 
   pub fact_spelled : (rest : List (List ℕ)) (f : Fact) → TakesFact words f rest → rest ≡ [] → Spells (fact f) line
   fact_spelled rest f t e = (t.0, spelled (fact_words f) (t.1 ∙ ap (λ r. fact_words f ++ r) e))
@@ -25,7 +25,7 @@ module _ (line : List ℕ) (words : List (List ℕ)) (parted : words ≡ parts 3
   -- ---- a head
 
   head_parts : (var : ℕ) (old : Option ℕ) (new : ℕ) → Spells (head var old new) line → words ≡ head_words var old new
-  head_parts var old new s = parted ∙ ap (parts 32) (sym s.1) ∙ words-joined (decimal var) (signed_decimal old ∷ decimal new ∷ []) (NoSpace-number var s.0.0) (NoSpace-signed old s.0.1, (NoSpace-number new s.0.2, tt))
+  head_parts var old new s = parted ∙ ap (segments 32) (sym s.1) ∙ words-joined (decimal var) (signed_decimal old ∷ decimal new ∷ []) (NoSpace-number var s.0.0) (NoSpace-signed old s.0.1, (NoSpace-number new s.0.2, tt))
 
   pub head_spelled : (rest : List (List ℕ)) (var : ℕ) (old : Option ℕ) (new : ℕ) → TakesHead words var old new rest → rest ≡ [] → Spells (head var old new) line
   head_spelled rest var old new t e = (t.0, spelled (head_words var old new) (t.1 ∙ ap (λ r. head_words var old new ++ r) e))
@@ -37,6 +37,14 @@ module _ (line : List ℕ) (words : List (List ℕ)) (parted : words ≡ parts 3
   more_than_head rest u o m t more var old new s = let e : head_words u o m ++ rest ≡ head_words var old new = sym t.1 ∙ head_parts var old new s in more cc
 
 -- ---- facts
+
+-- a fact before a space is the first two words
+pub fact_taken : (f : Fact) (bytes rest : List ℕ) → FactAhead bytes f 32 rest → TakesFact (segments 32 bytes) f (segments 32 rest)
+fact_taken f bytes rest (fits, before) =
+    let behind = decimal f.value ++ 32 ∷ rest in
+    let both : bytes ≡ decimal f.var ++ 32 ∷ behind = before ∙ append_assoc (decimal f.var) (32 ∷ decimal f.value) (32 ∷ rest) in
+    (fits, ap (segments 32) both ∙ words-first (decimal f.var) behind (NoSpace-number f.var fits.0)
+    ∙ ap (λ words. decimal f.var ∷ words) (words-first (decimal f.value) rest (NoSpace-number f.value fits.1)))
 
 facts_more : (fs : List Fact) (f : Fact) (rest : List (List ℕ)) → flat_map fact_words (fs ++ f ∷ []) ++ rest ≡ flat_map fact_words fs ++ (fact_words f ++ rest)
 facts_more [] f rest = refl
@@ -102,9 +110,9 @@ later_words e = flat_map fact_words e.conditions ++ last_words e
 NoSpace-later : (e : Effect) → EffectNumbers e → AllByRecursion NoSpace (later_words e)
 NoSpace-later e h = NoSpace-facts e.conditions (last_words e) h.conditions (NoSpace-number e.var h.head.0, (NoSpace-signed e.old h.head.1, (NoSpace-number e.new h.head.2, tt)))
 
-module _ (line : List ℕ) (words : List (List ℕ)) (parted : words ≡ parts 32 line) where
+module _ (line : List ℕ) (words : List (List ℕ)) (parted : words ≡ segments 32 line) where
   effect_parts : (e : Effect) → Spells (effect e) line → words ≡ decimal (length e.conditions) ∷ later_words e
-  effect_parts e s = parted ∙ ap (parts 32) (sym s.1) ∙ words-joined (decimal (length e.conditions)) (later_words e) (NoSpace-number (length e.conditions) s.0.count) (NoSpace-later e s.0)
+  effect_parts e s = parted ∙ ap (segments 32) (sym s.1) ∙ words-joined (decimal (length e.conditions)) (later_words e) (NoSpace-number (length e.conditions) s.0.count) (NoSpace-later e s.0)
 
   pub no_count : ((n : ℕ) (rest : List (List ℕ)) → TakesNumber words n rest → ⊥) → (e : Effect) → Spells (effect e) line → ⊥
   no_count none e s = none (length e.conditions) (later_words e) (s.0.count, effect_parts e s)

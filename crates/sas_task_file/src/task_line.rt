@@ -9,6 +9,7 @@ ghost use Rattle.sas_task_file.specs.TaskLine.{ParsesLine, ParsesLineOrMemory, P
 ghost use Rattle.sas_task_file.specs.TaskWords.{Spells, TakesNumber, TakesSigned, TakesFact, TakesFacts, TakesHead};
 
 use crate::Due;
+use crate::ahead::read_fact_to;
 use crate::task_events::LineValues;
 use sas_core::{Change, Effect, Fact, Items, is_name};
 use sas_lines::{Numbers, number, signed};
@@ -85,12 +86,28 @@ fn take_signed(parts: &mut Numbers<'_>) -> Option<Option<u32>>
     }
 }
 
+/// Takes the next two words as a fact, if they are followed by others and each has at most nine digits. Otherwise takes none. It reads each
+/// byte once.
+#[tactic(auto, using(crate::proofs::TaskReading::fact_taken))]
+#[inline(always)]
+fn take_short_fact(parts: &mut Numbers<'_>) -> Option<Fact>
+    ensures found { IfSome result (λ f. TakesFact parts.old f parts.new) }
+    ensures none { IfNone result (parts.new ≡ parts.old) }
+{
+    let (fact, rest) = read_fact_to(parts.rest()?, b' ')?;
+    *parts = Numbers::new(rest);
+    Some(fact)
+}
+
 /// Takes the next two words, and returns them as a fact.
 fn take_fact(parts: &mut Numbers<'_>) -> Option<Fact>
     ensures found { IfSome result (λ f. TakesFact parts.old f parts.new) }
     ensures none { IfNone result
         ((f : Fact) (rest : List (List ℕ)) → TakesFact parts.old f rest → ⊥) }
 {
+    if let Some(fact) = take_short_fact(parts) {
+        return Some(fact);
+    }
     let Some(var) = take_number(parts) else {
         return None;
     };

@@ -28,7 +28,7 @@ pub use Rattle.sas_flat.specs.Lists.{lists_in}
 pub use Rattle.sas_flat.specs.Operators.{operator}
 pub use Rattle.sas_flat.specs.Outlines.{outline_of}
 pub use Rattle.sas_flat.specs.Variables.{variable}
-pub use Rattle.sas_lines.proofs.Splitting.{lines-one, unfinished-one, Plain}
+pub use Rattle.sas_lines.proofs.Splitting.{lines-one, unfinished-one, return_length, Plain}
 pub use Rattle.sas_lines.specs.Lines.{text, without_return}
 pub use Rattle.sas_reader.proofs.AcceptedLines.{LinesAccepted, none_accepted, one_more, accepted}
 pub use Rattle.sas_reader.proofs.Conversion.{Follows, reads_of_format}

@@ -1,31 +1,10 @@
 -- The last line of a task: the machine knows which one it is, and so whether only a line end is
 -- missing.
-use Rattle.sas_task_reader.proofs.Imports.{◌≡◌, ◌≢◌, ◌↔◌, ℕ, zero, suc, ◌+◌, ◌≤◌, List, [], ◌∷◌, ◌++◌, length, map, take, get_or, refl, sym, ap, subst, ◌∙◌, arith, inl, inr, ◌⊎◌, IsTrue, Option, Some, None, IsSomeAnd, IfSome, IfNone, codes, eq-eqb, ne_eqb, take_all, length-take, map-append, decimal_digit, Parts, WellRanged, Kind, Excerpt, kept_bytes, IsFoundOf, without_return, lines_of, AreAllLines, EndsUnended, LeadsToEnd, ended, cut_at, ends_split, after_ends, same_path, TaskLine, word, number, task_slot, task_line_bytes, task_layout, task_texts, task_format, TaskLineFits, slot_of_due, number_in, Place, Tracker, row_at, row_in, after_move, TaskJudge, TaskMachine, TaskState, SoFar, state_after, state_of, table_node, table_start, LedBy, IsLastLine}
+use Rattle.sas_task_reader.proofs.Imports.{◌≡◌, ◌≢◌, ◌↔◌, ℕ, zero, suc, ◌+◌, ◌≤◌, List, [], ◌∷◌, ◌++◌, length, map, take, refl, sym, ap, subst, ◌∙◌, arith, inl, inr, ◌⊎◌, IsTrue, Option, Some, None, IsSomeAnd, IfSome, IfNone, codes, take_all, length-take, map-append, decimal_digit, Parts, WellRanged, Kind, Excerpt, kept_bytes, IsFoundOf, without_return, return_length, lines_of, AreAllLines, EndsUnended, LeadsToEnd, ended, cut_at, ends_split, after_ends, same_path, TaskLine, word, number, task_slot, task_line_bytes, task_layout, task_texts, task_format, TaskLineFits, slot_of_due, number_in, Place, Tracker, row_at, row_in, after_move, TaskJudge, TaskMachine, TaskState, SoFar, state_after, state_of, table_node, table_start, LedBy, IsLastLine}
 use Rattle.sas_reader.specs.declared.fault.Kind.TheVariants as kinds
 use Rattle.sas_task_file.specs.declared.places.Place.TheVariants as at
 use Rattle.sas_task_reader.proofs.TaskEnds.{IsOver, over_if_ended}
 use Rattle.sas_task_reader.proofs.TableGrammar.{table_grammar, of_table_line, not_over}
-
--- ---- a CR at the end of a line
-
-pub return_at : (bytes : List ℕ) (n : ℕ) → length bytes ≡ suc n → get_or bytes n 0 ≡ 13 → without_return bytes ≡ take n bytes
-return_at [] n l e = absurd (omega arith)
-return_at (b ∷ []) zero l e = rw (eq-eqb b 13 e) refl
-return_at (b ∷ []) (suc n) l e = absurd (omega arith)
-return_at (b ∷ c ∷ bytes) zero l e = absurd (omega arith)
-return_at (b ∷ c ∷ bytes) (suc n) l e = ap (λ (r : List ℕ). b ∷ r) (return_at (c ∷ bytes) n (omega arith) e)
-
-pub no_return_at : (bytes : List ℕ) (n : ℕ) → length bytes ≡ suc n → get_or bytes n 0 ≢ 13 → without_return bytes ≡ bytes
-no_return_at [] n l e = absurd (omega arith)
-no_return_at (b ∷ []) zero l e = rw (ne_eqb b 13 e) refl
-no_return_at (b ∷ []) (suc n) l e = absurd (omega arith)
-no_return_at (b ∷ c ∷ bytes) zero l e = absurd (omega arith)
-no_return_at (b ∷ c ∷ bytes) (suc n) l e = ap (λ (r : List ℕ). b ∷ r) (no_return_at (c ∷ bytes) n (omega arith) e)
-
-return_length : (line : List ℕ) → length line ≤ length (without_return line) + 1
-return_length [] = omega arith
-return_length (b ∷ []) = omega arith
-return_length (b ∷ c ∷ line) = let more = return_length (c ∷ line) in omega (arith, more)
 
 -- ---- the line that leads to the end
 

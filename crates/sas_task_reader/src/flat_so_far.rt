@@ -237,7 +237,7 @@ impl FlatSoFar {
         let added = self.operators.append(
             self.begun.name.as_slice(),
             self.begun.facts.as_slice(),
-            &self.begun.effects,
+            &mut self.begun.effects,
             said.number,
         );
         if let Err(error) = added {

@@ -7,6 +7,7 @@ ghost use Rattle.sas_task_reader.specs.TaskMachine.{task_behavior};
 ghost use Rattle.sas_task_reader.specs.TaskRefusal.{HasReason};
 
 use crate::{Keeper, TaskMachine};
+use sas_lines::without_return;
 use sas_reader::{Excerpt, Fault, Kind, Refusal};
 use sas_task_file::{ListCount, Mark, WrongWord};
 
@@ -32,17 +33,6 @@ fn word_of(kind: Kind, wrong: Option<WrongWord>) -> Option<WrongWord>
     match kind {
         Kind::Value => wrong,
         _ => None,
-    }
-}
-
-/// Returns the line without a CR at its end, since that CR is part of the line end.
-#[tactic(auto, using(crate::proofs::LastLines::return_at, crate::proofs::LastLines::no_return_at))]
-fn without_return(line: &[u8]) -> &[u8]
-    ensures { result.now ≡ without_return line.now }
-{
-    match line {
-        [front @ .., b'\r'] => front,
-        _ => line,
     }
 }
 

@@ -12,8 +12,9 @@ use evaluator_calls::call_by_kind;
 use group_calls::{check_all, say_facts};
 use sas_axioms::{Layered, meaning_laws};
 use sas_core::Task;
-use sas_mutex::group_laws;
-use sas_run::verdict_laws;
+use sas_meaning::step_laws;
+use sas_mutex::{group_laws, group_verdict_laws};
+use sas_run::{number_laws, other_senses_laws, verdict_laws};
 use std::alloc::Global;
 use task_calls::{new_layered, new_state};
 use test_words::{TestCall, answer, cut, say, say_debug, task_of};
@@ -80,8 +81,12 @@ fn pieces_of<'a>(alloc: Global, call: &str, words: &'a [u8]) -> Option<Vec<&'a [
 /// Calls each law once. Detects a law that can't be called.
 fn say_laws(rt: &HostRuntime) {
     meaning_laws();
+    step_laws();
     verdict_laws();
+    number_laws();
+    other_senses_laws();
     group_laws();
+    group_verdict_laws();
     say(rt, "laws");
 }
 

@@ -3,22 +3,18 @@
     python -m sas plan [--why] TASK PLAN      and plans, trace, mutex, show, check, print and steps: as the program sas
     python -m sas table TASK PLAN..           a table of many plans, as CSV or JSON lines: python -m sas table --help
     python -m sas table FOLDER..
-    python -m sas report TASK PLAN..          a page that shows a plan, if it is installed
+    python -m sas report TASK PLAN..          a page that shows plans: python -m sas report --help
 
 The exit status is 0 for yes, 1 for no, 2 for invalid arguments or this help, 3 if there is no answer.
 """
 from __future__ import annotations
 
 import importlib
-import importlib.util
 import sys
 from typing import Sequence
 
 from . import __version__
 from ._program import INVALID_ARGUMENTS, REQUESTS, run, write_error
-
-# a package that may be installed in this one, and its module whose function `main` takes the words and this package
-_REPORT, _COMMAND = "sas.report", "sas.report.command"
 
 
 def main(words: Sequence[str]) -> int:
@@ -28,12 +24,9 @@ def main(words: Sequence[str]) -> int:
         return run(command, rest)
     if command == "table":
         return int(importlib.import_module("sas._table").main(rest))
-    if command == "report" and importlib.util.find_spec(_REPORT):
-        return int(importlib.import_module(_COMMAND).main(list(rest), importlib.import_module("sas")))
     if command == "report":
-        write_error("python -m sas report: it isn't installed")
-    else:
-        write_error(f"sas {__version__}" if command == "--version" else str(__doc__).rstrip())
+        return int(importlib.import_module("sas.report.command").main(list(rest), importlib.import_module("sas")))
+    write_error(f"sas {__version__}" if command == "--version" else str(__doc__).rstrip())
     return INVALID_ARGUMENTS
 
 

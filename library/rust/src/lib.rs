@@ -20,37 +20,14 @@
 
 #![warn(missing_docs)]
 
+mod answers;
+mod values;
+
+pub use answers::Answer;
+pub use values::*;
+
 use std::ffi::{c_char, c_void, CStr};
 use std::fmt;
-
-/// What `sas` prints, and whether its exit status is 0.
-#[derive(Clone, Debug, PartialEq, Eq)]
-pub struct Answer {
-    /// Whether the answer is yes, or the text was printed.
-    pub is_yes: bool,
-    /// What `sas` prints. Names in it may have any bytes.
-    pub text: Vec<u8>,
-}
-
-impl Answer {
-    /// The number of steps, if the answer is `plan valid: S steps, cost C`.
-    pub fn steps(&self) -> Option<u64> {
-        self.valid().map(|(steps, _)| steps)
-    }
-
-    /// The cost, if the answer is `plan valid: S steps, cost C`.
-    pub fn cost(&self) -> Option<u64> {
-        self.valid().map(|(_, cost)| cost)
-    }
-
-    /// The numbers of the last line, if that is the line of a valid plan.
-    fn valid(&self) -> Option<(u64, u64)> {
-        let text = self.text.strip_suffix(b"\n")?;
-        let line = std::str::from_utf8(text.rsplit(|it| *it == b'\n').next()?).ok()?;
-        let (steps, cost) = line.strip_prefix("plan valid: ")?.split_once(" steps, cost ")?;
-        Some((steps.parse().ok()?, cost.parse().ok()?))
-    }
-}
 
 /// Why there is no answer.
 #[derive(Clone, Copy, PartialEq, Eq)]
@@ -64,8 +41,8 @@ pub enum Error {
 /// Why no task is held.
 #[derive(Clone, PartialEq, Eq)]
 pub enum ReadError {
-    /// The bytes aren't those of a layered task: what `sas check` prints.
-    Refused(Vec<u8>),
+    /// The bytes aren't those of a layered task: the answer of [`check`].
+    Refused(Answer),
     /// There is no answer.
     Failed(Error),
 }
@@ -82,7 +59,7 @@ impl fmt::Display for Error {
 impl fmt::Display for ReadError {
     fn fmt(&self, out: &mut fmt::Formatter) -> fmt::Result {
         match self {
-            ReadError::Refused(text) => out.write_str(String::from_utf8_lossy(text).trim_end_matches('\n')),
+            ReadError::Refused(answer) => answer.fmt(out),
             ReadError::Failed(error) => error.fmt(out),
         }
     }
@@ -183,7 +160,7 @@ impl Task {
         let answer = answer(LINE_ROOM, |room, length, size| unsafe {
             sas_task_read(&mut read.held, task.as_ptr(), task.len(), room, length, size)
         })?;
-        if answer.is_yes { Ok(read) } else { Err(ReadError::Refused(answer.text)) }
+        if answer.is_yes { Ok(read) } else { Err(ReadError::Refused(answer)) }
     }
 
     /// Checks whether a plan solves the task, as the function `plan` does.
@@ -199,6 +176,15 @@ impl Task {
     /// Checks a plan as [`Task::plan`] does, and prints what each of its steps changes, as the function [`trace`].
     pub fn trace(&mut self, plan: &[u8]) -> Result<Answer, Error> {
         self.of_plan(sas_task_trace, plan, USUAL_ROOM + 10 * plan.len())
+    }
+
+    /// Checks whether the steps that are these operators solve the task at this cost, as [`Task::plan`] does for a planner that has no
+    /// plan file. Operators are counted from 0, in the order of the task file. No name is looked up.
+    pub fn plan_operators(&mut self, operators: &[u32], cost: u64) -> Result<Answer, Error> {
+        // SAFETY: as in `read`; the numbers of a slice are aligned.
+        answer(LINE_ROOM, |room, length, size| unsafe {
+            sas_task_plan_operators(&mut self.held, operators.as_ptr(), operators.len(), cost, room, length, size)
+        })
     }
 
     fn of_plan(&mut self, request: OfHeld, plan: &[u8], room: usize) -> Result<Answer, Error> {
@@ -252,6 +238,7 @@ unsafe extern "C" {
     fn sas_task_plan(held: *mut Held, plan: *const u8, plan_len: usize, room: *mut u8, len: usize, size: *mut usize) -> u32;
     fn sas_task_plan_why(held: *mut Held, plan: *const u8, plan_len: usize, room: *mut u8, len: usize, size: *mut usize) -> u32;
     fn sas_task_trace(held: *mut Held, plan: *const u8, plan_len: usize, room: *mut u8, len: usize, size: *mut usize) -> u32;
+    fn sas_task_plan_operators(held: *mut Held, numbers: *const u32, count: usize, cost: u64, room: *mut u8, len: usize, size: *mut usize) -> u32;
     fn sas_task_free(held: *mut Held);
 }
 

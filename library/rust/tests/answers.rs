@@ -22,6 +22,47 @@ fn other_answers_have_none() {
 }
 
 #[test]
+fn a_refusal_names_its_file() {
+    for (answer, file) in [(sas::plan(b"junk\n", FUSES_PLAN), sas::File::Task), (sas::plan(FUSES, b"junk\n"), sas::File::Plan)] {
+        let answer = answer.unwrap();
+        assert_eq!((answer.verdict(), answer.refused_file()), (sas::Verdict::Refused, Some(file)));
+        assert_eq!(answer.reason(), Some("line 1: keyword"));
+        assert_eq!(answer.to_string(), format!("{file} refused: line 1: keyword"));
+    }
+}
+
+#[test]
+fn a_trace_has_steps() {
+    let trace = sas::trace(FUSES, FUSES_PLAN).unwrap();
+    let last = trace.trace_steps().last().unwrap();
+    assert_eq!((last.operator, last.cost, last.name), (6, 1, sas::Text(b"put f2 feed")));
+    assert_eq!(last.changes[0], sas::Change { variable: 0, old: 1, new: 0, name: sas::Text(b"Atom lit(yard)") });
+    let lit = &trace.initial()[0];
+    assert_eq!((lit.to_string(), &*lit.name), ("0 1 NegatedAtom lit(yard)".to_string(), &b"NegatedAtom lit(yard)"[..]));
+}
+
+#[test]
+fn a_cause_says_since_when() {
+    let why = sas::plan_why(FUSES, b"(take f1)\n(take f2)\n; cost = 2 (unit cost)\n").unwrap();
+    let reasons = why.reasons().unwrap();
+    assert_eq!(reasons.step.unwrap().number, why.failing_step().unwrap());
+    let cause = &reasons.operators[0].causes[0];
+    assert_eq!((cause.required.value, cause.actual.value, cause.since.unwrap().number), (0, 1, 1));
+    assert_eq!(format!("{:?}", cause.since), r#"Some(NamedStep { number: 1, name: "take f1" })"#);
+}
+
+#[test]
+fn operators_are_judged_by_their_numbers() {
+    let mut held = sas::Task::read(FUSES).unwrap();
+    let operators: Vec<u32> = held.trace(FUSES_PLAN).unwrap().trace_steps().map(|step| step.operator).collect();
+    assert_eq!(held.plan_operators(&operators, 4), held.plan(FUSES_PLAN));
+    let other = held.plan_operators(&operators, 5).unwrap();
+    assert_eq!((other.verdict(), other.sum(), other.cost()), (sas::Verdict::Invalid, Some(4), Some(5)));
+    assert_eq!(held.plan_operators(&[10], 1).unwrap().reason(), Some("step 1: no operator of that number"));
+    assert_eq!(held.plan_operators(&[], 0).unwrap().goal_fact(), Some(0));
+}
+
+#[test]
 fn a_task_is_read_once() {
     let mut held = sas::Task::read(FUSES).unwrap();
     assert!(held.plan(FUSES_PLAN).unwrap().is_yes);
@@ -50,4 +91,5 @@ fn an_error_prints_its_text() {
     let refused = sas::Task::read(LAMPS).unwrap_err();
     assert_eq!(format!("{refused:?}"), "task refused: rule 0: layer order");
     assert_eq!(format!("{:?}", sas::Error::OutOfMemory), "sas: out of memory");
+    assert_eq!(format!("{:?}", sas::check(LAMPS).unwrap()), r#"Answer { is_yes: false, text: "task refused: rule 0: layer order\n" }"#);
 }

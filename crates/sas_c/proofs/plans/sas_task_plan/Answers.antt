@@ -1,13 +1,9 @@
 use Rattle.sas_c.proofs.Imports.{VerdictAnswer, plain_refusal, reports_valid, plain_refuses}
-use Rattle.sas_requests.specs.declared.question.PlanDetail.TheVariants.{Plain}
-use Rattle.sas_c.proofs.Returned.{held_asked, plan_reported, headline_reported}
+use Rattle.sas_c.proofs.Returned.{plan_reported, headline_reported}
 use Rattle.sas_c.proofs.plans.sas_task_plan.Goals as goal
 
-pub returns-clause-answers : goal.returns-clause-answers
-returns-clause-answers c = held_asked c.new-call.result Plain c.args.plan.now _ _ _ _ c.args.task.now.pointer.task c.new-call.ensures.detail c.new-call.ensures.plan c.answer_held.ensures.answers
-
 pub returns-clause-bytes : goal.returns-clause-bytes
-returns-clause-bytes c = λ b holds. plan_reported b c.args.plan.now _ _ _ _ _ holds (returns-clause-answers c)
+returns-clause-bytes c = λ b holds. plan_reported b c.args.plan.now _ _ _ _ _ holds c.answer_held.ensures.answers
 
 pub returns-clause-headline : goal.returns-clause-headline
 returns-clause-headline c = λ b holds. headline_reported VerdictAnswer plain_refusal reports_valid plain_refuses b c.args.plan.now c.args.room.now _ _ _ (returns-clause-bytes c b holds)

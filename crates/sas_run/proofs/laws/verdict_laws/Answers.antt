@@ -2,6 +2,7 @@
 use Rattle.sas_run.proofs.PlanVerdicts.{some_verdict, valid_has_no_fault, valid_is_one, fault_is_one}
 use Rattle.sas_run.proofs.PlanStates.{leads_to_reachable, last_is_reachable}
 use Rattle.sas_run.proofs.Runs.{some_run, one_run}
+use Rattle.sas_run.proofs.NumberVerdicts.{valid_by_numbers}
 use Rattle.sas_run.proofs.laws.verdict_laws.Goals as goal
 
 pub returns-clause-some : goal.returns-clause-some
@@ -27,3 +28,6 @@ returns-clause-some_run c = some_run
 
 pub returns-clause-one_run : goal.returns-clause-one_run
 returns-clause-one_run c = one_run
+
+pub returns-clause-by_numbers : goal.returns-clause-by_numbers
+returns-clause-by_numbers c = valid_by_numbers

@@ -1,14 +1,7 @@
--- Which contents a plan may have.
+-- The first step of a plan that isn't a name.
 use Rattle.std.specs.Prelude.{◌≡◌, ℕ, ◌+◌, List, ◌∷◌, ◌++◌, length}
 use Rattle.std.specs.List.{AllByRecursion}
 use Rattle.sas_core.specs.Names.{IsName}
-use Rattle.sas_core.specs.Numbers.{IsPlanCost}
-use Rattle.sas_core.specs.PlanParts.{PlanParts}
-
--- each step is a name, and the cost fits into a plan file
-pub record WellNamed (p : PlanParts) : Type 0 where
-  pub steps : AllByRecursion IsName p.steps
-  pub cost : IsPlanCost p.cost
 
 -- the number of the first step that isn't a name, counted from 1
 pub record IsFirstBadName (steps : List (List ℕ)) (step : ℕ) : Type 0 where

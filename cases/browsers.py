@@ -1,0 +1,162 @@
+"""Browsers for tests, without other packages: Chromium by way of chromedriver, and Firefox by the protocol that it speaks itself.
+
+A browser starts without a window, in a folder of its own, and ends at the end of `with`. Both take the commands of WebDriver.
+"""
+import base64
+import contextlib
+import json
+import os
+import re
+import shutil
+import socket
+import subprocess
+import time
+import urllib.error
+import urllib.request
+
+KEYS = {"Enter": "\ue007", "Escape": "\ue00c", "PageUp": "\ue00e", "PageDown": "\ue00f", "End": "\ue010", "Home": "\ue011",
+        "ArrowLeft": "\ue012", "ArrowUp": "\ue013", "ArrowRight": "\ue014", "ArrowDown": "\ue015", "Tab": "\ue004", "Control": "\ue009"}
+# how long a command and the start of a browser may take, in seconds
+SECONDS = 60
+
+
+class Browser:
+    """What both have in common. `command` sends a command of WebDriver and returns its result."""
+
+    def run(self, script, *arguments):
+        """Returns what a script returns; a promise is waited for."""
+        return self.command("ExecuteScript", "POST", "execute/sync", {"script": script, "args": arguments})
+
+    def open(self, address):
+        self.command("Navigate", "POST", "url", {"url": address})
+
+    def resize(self, width, height):
+        self.command("SetWindowRect", "POST", "window/rect", {"width": width, "height": height})
+
+    def act(self, *sources):
+        self.command("PerformActions", "POST", "actions", {"actions": list(sources)})
+
+    def press(self, *keys):
+        """Presses keys one after another, each a letter or a name."""
+        actions = [{"type": kind, "value": KEYS.get(key, key)} for key in keys for kind in ("keyDown", "keyUp")]
+        self.act({"type": "key", "id": "keys", "actions": actions})
+
+    def click(self, x, y):
+        """Clicks at a place of the window."""
+        move = {"type": "pointerMove", "x": int(x), "y": int(y), "duration": 0}
+        self.act({"type": "pointer", "id": "mouse", "actions": [move, {"type": "pointerDown", "button": 0}, {"type": "pointerUp", "button": 0}]})
+
+    def point(self, x, y):
+        self.act({"type": "pointer", "id": "mouse", "actions": [{"type": "pointerMove", "x": int(x), "y": int(y), "duration": 0}]})
+
+    def wheel(self, x, y, down):
+        """Turns the wheel while the control key is held."""
+        wait = {"type": "pause", "duration": 0}
+        self.act({"type": "key", "id": "keys", "actions": [{"type": "keyDown", "value": KEYS["Control"]}, wait, {"type": "keyUp", "value": KEYS["Control"]}]},
+                 {"type": "wheel", "id": "wheel", "actions": [wait, {"type": "scroll", "x": int(x), "y": int(y), "deltaX": 0, "deltaY": down, "duration": 0}]})
+
+    def picture(self):
+        """Returns a PNG file of what is in the window."""
+        return base64.b64decode(self.command("TakeScreenshot", "GET", "screenshot", None))
+
+    def printed(self):
+        """Returns a PDF file of the page."""
+        options = {"orientation": "landscape", "background": True}
+        return base64.b64decode(self.command("Print", "POST", "print", options))
+
+
+class Chromium(Browser):
+    NEEDS = ("chromium", "chromedriver")
+
+    def __init__(self, folder):
+        self.driver = subprocess.Popen(["chromedriver", "--port=0"], stdout=subprocess.PIPE, stderr=subprocess.DEVNULL, encoding="utf-8")
+        port = next(found[1] for line in self.driver.stdout for found in [re.search(r"successfully on port (\d+)", line)] if found)
+        self.address = f"http://127.0.0.1:{port}/session"
+        words = ["--headless=new", "--no-sandbox", "--disable-gpu", "--disable-dev-shm-usage", f"--user-data-dir={folder}",
+                 "--window-size=1400,1000", "--disable-background-networking", "--force-color-profile=srgb"]
+        capabilities = {"alwaysMatch": {"browserName": "chrome", "goog:chromeOptions": {"binary": shutil.which("chromium"), "args": words},
+                                        "goog:loggingPrefs": {"browser": "ALL"}}}
+        self.address += "/" + self.request("POST", "", {"capabilities": capabilities})["sessionId"]
+
+    def request(self, method, path, body):
+        data = None if body is None else json.dumps(body).encode()
+        request = urllib.request.Request(self.address + path, data, {"Content-Type": "application/json"}, method=method)
+        try:
+            with urllib.request.urlopen(request, timeout=SECONDS) as answer:
+                return json.load(answer)["value"]
+        except urllib.error.HTTPError as fault:
+            raise RuntimeError(json.load(fault)["value"]["message"]) from fault
+
+    def command(self, _, method, path, body):
+        return self.request(method, "/" + path, body)
+
+    def darken(self, is_dark):
+        features = [{"name": "prefers-color-scheme", "value": "dark" if is_dark else "light"}]
+        self.request("POST", "/goog/cdp/execute", {"cmd": "Emulation.setEmulatedMedia", "params": {"features": features}})
+
+    def close(self):
+        with contextlib.suppress(OSError, RuntimeError):
+            self.request("DELETE", "", None)
+        self.driver.terminate()
+        self.driver.wait(SECONDS)
+        self.driver.stdout.close()
+
+
+class Firefox(Browser):
+    NEEDS = ("firefox",)
+
+    def __init__(self, folder):
+        with open(os.path.join(folder, "user.js"), "w", encoding="utf-8") as file:
+            file.write('user_pref("marionette.port", 0);\nuser_pref("datareporting.policy.dataSubmissionEnabled", false);\n'
+                       'user_pref("app.update.enabled", false);\nuser_pref("browser.shell.checkDefaultBrowser", false);\n')
+        words = ["firefox", "--headless", "--marionette", "--no-remote", "--remote-allow-system-access", "--profile", folder, "--width=1400", "--height=1000"]
+        environment = {**os.environ, "HOME": folder, "MOZ_HEADLESS_WIDTH": "1400", "MOZ_HEADLESS_HEIGHT": "1000"}
+        self.browser = subprocess.Popen(words, stdout=subprocess.DEVNULL, stderr=subprocess.DEVNULL, env=environment)
+        place, until = os.path.join(folder, "MarionetteActivePort"), time.monotonic() + SECONDS
+        while not os.path.exists(place) or not os.path.getsize(place):
+            if time.monotonic() > until or self.browser.poll() is not None:
+                raise RuntimeError("Firefox doesn't start")
+            time.sleep(0.05)
+        with open(place, encoding="ascii") as file:
+            self.socket = socket.create_connection(("127.0.0.1", int(file.read())), SECONDS)
+        self.count = 0
+        self.receive()
+        self.send("WebDriver:NewSession", {})
+
+    def receive(self):
+        size = b""
+        while not size.endswith(b":"):
+            size += self.socket.recv(1)
+        data = b""
+        while len(data) < int(size[:-1]):
+            data += self.socket.recv(int(size[:-1]) - len(data))
+        return json.loads(data)
+
+    def send(self, name, parameters):
+        self.count += 1
+        packet = json.dumps([0, self.count, name, parameters]).encode()
+        self.socket.sendall(b"%d:%s" % (len(packet), packet))
+        _, _, fault, result = self.receive()
+        if fault:
+            raise RuntimeError(fault["message"])
+        return result.get("value", result) if isinstance(result, dict) else result
+
+    def command(self, name, _, __, body):
+        if name == "ExecuteScript":
+            body = {**body, "sandbox": None}
+        return self.send("WebDriver:" + name, {"full": False} if body is None else body)
+
+    def darken(self, is_dark):
+        script = f"Services.prefs.setIntPref('layout.css.prefers-color-scheme.content-override', {0 if is_dark else 1})"
+        self.send("Marionette:SetContext", {"value": "chrome"})
+        self.run(script)
+        self.send("Marionette:SetContext", {"value": "content"})
+
+    def close(self):
+        with contextlib.suppress(OSError, RuntimeError, ValueError):
+            self.send("Marionette:Quit", {"flags": ["eForceQuit"]})
+        self.socket.close()
+        with contextlib.suppress(subprocess.TimeoutExpired):
+            self.browser.wait(10)
+        self.browser.kill()
+        self.browser.wait()

@@ -1,0 +1,149 @@
+#!/usr/bin/env python3
+"""Packs a package of Debian twice, installs it by apt-get into a system of its own, and removes it.
+
+    python3 cases/debian.py SAS
+
+SAS is the program that was built, whose answers the one of the package has to give. The system is a folder in which a C library of this
+machine's version counts as installed; nothing is loaded, and nothing of this machine is changed. Where dpkg-deb isn't there nothing is
+tried, and where apt-get isn't, or the user isn't root, the package is packed alone. `lintian` is used where it is there. A line that begins
+with `skipped` or `without` says so.
+
+Each test that fails has a line, and the last line is 'N passed, M failed'. The exit status is 0 where none failed. No proof sees what is
+in a package.
+"""
+import gzip
+import os
+import re
+import shlex
+import shutil
+import sys
+import tempfile
+
+import report
+from pages import is_there, link_cases
+from release import INSTALLED, LIBRARY, NOTES, bytes_of, differs, ended, files_below, pack
+from texts import TOP
+
+LIBRARIES = "lib/x86_64-linux-gnu"
+DOCUMENTS = "usr/share/doc/sas"
+# what the package has beside what install.sh installs
+ADDED = {f"{DOCUMENTS}/changelog.gz", f"{DOCUMENTS}/copyright"}
+C_LIBRARY = """\
+Package: libc6
+Status: install ok installed
+Maintainer: nobody <nobody@localhost>
+Architecture: amd64
+Version: {}
+Description: stands for the C library of this machine
+
+"""
+# what lintian warns of and stays: one package has what Debian puts into three, and no licence has been chosen yet
+KEPT = {"package-name-doesnt-match-sonames", "link-to-shared-library-in-wrong-package", "copyright-without-copyright-notice"}
+
+
+def wanted():
+    """Returns the files of the package: those of the folders that install.sh names, with a compressed page, and all documents."""
+    names = {it.format("sas") for it in INSTALLED} | {it.format(LIBRARIES) for it in LIBRARY}
+    return {f"usr/{it}" for it in names if not it.startswith("share/man")} | {"usr/share/man/man1/sas.1.gz"} | ADDED
+
+
+def entries_of(path):
+    """Returns what dpkg-deb lists of a package: the mode, owner, time and name of each file and folder."""
+    lines = ended("dpkg-deb", "-c", path)[1].decode().splitlines()
+    return [(mode, owner, f"{day} {hour}", name) for mode, owner, _, day, hour, name in (it.split(None, 5) for it in lines)]
+
+
+def packing_tests(place, sas):
+    """Yields how a package is packed. They could show one that is never the same twice, that lacks a file, has one that is dpkg's to write,
+    that isn't root's, or is called otherwise than its version."""
+    path, again = (pack("deb.py", os.path.join(place, it)) for it in ("first", "second"))
+    yield "the same bytes twice", differs(bytes_of(path) == bytes_of(again), True)
+    version = ended(sas, "--version")[2].decode().split()[-1]
+    yield "the name", differs(os.path.basename(path), f"sas_{version}_amd64.deb")
+    fields = ended("dpkg-deb", "-f", path, "Package", "Version", "Architecture")[1].decode()
+    yield "the fields", differs(fields, f"Package: sas\nVersion: {version}\nArchitecture: amd64\n")
+    entries = entries_of(path)
+    names = {name.partition(" -> ")[0].removeprefix("./") for *_, name in entries if not name.endswith("/")}
+    documents = {it for it in names if it.startswith(f"{DOCUMENTS}/")} - ADDED
+    yield "the files", sorted(names - documents ^ wanted())
+    yield "the documents", [it for it in ("README.md", "docs/GUIDE.md", "examples/fuses.sas") if f"{DOCUMENTS}/{it}" not in documents]
+    yield "no notes of install.sh", sorted(it for it in names if it.endswith(NOTES))
+    modes = {(mode, owner) for mode, owner, *_ in entries}
+    yield "modes and owners", sorted(modes - {(it, "root/root") for it in ("drwxr-xr-x", "-rw-r--r--", "-rwxr-xr-x", "lrwxrwxrwx")})
+    yield "one time", differs(len({moment for _, _, moment, _ in entries}), 1)
+    yield from lintian_tests(path)
+
+
+def lintian_tests(path):
+    """Yields each warning and error of lintian. They could show what a rule of Debian forbids."""
+    if is_there("lintian"):
+        words = ["--allow-root"] * (os.geteuid() == 0)
+        said = ended("lintian", *words, path, env={**os.environ, "LC_ALL": "C"})[1].decode()
+        found = re.findall(r"^[EW]: sas: (\S+).*$", said, re.MULTILINE)
+        yield "lintian", [it for it in found if it not in KEPT]
+
+
+def system(place):
+    """Makes a system without anything but the C library, and returns the words of apt-get that install into it."""
+    root = os.path.join(place, "system")
+    for it in ("var/lib/dpkg/info", "var/lib/dpkg/updates", "var/lib/dpkg/triggers", "var/lib/apt/lists/partial", "var/log/apt"):
+        os.makedirs(os.path.join(root, it))
+    for it in ("var/cache/apt/archives/partial", "etc/apt/preferences.d", "etc/apt/apt.conf.d"):
+        os.makedirs(os.path.join(root, it))
+    version = ended("dpkg-query", "-W", "-f", "${Version}", "libc6")[1].decode()
+    with open(f"{root}/var/lib/dpkg/status", "w", encoding="utf-8") as file:
+        file.write(C_LIBRARY.format(version))
+    open(f"{root}/var/lib/dpkg/info/libc6.list", "w", encoding="utf-8").close()
+    options = [f"Dir={root}", f"Dir::State::status={root}/var/lib/dpkg/status", f"DPkg::Options::=--root={root}"]
+    options += ["APT::Sandbox::User=root", "Dir::Bin::methods=/usr/lib/apt/methods", "Dir::Bin::dpkg=/usr/bin/dpkg"]
+    return root, ["apt-get", "-qq", "-y", *(word for it in options for word in ("-o", it))]
+
+
+def install_tests(place, sas):
+    """Yields a package that apt-get installs and removes. They could show one that asks for what isn't there, whose sums are wrong, whose
+    program or library doesn't run, or that leaves a file behind."""
+    if not is_there("apt-get") or os.geteuid() != 0:
+        print("skipped: apt-get install, which asks for apt-get and root")
+        return
+    root, apt = system(place)
+    path = os.path.join(place, "first", os.listdir(os.path.join(place, "first"))[0])
+    status, out, errors = ended(*apt, "install", path)
+    yield "apt-get install", [] if status == 0 else [f"{status}, {out!r}, {errors!r}"]
+    yield "dpkg --verify", differs(ended("dpkg", f"--root={root}", "--verify", "sas"), (0, b"", b""))
+    words = ["plan", "examples/fuses.sas", "examples/fuses.plan"]
+    yield "the program", differs(ended(f"{root}/usr/bin/sas", *words, cwd=f"{root}/{DOCUMENTS}"), ended(sas, *words))
+    yield from ((it, wrong) for it, wrong in link_cases(f"{root}/{DOCUMENTS}"))
+    with gzip.open(f"{root}/usr/share/man/man1/sas.1.gz") as page:
+        yield "the manual page", [] if b"\n.Pa /usr/share/doc/sas .\n" in page.read() else ["names another folder"]
+    yield from library_tests(root, place)
+    there = f"{root}/usr/share/man/man1/sas.1.gz", f"{root}/usr/bin/sas"
+    status, out, errors = ended(*apt, "remove", "sas")
+    yield "apt-get remove", [] if status == 0 and not any(map(os.path.exists, there)) else [f"{status}, {out!r}, {errors!r}"]
+    yield "nothing is left", sorted(files_below(f"{root}/usr")) if os.path.exists(f"{root}/usr") else []
+
+
+def library_tests(root, place):
+    """Yields an example over the library that is installed. It could show a library that isn't found where a compiler looks for it."""
+    compiler, built = shlex.split(os.environ.get("CC") or "cc"), os.path.join(place, "held")
+    if not is_there(compiler[0]):
+        return
+    folder = f"{root}/usr/{LIBRARIES}"
+    words = [f"{root}/{DOCUMENTS}/library/examples/held.c", "-I", f"{root}/usr/include", "-L", folder, "-lsas", f"-Wl,-rpath,{folder}"]
+    yield "held.c is built", differs(ended(*compiler, *words, "-o", built), (0, b"", b""))
+    files = ["examples/fuses.sas", "examples/fuses.plan"]
+    yield "held.c", differs(ended(built, *files, cwd=TOP), (0, b"examples/fuses.plan: plan valid: 4 steps, cost 4\n", b""))
+
+
+def main(sas):
+    found = []
+    with tempfile.TemporaryDirectory() as place:
+        if shutil.which("dpkg-deb") and shutil.which("readelf"):
+            found += packing_tests(place, os.path.abspath(sas))
+            found += install_tests(place, os.path.abspath(sas))
+        else:
+            print("skipped: packages of Debian, as dpkg-deb or readelf isn't there")
+    report.end([{"name": name} for name, _ in found], [wrong for _, wrong in found])
+
+
+if __name__ == "__main__":
+    main(*sys.argv[1:])

@@ -1,0 +1,243 @@
+#!/usr/bin/env python3
+"""Tests plans by operator numbers: the call sas_task_plan_operators of the library.
+
+    python3 cases/operators.py LIBRARY
+
+LIBRARY is the folder that library/build.py made. What the call is to answer, the library says of a plan by names: each operator of the
+task is given a name of its own first, so that a name means one number. The proofs say what is answered. They know no pointer of a
+caller's, and no header.
+
+Each test that fails has a line, and the last line is 'N passed, M failed'. The exit status is 0 where none failed.
+"""
+import ctypes
+import glob
+import os
+import random
+import re
+import sys
+
+import report
+from axioms import text_of
+from large import plan_text, wide_plans, wide_task
+from library import AROUND, GUARD, NO, NO_TASK, ROOM_TOO_SHORT, YES, Held
+from texts import TOP, as_bytes, table
+
+# the room of a line
+ROOM = 128
+# walks by which a task is tried, the most steps of each, and how often a number is drawn for a step
+WALKS, STEPS, DRAWS = 20, 12, 12
+LARGEST, LARGEST_COST = (1 << 32) - 1, (1 << 64) - 1
+# an operator of the largest cost so often that the sum isn't a number of `double`
+OFTEN, LARGEST_LINE = (1 << 22) + 1, (1 << 31) - 1
+
+
+class Calls:
+    """The calls of the library in a folder that these tests make."""
+
+    def __init__(self, folder):
+        self.calls = ctypes.CDLL(os.path.join(folder, "libsas.so"))
+        self.calls.sas_task_free.restype = None
+
+    def read(self, task):
+        """Returns what holds a task."""
+        held, room, size = Held(), ctypes.create_string_buffer(ROOM), ctypes.c_size_t()
+        number = self.calls.sas_task_read(ctypes.byref(held), task, ctypes.c_size_t(len(task)), *into(room, ROOM, size))
+        assert number == YES, (number, room.raw[: size.value])
+        return held
+
+    def free(self, held):
+        """Frees the task that is held."""
+        self.calls.sas_task_free(ctypes.byref(held))
+
+    def plan(self, held, plan):
+        """Returns the answer about a plan by names: its number and its line."""
+        room, size = ctypes.create_string_buffer(ROOM), ctypes.c_size_t()
+        number = self.calls.sas_task_plan(ctypes.byref(held), plan, ctypes.c_size_t(len(plan)), *into(room, ROOM, size))
+        return number, room.raw[: size.value]
+
+    def whole(self, held, operators, cost, length=ROOM):
+        """Makes a call by numbers with a room of so many bytes, between others. Returns its number, the size that it reports, what is in
+        the room then, and whether the bytes around the room, and the numbers, are as before."""
+        around = GUARD * AROUND
+        memory = ctypes.create_string_buffer(around + GUARD * length + around, length + 2 * AROUND)
+        size = ctypes.c_size_t(LARGEST)
+        # a number that would be wrong stands behind those that are given
+        given = (ctypes.c_uint32 * (len(operators) + 1))(*operators, LARGEST)
+        words = ctypes.c_size_t(len(operators)), ctypes.c_uint64(cost), ctypes.byref(memory, AROUND), ctypes.c_size_t(length)
+        number = self.calls.sas_task_plan_operators(ctypes.byref(held), given, *words, ctypes.byref(size))
+        left = memory.raw
+        is_kept = left[:AROUND] == around and left[-AROUND:] == around and [*given] == [*operators, LARGEST]
+        return number, size.value, left[AROUND : AROUND + length], is_kept
+
+    def by_numbers(self, held, operators, cost):
+        """Returns the answer about a plan by numbers: its number and its line."""
+        number, size, room, is_kept = self.whole(held, operators, cost)
+        if not is_kept or room[size:] != GUARD * (ROOM - size):
+            return number, b"more was written: " + room
+        return number, room[:size]
+
+
+def into(room, length, size):
+    """Returns a room as a call is given it."""
+    return room, ctypes.c_size_t(length), ctypes.byref(size)
+
+
+def differs(got, expected):
+    """Returns what is wrong with an answer."""
+    return [] if got == expected else [f"{got}, not {expected}"]
+
+
+def with_own_names(task):
+    """Returns the task with a name for each operator that no other has, and how many there are."""
+    parts = re.split(rb"(?<=\n)begin_operator\r?\n.*\n", task)
+    front = (b"begin_operator\n%d\n" % place for place in range(len(parts) - 1))
+    return parts[0] + b"".join(its + part for its, part in zip(front, parts[1:])), len(parts) - 1
+
+
+def expected_of(calls, named, operators, cost):
+    """Returns the answer to expect: that about a plan by names, of the task whose operators have names of their own."""
+    number, line = calls.plan(named, plan_text(map(str, operators), cost).encode())
+    return number, line.replace(b"no operator of that name", b"no operator of that number")
+
+
+def walk(calls, held, count, chance):
+    """Returns the numbers of operators of which most go through one after another, and the sum of their costs or another cost."""
+    operators = []
+    for _ in range(chance.randrange(STEPS)):
+        drawn = [chance.randrange(count) for _ in range(DRAWS)] if count else []
+        going = [it for it in drawn if b": step " not in calls.by_numbers(held, [*operators, it], 0)[1]]
+        operators += going[:1]
+    if chance.random() < 0.3:
+        operators.insert(chance.randrange(len(operators) + 1), chance.choice([count, chance.randrange(count + 1), LARGEST]))
+    found = re.search(rb"cost is (\d+), not", calls.by_numbers(held, operators, LARGEST_COST)[1])
+    return operators, int(found[1]) if found and chance.random() < 0.7 else chance.randrange(4)
+
+
+def tasks():
+    """Yields tasks that are layered, each with a name."""
+    for path in sorted((*glob.glob(f"{TOP}/cases/tasks/*.sas"), *glob.glob(f"{TOP}/examples/*.sas"))):
+        with open(path, "rb") as file:
+            yield os.path.basename(path), file.read()
+    for case in table("verdicts.json"):
+        yield case["name"], as_bytes(case["task"])
+    for width in (2, 65):
+        yield f"{width} wide", text_of(wide_task(width)).encode()
+
+
+def walk_tests(calls):
+    """Yields walks through each task: the answer is that of the names. They could show numbers that are read at another place or in another
+    order, another count, a cost that is cut off, and a number that means another operator of its name."""
+    for name, task in tasks():
+        named_task, count = with_own_names(task)
+        try:
+            held, named = calls.read(task), calls.read(named_task)
+        except AssertionError:
+            continue
+        chance = random.Random(name)
+        for number in range(WALKS):
+            operators, cost = walk(calls, held, count, chance)
+            got, expected = calls.by_numbers(held, operators, cost), expected_of(calls, named, operators, cost)
+            yield f"{name}, walk {number}, {operators}, cost {cost}", differs(got, expected)
+        calls.free(held)
+        calls.free(named)
+
+
+# a task whose two operators of one name lead elsewhere, one whose operators conflict, and one whose goal holds from the start
+TWO_MOVES, DISAGREEING, MINIMAL = "two_moves", "disagreeing", "minimal"
+LINES = (
+    (TWO_MOVES, "the second operator of a name", [1], 1, YES, "plan valid: 1 steps, cost 1"),
+    (TWO_MOVES, "the first operator of a name", [0], 1, NO, "plan invalid: goal fact 0 not reached"),
+    (TWO_MOVES, "the second behind the first", [0, 1], 2, NO, "plan invalid: step 2: not applicable"),
+    (TWO_MOVES, "a number behind the last", [1, 2], 2, NO, "plan invalid: step 2: no operator of that number"),
+    (TWO_MOVES, "the largest number", [LARGEST, 1], 2, NO, "plan invalid: step 1: no operator of that number"),
+    (TWO_MOVES, "another cost", [1], 2, NO, "plan invalid: cost is 1, not 2"),
+    (TWO_MOVES, "the largest cost", [1], LARGEST_COST, NO, f"plan invalid: cost is 1, not {LARGEST_COST}"),
+    (TWO_MOVES, "a cost that is 1 in 32 bits", [1], (1 << 32) + 1, NO, f"plan invalid: cost is 1, not {(1 << 32) + 1}"),
+    (TWO_MOVES, "no number", [], 0, NO, "plan invalid: goal fact 0 not reached"),
+    (DISAGREEING, "effects that conflict", [0], 1, NO, "plan invalid: step 1: conflicting effects"),
+    (MINIMAL, "no number, and the goal holds", [], 0, YES, "plan valid: 0 steps, cost 0"),
+    (MINIMAL, "no number, and a cost", [], 1, NO, "plan invalid: cost is 0, not 1"),
+    (MINIMAL, "no operator", [0], 1, NO, "plan invalid: step 1: no operator of that number"),
+)
+
+
+def read(name):
+    """Returns a task of cases/tasks."""
+    with open(f"{TOP}/cases/tasks/{name}.sas", "rb") as file:
+        return file.read()
+
+
+def line_tests(calls):
+    """Yields each line of an answer. They could show an operator that is chosen by its name, and numbers of other types than the header
+    says."""
+    for task, name, operators, cost, number, line in LINES:
+        held = calls.read(read(task))
+        yield f"{task}: {name}", differs(calls.by_numbers(held, operators, cost), (number, f"{line}\n".encode()))
+        calls.free(held)
+    width = 65
+    held, numbers = calls.read(text_of(wide_task(width)).encode()), {}
+    for place, operator in enumerate(wide_task(width)["operators"]):
+        numbers.setdefault(operator[0], place)
+    for names, cost, line in wide_plans(width):
+        operators = [numbers.get(name, len(wide_task(width)["operators"])) for name in names]
+        yield f"wide: {line}", differs(calls.by_numbers(held, operators, cost)[1], f"{line}\n".replace("that name", "that number").encode())
+    calls.free(held)
+
+
+def large_tests(calls):
+    """Yields a sum of costs that no floating-point number is, of very many steps. They could show a sum or a count of fewer bits."""
+    operator = ("stay", [], [], LARGEST_LINE)
+    task = {"metric": 1, "ranges": [2], "layers": [None], "defaults": [0], "rules": [], "operators": [operator]}
+    held, total = calls.read(text_of(task).encode()), OFTEN * LARGEST_LINE
+    for cost, number, line in (
+        (total, YES, f"plan valid: {OFTEN} steps, cost {total}\n"),
+        (total + 1, NO, f"plan invalid: cost is {total}, not {total + 1}\n"),
+    ):
+        yield f"a sum of {total}, cost {cost}", differs(calls.by_numbers(held, [0] * OFTEN, cost), (number, line.encode()))
+    calls.free(held)
+
+
+def room_tests(calls):
+    """Yields each answer in rooms of each length. They could show a byte that is written after the room or in front of it, a wrong length,
+    and a room that is just long enough and is reported as too short."""
+    for task, name, operators, cost, number, line in LINES:
+        held, text = calls.read(read(task)), f"{line}\n".encode()
+        wrong = []
+        for length in range(len(text) + 3):
+            due = (ROOM_TOO_SHORT, b"") if length < len(text) else (number, text)
+            got = calls.whole(held, operators, cost, length)
+            if (got[0], got[1], got[3]) != (due[0], len(text), True) or got[2] != due[1] + GUARD * (length - len(due[1])):
+                wrong.append(f"{length} bytes: {got}")
+        yield f"{task}: {name}, each room", wrong[:1]
+        calls.free(held)
+
+
+def held_tests(calls):
+    """Yields calls of one task in any order, by names and by numbers, and of none. They could show a call that leaves something of a plan
+    for the next, a task that is lost, and an answer where there is no task."""
+    held, chance = Held(), random.Random(1)
+    none = NO_TASK, GUARD * ROOM
+    number, _, room, is_kept = calls.whole(held, [0], 1)
+    yield "no task", differs((number, room, is_kept), (*none, True))
+    held = calls.read(read(TWO_MOVES))
+    asked = [it for it in LINES if it[0] == TWO_MOVES]
+    by_name = (NO, b"plan invalid: goal fact 0 not reached\n")
+    for place, (_, name, operators, cost, number, line) in enumerate(chance.choices(asked, k=200)):
+        yield f"call {place} of one task: {name}", differs(calls.by_numbers(held, operators, cost), (number, f"{line}\n".encode()))
+        yield f"by name after call {place}", differs(calls.plan(held, b"(move)\n; cost = 1 (unit cost)\n"), by_name)
+    calls.free(held)
+    number, _, room, is_kept = calls.whole(held, [1], 1)
+    yield "a task that was freed", differs((number, room, is_kept), (*none, True))
+
+
+def main(folder):
+    calls, names, wrong = Calls(os.path.abspath(folder)), [], []
+    for make in (line_tests, walk_tests, large_tests, room_tests, held_tests):
+        for name, found in make(calls):
+            names.append({"name": f"{make.__name__}: {name}"})
+            wrong.append(found)
+    report.end(names, wrong)
+
+
+if __name__ == "__main__":
+    main(*sys.argv[1:])

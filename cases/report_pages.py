@@ -1,0 +1,668 @@
+#!/usr/bin/env python3
+"""Writes reports of plans and opens them in real browsers.
+
+    python3 cases/report_pages.py SAS [COMMAND]
+
+COMMAND is `sas-report`; that of the repository where none is named. Without a browser: its exit statuses and messages, files that can be
+read only once, where it finds `sas` and its own files, and the library in place of the program; each verdict and each kind of line that
+docs/MEANING.md, docs/WHY.md and docs/FORMATS.md list has a page with all that `sas` printed. In Chromium and in Firefox: those pages; the
+states of random plans with axioms, which fail at each step, against `sas trace`; names that would do harm; keys, pointer, searches,
+filters, links, several plans, paper and the dark; and a plan of 100,000 steps over 5,000 variables, whose bounds are some times what it
+takes. For a browser that isn't there it prints a line that begins with `without`.
+
+Each test that fails has a line, and the last line is 'N passed, M failed'. The exit status is 0 where none failed. No proof knows these
+pages. One that shows another state than the trace, or runs what a name says, would be found here alone.
+"""
+import contextlib
+import functools
+import gzip
+import html
+import importlib.util
+import io
+import itertools
+import os
+import random
+import re
+import shutil
+import subprocess
+import sys
+import tempfile
+import threading
+import time
+import urllib.parse
+
+import report
+import why
+from axioms import text_of as task_text
+from browsers import Browser, Chromium, Firefox
+from pages import is_there
+from steps import cost_of
+from texts import TOP, as_bytes, bytes_of_file, text_of, with_line
+from traces import folded
+from walks import operated_task, plan_text, walk
+
+sys.path.insert(0, os.path.join(TOP, "bench"))
+from gripper import Gripper
+from sas_text import plan_pieces, task_pieces
+
+SEED = 7
+# random tasks with axioms whose plans have at least so many steps, and the most variables that the page shows at once
+TASKS, STEPS, VARIABLES = 8, 3, 12
+# bounds for 100,000 steps over 5,000 variables, and what was measured on four processors: 2.3 s, 92 MB, 720 kB, 1 s and 0.06 s
+LARGE = {"seconds": 25, "megabytes": 200, "bytes": 1000000, "picture": 15, "key": 1}
+# plans of examples, by short names
+EXAMPLES = {"valid": ("fuses.sas", "fuses.plan"), "short": ("fuses.sas", "fuses-short.plan"), "elevator": ("elevator.sas", "elevator.plan")}
+HARM = "</script><script>document.title='harm'</script><img src=x onerror=\"document.title='harm'\">"
+NAMES = (HARM, "&lt;b&gt;", "a\u202eb\u2066c", "\x1b[31mred", "'\"`${1}{{data}}", "constructor", "__proto__", "x" * 300, "é ✓", "%s \\1")
+
+# the forms of lines that docs/MEANING.md, docs/WHY.md and docs/FORMATS.md list
+FORMS = """\
+plan valid: S steps, cost C
+plan invalid: step S: no operator of that name
+plan invalid: step S: not applicable
+plan invalid: step S: conflicting effects
+plan invalid: goal fact I not reached
+plan invalid: cost is SUM, not COST
+plan refused: line L: WORD
+task refused: line L: WORD
+operator I: effect on derived variable
+rule I: not on a derived variable
+rule I: old value
+rule I: two values
+rule I: layer order
+step S NAME
+similar operator I line L NAME
+K of N steps name no operator
+operator I line L
+effect D sets FACT
+K of N goal facts fail
+goal fact I
+metric M
+steps S
+sum of cost lines N
+step T could also be operator J
+requires FACT
+actual FACT
+since step T NAME
+since the initial state
+rule R derives FACT
+rule R requires FACT
+no rule derives it
+operator I line L NAME
+rule I line L derives FACT
+old value FACT
+default value FACT
+on layer A
+condition C requires FACT
+at PLACE
+line L counts N
+expected begin_variable
+expected a name
+expected number A to B
+expected fact: VAR VALUE
+expected head: VAR OLD NEW
+expected effect: COUNT, COUNT times VAR VALUE, VAR OLD NEW
+expected (NAME) or ; cost = N (unit cost) or ; cost = N (general cost)
+expected end of file
+number K must be A to B
+found TEXT
+empty line
+end of file
+unfinished TEXT
+hint the file is compressed
+hint the file begins with a byte order mark
+hint this is a task: the order is TASK PLAN
+hint this is a plan or PDDL: the task is the file output.sas
+hint only version 3 is read
+hint comments aren't read
+hint only the last line end is missing
+hint the cost line is missing
+hint the file is cut off"""
+
+
+def example(name):
+    return [bytes_of_file(f"examples/{file}") for file in EXAMPLES[name]]
+
+
+def package():
+    """Returns the module of the command. Its package has the name of a script of this folder, so it gets another one."""
+    place = importlib.util.spec_from_file_location("sas_report", f"{TOP}/report/__init__.py", submodule_search_locations=[f"{TOP}/report"])
+    sys.modules["sas_report"] = importlib.util.module_from_spec(place)
+    return importlib.import_module("sas_report.command")
+
+
+class Reports:
+    """Writes reports into a folder. `command` is how a user starts it, `main` the same in this process, which is faster."""
+
+    def __init__(self, sas, command, folder):
+        self.sas, self.command, self.folder, self.main = os.path.abspath(sas), command, folder, package().main
+        self.count = 0
+
+    def files(self, task, *plans):
+        """Writes the files of a task and of plans, and returns their paths. A plan may be a pair of a name and bytes."""
+        place = os.path.join(self.folder, str(self.count))
+        self.count += 1
+        os.mkdir(place)
+        pairs = [("t.sas", task), *(plan if isinstance(plan, tuple) else (f"p.{i}", plan) for i, plan in enumerate(plans, 1))]
+        for name, data in pairs:
+            with open(os.path.join(place, name), "wb") as file:
+                file.write(data)
+        return [os.path.join(place, name) for name, _ in pairs]
+
+    def page(self, task, *plans, module=None):
+        """Returns the path of a report, and the exit status."""
+        paths = self.files(task, *plans)
+        page = os.path.join(os.path.dirname(paths[0]), "report.html")
+        words = [] if module else ["--sas", self.sas]
+        return page, self.main([*paths, "-o", page, *words], module)
+
+    def run(self, *words, **more):
+        """Runs the command, and returns how it ended."""
+        return subprocess.run([*self.command, *words], stdout=subprocess.PIPE, stderr=subprocess.PIPE, check=False, timeout=120, **more)
+
+    def printed(self, request, *paths):
+        ran = subprocess.run([self.sas, *request, *paths], stdout=subprocess.PIPE, check=False, timeout=120)
+        return ran.stdout.decode("latin-1").splitlines()
+
+
+def differs(what, found, expected):
+    """Returns what is wrong where two values differ."""
+    return [] if found == expected else [f"{what}: {found!r}, not {expected!r}"]
+
+
+# Without a browser
+
+
+def statuses(reports):
+    """The exit status says how it ended, and a message names the file."""
+    task, plan, short = reports.files(*example("valid"), example("short")[1])
+    folder, sas = os.path.dirname(task), ["--sas", reports.sas]
+    page, gone = os.path.join(folder, "r.html"), os.path.join(folder, "gone")
+    expected = (
+        ([task, plan, "-o", page, *sas], 0, ""), ([task, short, "-o", page, *sas], 1, ""), ([plan, task, "-o", page, *sas], 1, ""),
+        ([task, plan, short, "-o", page, *sas], 1, ""), ([task], 2, "PLAN"), ([], 2, "TASK"), (["-", "-"], 2, "standard input used twice"),
+        ([task, plan, "--other"], 2, "--other"), ([gone, plan, *sas], 3, gone), ([task, gone, *sas], 3, gone), ([folder, plan, *sas], 3, folder),
+        ([task, plan, "-o", os.path.join(gone, "r"), *sas], 3, gone), ([task, plan, "--sas", gone], 3, gone),
+        ([task, plan, "-o", "/dev/full", *sas], 3, "No space"), ([task, plan, "--sas", "/bin/false"], 3, "/bin/false"), (["--help"], 0, ""),
+    )
+    wrong = []
+    for words, status, message in expected:
+        ran = reports.run(*words, cwd=folder)
+        wrong += differs(f"{words} status", ran.returncode, status)
+        wrong += [] if message in ran.stderr.decode() else [f"{words}: {ran.stderr.decode()[-200:]}"]
+    page = " ".join(reports.run("--help").stdout.decode().split())
+    return wrong + [f"--help lacks {word}" for word in ("0 if", "1 if", "2 for", "3 if", "--sas", "-o FILE") if word not in page]
+
+
+def read_once(reports):
+    """Pipes and standard input are read once, and the page is the one of files."""
+    task, plan = example("valid")
+    paths = reports.files(task, plan)
+    expected = reports.run(*paths, "-o", "-", "--sas", reports.sas).stdout
+    wrong = [] if b"plan valid: 4 steps, cost 4" in expected else ["no page on standard output"]
+    for place in (0, 1):
+        words = [*paths[:place], "-", *paths[place + 1:]]
+        found = reports.run(*words, "-o", "-", "--sas", reports.sas, input=(task, plan)[place]).stdout
+        wrong += differs(f"{words[place - 1]} beside standard input", b"<h1>plan valid: 4 steps, cost 4</h1>" in found, True)
+    pipes = [path + ".pipe" for path in paths]
+    for pipe, data in zip(pipes, (task, plan)):
+        os.mkfifo(pipe)
+        threading.Thread(target=lambda pipe=pipe, data=data: open(pipe, "wb").write(data), daemon=True).start()
+    found = reports.run(*pipes, "-o", "-", "--sas", reports.sas).stdout
+    return wrong + differs("named pipes", b"<h1>plan valid: 4 steps, cost 4</h1>" in found, True)
+
+
+def found_programs(reports):
+    """`sas` is found beside the command, else on the PATH. The files of the page are found where install.sh puts them."""
+    wrong, paths = [], reports.files(*example("valid"))
+    top = os.path.join(os.path.dirname(paths[0]), "with a space")
+    shutil.copytree(os.path.join(TOP, "report"), f"{top}/share/sas/report")
+    os.makedirs(f"{top}/bin")
+    os.makedirs(f"{top}/other")
+    shutil.move(f"{top}/share/sas/report/sas-report", f"{top}/bin/sas-report")
+    shutil.copy(reports.sas, f"{top}/other/sas")
+    os.symlink(f"{top}/bin/sas-report", f"{top}/link")
+    for place, path in ((None, "/usr/bin:/bin"), (None, f"{top}/other:/usr/bin:/bin"), (f"{top}/bin/sas", "/usr/bin:/bin")):
+        if place:
+            shutil.copy(reports.sas, place)
+        for command in ("bin/sas-report", "link"):
+            words = [sys.executable, f"{top}/{command}", *paths, "-o", f"{top}/r.html"]
+            ran = subprocess.run(words, stderr=subprocess.PIPE, check=False, timeout=60, env={"PATH": path, "PYTHONDONTWRITEBYTECODE": "1"})
+            wrong += differs(f"{command}, {place}, {path}", ran.returncode, 0 if place or "other" in path else 3)
+    return wrong
+
+
+def with_library(reports):
+    """The library in place of the program gives the same page, but for the version."""
+    sys.path.insert(0, os.path.join(TOP, "library", "python"))
+    os.environ.setdefault("LIBSAS", os.path.join(TOP, "library", "out", "libsas.so"))
+    try:
+        module = importlib.import_module("sas")
+    except ImportError:
+        print("without the library")
+        return []
+    pages = [text_of(reports.page(*example("short"), module=module)[0]), text_of(reports.page(*example("short"))[0])]
+    return differs("the page of the library", *(page.replace("sas 1", "1") for page in pages))
+
+
+def damaged():
+    """Yields files that are refused: each line of the task emptied, and the common mistakes."""
+    task, plan = example("valid")
+    yield from ((with_line("examples/fuses.sas", line, ""), plan) for line in range(1, task.count(b"\n") + 1))
+    yield from ((with_line("examples/fuses.sas", line, text), plan) for line, text in ((2, "4"), (9, "x"), (107, "0 6 0 2"), (82, "2")))
+    for spoiled in (gzip.compress(task), b"\xef\xbb\xbf" + task, plan, task[:-1], task[:200], task + b"x", b""):
+        yield spoiled, plan
+    for spoiled in (task, plan[:-1], plan[:20], plan + b"x", b"; by hand\n" + plan, plan.replace(b"; cost = 4 (unit cost)\n", b""), b"(\n", b"; cost = x\n"):
+        yield task, spoiled
+
+
+def answers(reports):
+    """Returns files with the lines that `plan --why` prints of them, of which each has a form of line that those before lack; and the
+    forms that none has."""
+    forms = {form: re.compile(re.sub(r"\b[A-Z]+\b", ".+", re.escape(form).replace("PDDL", "pddl"))) for form in FORMS.splitlines()}
+    listed = itertools.chain(why.written_cases(), why.verdict_cases(), why.refused_cases(), why.walked_cases(), itertools.islice(why.random_cases(), 4000))
+    given = ((case["files"]["t.sas"], case["files"]["p.txt"]) for case in listed if case["words"][1] == "--why" and " valid" not in case["output"][:12])
+    chosen = []
+    for task, plan in itertools.chain([example("valid")], damaged(), given):
+        task, plan = as_bytes(task), as_bytes(plan)
+        lines = reports.printed(["plan", "--why"], *reports.files(task, plan))
+        said = [re.sub(r"^(task refused: (?=op|rule)| +)", "", line).replace("PDDL", "pddl") for line in lines]
+        seen = {form for form, pattern in forms.items() if any(map(pattern.fullmatch, said))}
+        if seen:
+            chosen.append((task, plan, lines))
+        forms = {form: pattern for form, pattern in forms.items() if form not in seen}
+        if not forms:
+            break
+    return chosen, sorted(forms)
+
+
+def every_line(reports, chosen, missing):
+    """Each form of a line that the documents list occurs. The page of each has all that `sas` printed, without a script too."""
+    documents = "".join(text_of(f"{TOP}/docs/{name}.md") for name in ("MEANING", "WHY", "FORMATS"))
+    wrong = [f"no case has the line {form}" for form in missing]
+    wrong += [f"no document lists {form}" for form in FORMS.splitlines() if f"{form}`" not in documents]
+    for _, _, lines, path, status in chosen:
+        page = text_of(path).partition("<article")[2]
+        lead, printed = (re.search(f"<{tag}>(.*?)</{tag[:3].split(' ')[0]}", page, re.S) for tag in ("h1", 'pre class="printed"'))
+        found = [html.unescape(it[1]) for it in (lead, printed) if it]
+        wrong += differs("without a script", "\n".join(found), shown("\n".join(lines)))
+        wrong += differs(f"{lines[0]} status", status, 0 if lines[0].startswith("plan valid") else 1)
+    return wrong
+
+
+def shown(line):
+    """Returns a line that `sas` printed, whose characters are bytes, as a page shows it."""
+    text = line.encode("latin-1").decode("utf-8", "backslashreplace")
+    return "".join(c if c.isprintable() or c == "\n" else "".join(f"\\x{byte:02x}" for byte in c.encode()) for c in text)
+
+
+# In a browser. READY is true once the script has come to its end
+
+
+READY = """const is_shown = selector => !document.querySelector(selector).hidden;
+    return !document.querySelector(".printed") && (is_shown("main") || is_shown("#plans") || document.querySelector(".refused") !== null)
+        || document.getElementById("trouble").textContent !== "";"""
+STATE = "[...document.querySelectorAll('#state .row')].map(row => row.lastChild.title)"
+PRESS = "const press = key => document.body.dispatchEvent(new KeyboardEvent('keydown', {key, bubbles: true}));"
+FRAMES = "const frame = () => new Promise(requestAnimationFrame);"
+
+
+def shown_in(browser, path, address=""):
+    """Opens a report, and returns how many seconds the first picture took."""
+    began = time.monotonic()
+    browser.open("about:blank")
+    browser.open(f"file://{urllib.parse.quote(path)}{address}")
+    while not browser.run(READY):
+        time.sleep(0.02)
+    browser.run(FRAMES + "return frame().then(frame).then(() => 1)")
+    return time.monotonic() - began
+
+
+def text(browser, selector):
+    return browser.run("const it = document.querySelector(arguments[0]); return it.innerText ?? it.textContent", selector)
+
+
+def lines_in(browser, reports, chosen):
+    """The page of each form of a line shows the verdict, and each word of the reasons."""
+    wrong = []
+    for _, _, lines, path, _ in chosen:
+        shown_in(browser, path)
+        trouble = text(browser, "#trouble")
+        found = re.sub(r"\s+", " ", browser.run("return document.querySelector('article').innerText"))
+        wanted = {word for line in lines for word in re.sub(r"\d+", " ", shown(line)).split()} - {"goal", "fact"}
+        wrong += [f"{lines[0]}: {trouble}"] if trouble else []
+        wrong += [f"{lines[0]}: {word} isn't shown" for word in sorted(wanted) if word not in found]
+    return wrong
+
+
+def random_plans():
+    """Yields tasks with axioms, each with a plan and the same plan spoiled at each step."""
+    chance, count = random.Random(SEED), 0
+    while count < TASKS:
+        task = operated_task(chance)
+        steps, cost, _ = walk(chance, task)
+        if any(layer is not None for layer in task["layers"]) and len(steps) >= STEPS and len(task["ranges"]) <= VARIABLES:
+            plans = [steps, *([*steps[:place], "no step", *steps[place:]] for place in range(len(steps))), *(steps[:place] for place in range(len(steps)))]
+            yield task_text({**task, "goal": [(0, 0)]}).encode("latin-1"), [plan_text(plan, cost).encode("latin-1") for plan in plans]
+            count += 1
+
+
+def states(browser, reports):
+    """The state that the page shows after each step is that of `sas trace`, for plans that fail at each step."""
+    wrong, count = [], 0
+    for task, plans in random_plans():
+        page, _ = reports.page(task, *plans)
+        shown_in(browser, page)
+        found = browser.run(f"""{PRESS} return (async () => {{
+            const out = [];
+            for (let plan = 1; plan <= arguments[0]; plan++) {{
+              const changed = new Promise(resolve => addEventListener("hashchange", resolve, {{once: true}}));
+              location.hash = `#plan-${{plan}}-step-0`;
+              await changed;
+              const states = [], total = +document.querySelector("#steps .row").getAttribute("aria-setsize") - 1;
+              for (let t = 0; t <= total; t++, press("ArrowRight")) states.push({STATE});
+              out.push(states);
+            }}
+            return out; }})()""", len(plans))
+        paths = reports.files(task, *plans)
+        for plan, path in zip(found, paths[1:]):
+            *lines, _ = reports.printed(["trace"], paths[0], path)
+            expected = named_states(lines)
+            count += len(expected)
+            wrong += differs(page, plan[:len(expected)], expected) + [f"{page}: {state}" for state in plan[len(expected):] if state != expected[-1]]
+    return wrong + ([] if count > 100 else [f"only {count} states"])
+
+
+def named_states(lines):
+    """Returns the states of a trace by the names of their values."""
+    names = {}
+    for line in lines:
+        word, *rest = line.split(" ", 3 if line.startswith("initial") else 4)
+        if word != "step":
+            names[int(rest[0]), int(rest[-2])] = rest[-1]
+    return [[names[var, value] for var, value in enumerate(state)] for state in folded(lines)[0]]
+
+
+def hostile_task():
+    """Returns a task and a plan whose names would do harm, if they were read as anything but names."""
+    names = [name.encode() for name in NAMES] + [b"\xff\xfe not text", b" spaces "]
+    values = [[b"Atom %s(%s)" % (name.replace(b" ", b"_"), names[i - 1]), b"NegatedAtom %s" % name] for i, name in enumerate(names)]
+    values[0], values[1] = [b"Atom at(b, %s)" % names[0], b"Atom at(b, %s)" % names[2], b"<none of those>"], [names[1], names[2]]
+    lines = [b"begin_version", b"3", b"end_version", b"begin_metric", b"1", b"end_metric", b"%d" % len(names)]
+    for name, its in zip(names, values):
+        lines += [b"begin_variable", name, b"-1", b"%d" % len(its), *its, b"end_variable"]
+    lines += [b"0", b"begin_state", *[b"0"] * len(names), b"end_state", b"begin_goal", b"1", b"0 1", b"end_goal", b"%d" % len(names)]
+    for i, name in enumerate(names):
+        lines += [b"begin_operator", name, b"1", b"%d 0" % ((i + 1) % len(names)), b"1", b"0 %d -1 1" % i, b"7", b"end_operator"]
+    plan = [b"(%s)" % name for name in [*names[2:5], names[0], names[5], HARM.encode()]] + [b"; cost = 9 (general cost)"]
+    return b"\n".join([*lines, b"0", b""]), b"\n".join([*plan, b""])
+
+
+def hostile(browser, reports):
+    """Names of files, variables, values and operators run nothing, load nothing, and are shown as text."""
+    task, plan = hostile_task()
+    page, status = reports.page(task, ("<img src=x onerror=alert(1)>\u202e.plan", plan))
+    wrong = differs("status", status, 1)
+    shown_in(browser, page)
+    browser.press("End", "ArrowLeft", "Home")
+    wrong += differs("trouble", text(browser, "#trouble"), "")
+    wrong += differs("title", browser.run("return document.title"), "✕ <img src=x onerror=alert(1)>\\xe2\\x80\\xae.plan")
+    wrong += differs("elements", browser.run("return document.querySelectorAll('img, b:not(header b, output b), iframe').length"), 0)
+    wrong += differs("scripts", browser.run("return document.scripts.length"), 2)
+    seen = browser.run("return document.body.innerText")
+    wrong += [f"{name!r} isn't shown" for name in (HARM, "&lt;b&gt;", "a\\xe2\\x80\\xaeb\\xe2\\x81\\xa6c", "\\x1b[31mred", "\\xff\\xfe not text") if name not in seen]
+    wrong += [f"{ord(c):x} is shown" for c in sorted(set(seen)) if not c.isprintable() and c not in "\n\t"]
+    loaded = """return new Promise(resolve => { const it = new Image(); it.onload = () => resolve("loaded"); it.onerror = () => resolve("blocked");
+        it.src = "data:image/gif;base64,R0lGODlhAQABAAAAACwAAAAAAQABAAA="; })"""
+    wrong += differs("an image", browser.run(loaded), "blocked")
+    sets = "try { document.getElementById('trouble').innerHTML = '<i>x</i>'; return 'set'; } catch (fault) { return 'blocked'; }"
+    written = browser.run("const it = document.createElement('script'); it.append('document.title = 1'); document.body.append(it); return document.title")
+    return wrong + differs("markup", browser.run(sets), "blocked") + differs("another script", written[:1], "✕")
+
+
+def heading(browser):
+    return text(browser, "#detail h3")
+
+
+def keys(browser, reports):
+    """Keys select steps, search, and change the scale; nothing needs a pointer."""
+    page, _ = reports.page(*example("elevator"))
+    shown_in(browser, page)
+    wrong = differs("at first", heading(browser), "Step 1 up f0 f1")
+    for pressed, expected in (("ArrowRight", "Step 2"), ("End", "Step 6"), ("ArrowRight", "Step 6"), ("ArrowLeft", "Step 5"), ("PageUp", "Initial"),
+                              ("PageDown", "Step 6"), ("Home", "Initial")):
+        browser.press(pressed)
+        wrong += [] if heading(browser).startswith(expected) else [f"{pressed}: {heading(browser)}"]
+    wrong += differs("cost", text(browser, "#spent"), "0 of 7")
+    browser.press("/", *"stop", "ArrowRight")
+    wrong += differs("a search", [text(browser, "#found"), heading(browser)], ["3 of 6", "Initial state"])
+    browser.press("Escape")
+    browser.run("document.getElementById('steps').focus()")
+    browser.press("ArrowDown", "ArrowDown")
+    wrong += differs("down in what is found", heading(browser)[:6], "Step 2")
+    wide = "return parseFloat(document.querySelector('#grid > div').style.width)"
+    before = browser.run(wide)
+    browser.press(*"++++++++")
+    wrong += [] if browser.run(wide) > before else ["+ doesn't make steps wider"]
+    browser.press("f")
+    wrong += differs("f", browser.run(wide), before)
+    browser.run("document.activeElement.blur()")
+    reached = []
+    for _ in range(24):
+        browser.press("Tab")
+        reached.append(browser.run("return document.activeElement.id"))
+    wanted = ["rows", "which", "order", "fit", "grid", "find", "steps", "detail", "filter", "only", "state"]
+    return wrong + differs("by the tabulator", [name for name in wanted if name in reached], wanted)
+
+
+def choose(browser, name, value):
+    """Sets a field, as typing or choosing does."""
+    script = """const it = document.getElementById(arguments[0]); if (it.type === "checkbox") it.checked = arguments[1]; else it.value = arguments[1];
+        it.dispatchEvent(new Event("input", {bubbles: true}))"""
+    browser.run(script, name, value)
+
+
+def fields(browser, reports):
+    """Filters keep what has the words; the rows and their order are chosen."""
+    page, _ = reports.page(*example("short"))
+    shown_in(browser, page)
+    wrong = differs("the failing step", heading(browser), "Step 2 take f2")
+    for which, expected in (("all", 8), ("derived", 3), ("goal", 1), ("changing", 2), ("main", 3)):
+        choose(browser, "which", which)
+        wrong += differs(which, text(browser, "#shown"), f"{expected} of 8 variables")
+    for order in ("number", "often", "first"):
+        choose(browser, "order", order)
+    choose(browser, "rows", "hand")
+    wrong += differs("rows", text(browser, "#shown"), "1 of 8 variables")
+    for words, expected in (("lit", "2 of 8"), ("LYING(F2)", "1 of 8"), ("nothing", "0 of 8"), ("", "8")):
+        choose(browser, "filter", words)
+        wrong += differs(f"filter {words}", text(browser, "#matched"), expected)
+    wrong += differs("what is required", "requires true" in text(browser, "#state"), True)
+    browser.run("document.querySelector('.reasons a[href=\"#step-1\"]').click()")
+    time.sleep(0.2)
+    wrong += differs("a link", heading(browser), "Step 1 take f1")
+    choose(browser, "only", True)
+    wrong += differs("changed only", text(browser, "#matched"), "2 of 8")
+    browser.press("End")
+    wrong += differs("not judged", "Not judged: step 2 fails before it." in text(browser, "#detail"), True)
+    shown_in(browser, page, "#step-3")
+    return wrong + differs("an address", heading(browser), "Step 3 put f2 feed")
+
+
+def pointer(browser, reports):
+    """A click on the timeline or on the map selects a step. The wheel with the control key changes the scale."""
+    page, _ = reports.page(*example("elevator"))
+    shown_in(browser, page)
+    wrong, places = [], {}
+    for name in ("grid", "cost"):
+        places[name] = browser.run("const it = document.getElementById(arguments[0]).getBoundingClientRect(); return [it.left, it.top, it.width]", name)
+    browser.click(places["grid"][0] + 255, places["grid"][1] + 60)
+    wrong += differs("the first column", heading(browser), "Initial state")
+    right = places["cost"][0] + places["cost"][2] - 160
+    browser.click(right, places["cost"][1] + 30)
+    wrong += differs("the end of the map", heading(browser)[:6], "Step 6")
+    wide = "return parseFloat(document.querySelector('#grid > div').style.width)"
+    before = browser.run(wide)
+    browser.wheel(places["grid"][0] + 600, places["grid"][1] + 60, -400)
+    time.sleep(0.2)
+    wrong += [] if browser.run(wide) > before else ["the wheel changes nothing"]
+    browser.point(places["grid"][0] + 300, places["grid"][1] + 60)
+    said = browser.run("return document.getElementById('grid').title")
+    return wrong + ([] if "var" in said else [f"below the pointer: {said}"])
+
+
+def several(browser, reports):
+    """Several plans are listed, and two of them are compared."""
+    task, plan = example("valid")
+    short, late = example("short")[1], plan.replace(b"(put f2 feed)", b"(put f2 link)")
+    page, status = reports.page(task, ("a.plan", plan), ("b.plan", short), ("c.plan", late), ("d.plan", b"x\n"))
+    shown_in(browser, page)
+    wrong = differs("status", status, 1)
+    rows = browser.run("return [...document.querySelectorAll('#listed tr')].map(row => [...row.cells].map(cell => cell.textContent))")
+    wrong += differs("the list", rows, [["a.plan", "✓ plan valid: 4 steps, cost 4", "4", "4"], ["b.plan", "✕ plan invalid: step 2: not applicable", "3", "–"],
+                                        ["c.plan", "✕ plan invalid: step 4: not applicable", "4", "–"], ["d.plan", "! plan refused: line 1: keyword", "–", "–"]])
+    wrong += differs("where they part", text(browser, "#parts"), "They part at step 2. Steps at the end that are the same: 2.")
+    pairs = "return [...document.querySelectorAll('#compared .row')].map(row => [...row.children].map(cell => cell.innerText.replace(/\\s+/g, ' ').trim()))"
+    wrong += differs("side by side", browser.run(pairs), [["1 take f1", "1 take f1"], ["2 put f1 link", ""], ["3 take f2", "2 take f2"], ["4 put f2 feed", "3 put f2 feed"]])
+    browser.run("const it = document.getElementById('other'); it.value = 2; it.dispatchEvent(new Event('change'))")
+    wrong += differs("another pair", text(browser, "#parts"), "They part at step 4.")
+    for address, verdict in (("#plan-2", rows[1][1][2:]), ("#plan-4", rows[3][1][2:]), ("#plan-1-step-3", rows[0][1][2:])):
+        browser.run("location.hash = arguments[0]", address)
+        time.sleep(0.2)
+        wrong += differs(address, browser.run("return document.querySelector('article:not([hidden]) h1').textContent"), verdict)
+    wrong += differs("its step", heading(browser), "Step 3 take f2")
+    browser.run("document.querySelector('#back a').click()")
+    time.sleep(0.2)
+    return wrong + differs("back", browser.run("return document.querySelector('main').hidden"), True)
+
+
+def edges(browser, reports):
+    """Plans and tasks that are hardly there, other line ends, and great costs."""
+    minimal, (task, plan) = as_bytes(why.MINIMAL), example("valid")
+    wrong, huge = [], 2**64 - 1
+    for name, (task, plan), status, words in (
+        ("an empty plan", (minimal, b"; cost = 0 (unit cost)\n"), 0, ["plan valid: 0 steps, cost 0", "Initial state"]),
+        ("an empty plan, not valid", (task, b"; cost = 0 (unit cost)\n"), 1, ["goal fact 0 not reached", "Initial state"]),
+        ("a failure at step 1", (task, b"(no)\n; cost = 0 (unit cost)\n"), 1, ["step 1: no operator of that name", "Step 1 no"]),
+        ("CR LF", [data.replace(b"\n", b"\r\n") for data in (task, plan)], 0, ["plan valid: 4 steps, cost 4", "Step 1 take f1"]),
+        ("a great cost", (task, plan.replace(b"4", b"%d" % huge)), 1, [f"plan invalid: cost is 4, not {huge}", f"says {huge}."]),
+    ):
+        page, found = reports.page(task, plan)
+        shown_in(browser, page)
+        wrong += differs(f"{name}: status", found, status) + differs(f"{name}: trouble", text(browser, "#trouble"), "")
+        seen = re.sub(r"\s+", " ", text(browser, "body"))
+        wrong += [f"{name}: {word} isn't shown" for word in words if word not in seen]
+        browser.press("ArrowRight", "f", "End", "f", "+", "Home")
+        wrong += differs(f"{name}: after keys", heading(browser), "Initial state")
+    if isinstance(browser, Chromium):  # its scripts see the classes of the page
+        sums = "return String(new Run({moves: [[0]], operators: [[0, 2147483647, '', []]], initial: [], variables: [], goal: []}, {steps: Array(5e6).fill(0), rest: [], answer: []}, []).cost[5e6])"
+        wrong += differs("a sum of costs", browser.run(sums), str(5000000 * (2**31 - 1)))
+    return wrong
+
+
+def paper(browser, reports):
+    """Paper has all steps and is light; afterwards the page is as before. The dark is dark."""
+    page, _ = reports.page(*example("elevator"))
+    shown_in(browser, page)
+    light = "return getComputedStyle(document.body).backgroundColor"
+    wrong, before = [], browser.run(light)
+    browser.darken(True)
+    dark = browser.run(light)
+    wrong += [] if dark != before else ["the dark is as light"]
+    browser.run("document.getElementById('steps').parentElement.style.maxHeight = '90px'; return document.body.offsetHeight")
+    count = "return document.querySelectorAll('#steps .row').length"
+    browser.run("dispatchEvent(new Event('beforeprint'))")
+    wrong += differs("steps on paper", browser.run(count), 7) + differs("the colour of paper", browser.run("return getComputedStyle(document.documentElement).getPropertyValue('--card').trim()"), "#ffffff")
+    browser.run("dispatchEvent(new Event('afterprint'))")
+    wrong += differs("afterwards", browser.run(light), dark)
+    wrong += [] if browser.printed().startswith(b"%PDF") else ["nothing is printed"]
+    browser.press("ArrowRight")
+    browser.darken(False)
+    return wrong + differs("a key after that", heading(browser)[:6], "Step 2")
+
+
+def large_files():
+    """Returns the files of 100,000 steps over 5,000 variables."""
+    domain = Gripper(4997)
+    return "".join(task_pieces(domain)).encode(), "".join(plan_pieces(domain.plan(100000))).encode()
+
+
+def large_report(reports):
+    """A large report is made in time, with little memory, and is small."""
+    task, plan = reports.files(*large_files())
+    page, began = os.path.join(os.path.dirname(task), "report.html"), time.monotonic()
+    process = subprocess.Popen([*reports.command, task, plan, "-o", page, "--sas", reports.sas])
+    _, status, used = os.wait4(process.pid, 0)
+    seconds = time.monotonic() - began
+    found = {"seconds": seconds, "megabytes": used.ru_maxrss / 1024, "bytes": os.path.getsize(page)}
+    print("large report:", ", ".join(f"{value:.0f} {name}" if value > 9 else f"{value:.1f} {name}" for name, value in found.items()))
+    reports.large = page
+    return differs("status", os.waitstatus_to_exitcode(status), 0) + [f"{value} {name}" for name, value in found.items() if value > LARGE[name]]
+
+
+def large_page(browser, reports):
+    """A large page is there soon, and follows keys. It can be scrolled to its last step at any scale."""
+    first = shown_in(browser, reports.large)
+    timed = f"""{PRESS} {FRAMES} return (async () => {{
+        const took = [];
+        for (const key of ["ArrowRight", "End", "ArrowLeft", "PageUp", "f", "ArrowRight", "f", ..."+".repeat(32), "Home", "End"]) {{
+          await frame();
+          const began = performance.now();
+          press(key);
+          await frame();
+          took.push(performance.now() - began);
+        }}
+        return Math.max(...took) / 1000; }})()"""
+    key = browser.run(timed)
+    print(f"large page in {type(browser).__name__}: first picture {first:.1f} s, the slowest key {key:.2f} s")
+    wrong = [f"the first picture took {first} s"] * (first > LARGE["picture"]) + [f"a key took {key} s"] * (key > LARGE["key"])
+    wrong += differs("the last step", heading(browser).split(" ")[1], "100,000")
+    last = browser.run("return [...document.querySelectorAll('#steps .row')].pop().innerText.split(/\\s/)[0]")
+    rows = browser.run("return document.querySelectorAll('#steps .row').length")
+    wrong += differs("the last row", last, "100,000") + [f"{rows} rows"] * (rows > 200)
+    box = browser.run("const it = document.getElementById('grid'), box = it.getBoundingClientRect(); return [box.left, box.top, it.clientWidth, it.scrollWidth]")
+    browser.click(box[0] + box[2] - 160, box[1] + 60)
+    wrong += differs("the column at the right end", heading(browser).split(" ")[1], "100,000")
+    browser.run("document.getElementById('grid').scrollLeft = arguments[0]", box[3] // 2)
+    time.sleep(0.3)
+    browser.click(box[0] + box[2] // 2, box[1] + 60)
+    middle = int(heading(browser).split(" ")[1].replace(",", ""))
+    return wrong + ([] if 49900 < middle < 50100 else [f"the middle is step {middle}"])
+
+
+IN_BROWSER = (states, hostile, keys, fields, pointer, several, edges, paper, large_page)
+
+
+def main():
+    sas, *command = sys.argv[1:]
+    cases, wrong = [], []
+
+    def tried(test, *given):
+        began = time.monotonic()
+        cases.append({"name": " ".join([test.__name__, *(type(it).__name__ for it in given if isinstance(it, Browser))])})
+        try:
+            wrong.append(test(*given))
+        except Exception as fault:  # a test that ends early has failed, and the others go on
+            wrong.append([f"{type(fault).__name__}: {fault}"])
+        if "TIMES" in os.environ:
+            print(cases[-1]["name"], round(time.monotonic() - began, 1))
+
+    with tempfile.TemporaryDirectory() as folder:
+        reports = Reports(sas, command or [sys.executable, os.path.join(TOP, "report", "sas-report")], folder)
+        for test in (statuses, read_once, found_programs, with_library, large_report):
+            tried(test, reports)
+        chosen, missing = answers(reports)
+        chosen = [(task, plan, lines, *reports.page(task, plan)) for task, plan, lines in chosen]
+        tried(every_line, reports, chosen, missing)
+        for kind in (Chromium, Firefox):
+            if all(map(is_there, kind.NEEDS)):
+                with tempfile.TemporaryDirectory(ignore_cleanup_errors=True) as profile, contextlib.closing(kind(profile)) as browser:
+                    browser.resize(1400, 1143)
+                    tried(lines_in, browser, reports, chosen)
+                    for test in IN_BROWSER:
+                        tried(test, browser, reports)
+    report.end(cases, wrong)
+
+
+if __name__ == "__main__":
+    main()

@@ -1,0 +1,141 @@
+// values: reads answers from standard input, for values.py. Each has a line with 0 for a yes or 1 for a no, and the length of its text, and
+// then the text. Of each it prints three parts, each after a line with its length: the verdict and its numbers; the text, put together
+// again of the steps of a trace or of the reasons of a plan; and how the answer and its values are printed.
+#include "sas_answers.hpp"
+#include <iostream>
+#include <sstream>
+
+static void tell(const std::string &part) {
+    std::cout << part.size() << '\n' << part;
+}
+
+template <class Value> static std::string shown(const std::optional<Value> &it) {
+    std::ostringstream out;
+    it ? out << *it : out << '-';
+    return out.str();
+}
+
+static std::string values_of(const sas::Answer &it) {
+    std::ostringstream out;
+    out << it.verdict() << ' ' << shown(it.refused_file()) << ' ' << shown(it.failing_step()) << ' ' << shown(it.goal_fact()) << ' ';
+    out << shown(it.sum()) << ' ' << shown(it.cost()) << ' ' << shown(it.steps()) << ' ' << it.reason();
+    return out.str();
+}
+
+// names are written in bytes here
+static std::string raw(const sas::Fact &it) {
+    return std::to_string(it.variable) + ' ' + std::to_string(it.value) + ' ' + std::string(it.name);
+}
+
+static void write_verdict(std::ostream &out, const sas::Answer &it) {
+    if (it.steps()) {
+        out << "plan valid: " << *it.steps() << " steps, cost " << it.cost().value() << '\n';
+    } else if (it.sum()) {
+        out << "plan invalid: cost is " << *it.sum() << ", not " << it.cost().value() << '\n';
+    } else if (it.goal_fact()) {
+        out << "plan invalid: goal fact " << *it.goal_fact() << " not reached\n";
+    } else if (it.failing_step()) {
+        out << "plan invalid: step " << *it.failing_step() << it.reason().substr(it.reason().find(": ")) << '\n';
+    } else if (it.refused_file()) {
+        out << *it.refused_file() << " refused: " << it.reason() << '\n';
+    }
+}
+
+static void write_cause(std::ostream &out, const sas::Cause &it) {
+    out << "    requires " << raw(it.required) << "\n    actual " << raw(it.actual) << "\n    since ";
+    if (it.since) {
+        out << "step " << it.since->number << ' ' << it.since->name << '\n';
+    } else {
+        out << "the initial state\n";
+    }
+    for (const sas::Rule &rule : it.rules) {
+        out << "    rule " << rule.number << (rule.is_firing ? " derives " : " requires ") << raw(rule.fact) << '\n';
+    }
+    out << (it.no_rule ? "    no rule derives it\n" : "");
+}
+
+static void write_operators(std::ostream &out, const sas::Reasons &it) {
+    for (const sas::BlockedOperator &blocked : it.operators) {
+        out << "  operator " << blocked.op << " line " << blocked.line << '\n';
+        for (const sas::Cause &cause : blocked.causes) {
+            write_cause(out, cause);
+        }
+    }
+    if (it.conflict) {
+        out << "  operator " << it.conflict->op << " line " << it.conflict->line << '\n';
+        for (const sas::Effect &effect : it.conflict->effects) {
+            out << "    effect " << effect.number << " sets " << raw(effect.fact) << '\n';
+        }
+    }
+}
+
+static void write_reasons(std::ostream &out, const sas::Reasons &it) {
+    if (it.step) {
+        out << "  step " << it.step->number << ' ' << it.step->name << '\n';
+    }
+    if (const auto &similar = it.similar_operator) {
+        out << "  similar operator " << similar->op << " line " << similar->line << ' ' << similar->name << '\n';
+    }
+    if (it.failing && it.total) {
+        out << "  " << *it.failing << " of " << *it.total << (it.step ? " steps name no operator\n" : " goal facts fail\n");
+    }
+    write_operators(out, it);
+    for (const sas::GoalFact &goal : it.goal_facts) {
+        out << "  goal fact " << goal.index << '\n';
+        write_cause(out, goal.cause);
+    }
+    if (it.cost) {
+        out << "  metric " << it.cost->metric << "\n  steps " << it.cost->steps << "\n  sum of cost lines " << it.cost->cost_lines << '\n';
+    }
+    if (it.hint) {
+        out << "  hint " << *it.hint << '\n';
+    }
+    if (it.could_also_be) {
+        out << "  step " << it.could_also_be->step << " could also be operator " << it.could_also_be->op << '\n';
+    }
+}
+
+static void write_trace(std::ostream &out, const sas::Answer &it) {
+    std::uint64_t number = 0;
+    for (const sas::Fact &fact : it.initial()) {
+        out << "initial " << raw(fact) << '\n';
+    }
+    for (const sas::Step &step : it.trace_steps()) {
+        out << "step " << ++number << ' ' << step.op << ' ' << step.cost << ' ' << step.name << '\n';
+        for (const sas::Change &change : step.changes) {
+            out << "change " << change.variable << ' ' << change.old_value << ' ' << change.new_value << ' ' << change.name << '\n';
+        }
+    }
+}
+
+static void print(std::ostream &out, const sas::Answer &it) {
+    out << it << '\n' << it.reasons() << '\n';
+    for (const sas::Fact &fact : it.initial()) {
+        out << fact << '\n';
+    }
+    for (const sas::Step &step : it.trace_steps()) {
+        out << step << '\n';
+        for (const sas::Change &change : step.changes) {
+            out << change << '\n';
+        }
+    }
+}
+
+int main() {
+    int number = 0;
+    std::size_t length = 0;
+    while (std::cin >> number >> length && std::cin.get() == '\n') {
+        sas::Answer answer{number == 0 ? sas::Status::yes : sas::Status::no, std::string(length, '\0')};
+        std::cin.read(answer.text.data(), static_cast<std::streamsize>(length));
+        // memory of just this size, so that a sanitizer sees what is read behind it
+        answer.text.shrink_to_fit();
+        std::ostringstream again, printed;
+        write_trace(again, answer);
+        write_verdict(again, answer);
+        write_reasons(again, answer.reasons());
+        print(printed, answer);
+        tell(values_of(answer));
+        tell(again.str());
+        tell(printed.str());
+    }
+}

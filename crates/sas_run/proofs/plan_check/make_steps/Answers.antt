@@ -1,0 +1,23 @@
+-- One more step succeeds or fails.
+use Rattle.sas_run.proofs.Imports.{◌≡◌, ◌+◌, [], ◌∷◌, ◌∙◌, length, length-append, subst, sym, arith, Found, Makes}
+use Rattle.sas_run.proofs.GoingByNumbers.{makes_one_more}
+use Rattle.sas_run.proofs.plan_check.make_steps.Goals as goal
+
+pub loop-step-preserved : goal.loop-step-preserved
+loop-step-preserved g c =
+    let p = c.args.layered.now in
+    let inv = c.loop-step.invariant in
+    let progress = c.loop-step.progress in
+    let operator = c.in-Ok.operator in
+    let items = rw c.unwrap.ensures at c.push.ensures.items in
+    record {
+      prepared = c.make_plan_step.ensures.prepared;
+      noted = c.make_plan_step.ensures.noted ∙ inv.noted;
+      follows = c.in-Ok.ensures.follows;
+      state = c.make_plan_step.ensures.state;
+      makes = rw items (makes_one_more p c.task.ensures.layered (g.C.Chooser.means c.args.chooser.now p) progress.operators.items progress.state inv.makes operator c.make_plan_step.new.state
+          c.in-Ok.ensures.exists (rw inv.one_each c.in-Ok.ensures.means) c.in-Ok.ensures.step);
+      one_each = rw items (let len = length-append progress.operators.items (operator ∷ []) in let one = inv.one_each in omega arith);
+      room = omega (arith, inv.room, c.push.ensures.capacity);
+      kept = omega (arith, inv.kept, c.push.ensures.capacity);
+    }

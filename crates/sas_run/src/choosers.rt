@@ -1,0 +1,96 @@
+// What the steps of a plan mean: by their names, or by numbers.
+ghost use Rattle.std.specs.Prelude.{⊤, length, slice_index};
+ghost use Rattle.sas_core.specs.Grounded.{operator_at};
+ghost use Rattle.sas_run.specs.Choosers.{AreLowest, IsNumberChoice};
+ghost use Rattle.sas_run.specs.Running.{IsChoice};
+
+use crate::runner::{Choice, first_applicable, is_applicable};
+use crate::step_operators::PlanOperators;
+use sas_core::Grounded;
+use sas_meaning::{Layered, State};
+
+/// Chooses the operators of a plan's steps. Steps are counted from 0.
+pub trait Chooser<T: Grounded> {
+    ghost use Rattle.std.specs.Prelude.{◌≡◌, ◌<◌, ℕ, List};
+    ghost use Rattle.sas_core.specs.declared.parts.Parts.{Parts};
+    ghost use Rattle.sas_core.specs.Variables.{IsState};
+    ghost use Rattle.sas_run.specs.declared.runner.Choice.{Choice};
+    ghost use Rattle.sas_run.specs.Choosers.{IsPossible};
+
+    /// It chooses operators of this task.
+    ghost ready: { Self → Parts → Type 0 };
+
+    /// For how many steps it chooses.
+    ghost count: { Self → ℕ };
+
+    /// What the step means in the state.
+    ghost means: { Self → Parts → ℕ → List ℕ → Choice → Type 0 };
+
+    /// Returns for how many steps it chooses.
+    fn steps(&self) -> usize
+        ensures { result ≡ count self.now };
+
+    /// Returns what the step means in the state.
+    fn choose(&self, task: &Layered<T>, state: &State, step: usize) -> Choice
+        requires ready { ready self.now task.now }
+        requires step { step < count self.now }
+        requires state { IsState task.now.variables state.now }
+        ensures means { means self.now task.now step state.now result }
+        ensures possible { IsPossible task.now state.now result };
+}
+
+/// By name: a step means the lowest applicable operator of its name.
+impl<'f, T: Grounded> Chooser<T> for PlanOperators<'f> {
+    ghost ready = { λ found p. AreLowest p found.firsts.now found.nexts.now };
+
+    ghost count = { λ found. length found.firsts.now };
+
+    ghost means = { λ found p step s.
+        IsChoice p s (operator_at p (slice_index found.firsts.now step)).name };
+
+    fn steps(&self) -> usize {
+        self.firsts.len()
+    }
+
+    #[inline(always)]
+    fn choose(&self, task: &Layered<T>, state: &State, step: usize) -> Choice {
+        let first = self.firsts[step];
+        match first_applicable(task, self.nexts, state, first) {
+            Some(operator) => Choice::Found(operator),
+            None => Choice::Blocked,
+        }
+    }
+}
+
+/// A plan as the numbers of its operators, and its cost.
+#[derive(Clone, Copy)]
+pub struct NumberedPlan<'n> {
+    pub operators: &'n [u32],
+    pub cost: u64,
+}
+
+/// By number: a step means the operator with its number. No name is looked up.
+impl<'n, T: Grounded> Chooser<T> for NumberedPlan<'n> {
+    ghost ready = { λ _ _. ⊤ };
+
+    ghost count = { λ plan. length plan.operators.now };
+
+    ghost means = { λ plan p step s. IsNumberChoice p s (slice_index plan.operators.now step) };
+
+    fn steps(&self) -> usize {
+        self.operators.len()
+    }
+
+    #[inline(always)]
+    fn choose(&self, task: &Layered<T>, state: &State, step: usize) -> Choice {
+        let operator = self.operators[step];
+        if operator >= task.operators() {
+            return Choice::Unknown;
+        }
+        if is_applicable(task, state, operator) {
+            Choice::Found(operator)
+        } else {
+            Choice::Blocked
+        }
+    }
+}

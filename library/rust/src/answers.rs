@@ -1,0 +1,287 @@
+//! Answers, and how the values are read from their texts.
+
+#![forbid(unsafe_code)]
+
+use crate::values::*;
+use std::fmt;
+use std::iter;
+use std::str::{self, FromStr};
+
+/// What `sas` prints, and whether its exit status is 0. All else is read from the text.
+#[derive(Clone, PartialEq, Eq, Hash)]
+pub struct Answer {
+    /// Whether the answer is yes, or the text was printed.
+    pub is_yes: bool,
+    /// What `sas` prints. Names in it may have any bytes.
+    pub text: Vec<u8>,
+}
+
+impl Answer {
+    /// What the answer says.
+    pub fn verdict(&self) -> Verdict {
+        match self.headline() {
+            line if line.starts_with(b"plan valid: ") => Verdict::Valid,
+            line if line.starts_with(b"plan invalid: ") => Verdict::Invalid,
+            _ if self.refused_file().is_some() => Verdict::Refused,
+            _ => if self.is_yes { Verdict::Yes } else { Verdict::No },
+        }
+    }
+
+    /// Which file is refused.
+    pub fn refused_file(&self) -> Option<File> {
+        match self.headline() {
+            line if line.starts_with(b"task refused: ") => Some(File::Task),
+            line if line.starts_with(b"plan refused: ") => Some(File::Plan),
+            _ => None,
+        }
+    }
+
+    /// The reason for a no, such as `step 2: not applicable` or `line 7: name`. Of mutex groups it is the first line that isn't
+    /// `group K exclusive`.
+    pub fn reason(&self) -> Option<&str> {
+        let line = match self.verdict() {
+            Verdict::Invalid | Verdict::Refused => str::from_utf8(self.headline()).ok()?.split_once(": ")?.1.as_bytes(),
+            Verdict::No => self.text.split(|it| *it == b'\n').find(|it| !it.ends_with(b" exclusive"))?,
+            Verdict::Valid | Verdict::Yes => return None,
+        };
+        str::from_utf8(line).ok()
+    }
+
+    /// The step that fails, counted from 1, if the reason is `step S: ..`.
+    pub fn failing_step(&self) -> Option<u64> {
+        Line::after("plan invalid: step ", self.headline())?.number(": ")
+    }
+
+    /// The first fact of the goal that fails, counted from 0, if the reason is `goal fact I not reached`.
+    pub fn goal_fact(&self) -> Option<u64> {
+        Line::after("plan invalid: goal fact ", self.headline())?.number(" not reached")
+    }
+
+    /// The sum of the steps' costs, if the reason is `cost is SUM, not COST`.
+    pub fn sum(&self) -> Option<u64> {
+        self.sum_and_cost().map(|(sum, _)| sum)
+    }
+
+    /// The number of steps, if the answer is `plan valid: S steps, cost C`.
+    pub fn steps(&self) -> Option<u64> {
+        self.steps_and_cost().map(|(steps, _)| steps)
+    }
+
+    /// The cost, if the answer is `plan valid: S steps, cost C`, and COST, if the reason is `cost is SUM, not COST`.
+    pub fn cost(&self) -> Option<u64> {
+        self.steps_and_cost().or_else(|| self.sum_and_cost()).map(|(_, cost)| cost)
+    }
+
+    /// The initial state of a trace: a fact for each variable. Empty if the answer is no trace.
+    pub fn initial(&self) -> Vec<Fact<'_>> {
+        let mut rest = &*self.text;
+        iter::from_fn(|| Line::after("initial ", next_line(&mut rest))?.fact()).collect()
+    }
+
+    /// The steps of a trace that succeed, each read from the text when it is asked for. None if the answer is no trace.
+    pub fn trace_steps(&self) -> impl Iterator<Item = Step<'_>> + Clone {
+        let is_at = |it: &[u8]| it.starts_with(b"\nstep ");
+        let at = if self.is_trace() { self.text.windows(6).position(is_at) } else { None };
+        let mut rest = at.map_or(&[][..], |at| &self.text[at + 1..]);
+        iter::from_fn(move || next_step(&mut rest))
+    }
+
+    /// The reasons of `plan_why`. `None` if the answer has none.
+    pub fn reasons(&self) -> Option<Reasons<'_>> {
+        let mut rest = &*self.text;
+        next_line(&mut rest);
+        if self.is_trace() || rest.is_empty() || !matches!(self.verdict(), Verdict::Invalid | Verdict::Refused) {
+            return None;
+        }
+        let mut reasons = Reasons { text: Text(rest), ..Reasons::default() };
+        while !rest.is_empty() {
+            // a line that isn't added is one of a later version
+            let _ = reasons.add(next_line(&mut rest), self.headline());
+        }
+        Some(reasons)
+    }
+
+    fn steps_and_cost(&self) -> Option<(u64, u64)> {
+        let mut line = Line::after("plan valid: ", self.headline())?;
+        Some((line.number(" steps, cost ")?, line.last()?))
+    }
+
+    fn sum_and_cost(&self) -> Option<(u64, u64)> {
+        let mut line = Line::after("plan invalid: cost is ", self.headline())?;
+        Some((line.number(", not ")?, line.last()?))
+    }
+
+    fn is_trace(&self) -> bool {
+        self.text.starts_with(b"initial ")
+    }
+
+    /// The line with the verdict: the last one of a trace, else the first.
+    fn headline(&self) -> &[u8] {
+        let text = self.text.strip_suffix(b"\n").unwrap_or(&self.text);
+        let mut lines = text.split(|it| *it == b'\n');
+        if self.is_trace() { lines.next_back() } else { lines.next() }.unwrap_or_default()
+    }
+}
+
+impl<'a> Reasons<'a> {
+    /// Adds a line to the reasons for a verdict. Returns `None` if it is none of those below.
+    fn add(&mut self, line: &'a [u8], verdict: &[u8]) -> Option<()> {
+        if let Some(line) = line.strip_prefix(b"    ") {
+            return self.add_deep(Line(line));
+        }
+        let mut line = Line::after("  ", line)?;
+        match line.word()? {
+            // a step may have any name, so the first line about one is never the one about what it could also be
+            b"step" if self.step.is_none() && verdict.starts_with(b"plan invalid: step ") => self.step = Some(line.step()?),
+            b"step" => {
+                let step = line.number(" could also be operator ")?;
+                self.could_also_be = Some(CouldAlsoBe { step, operator: line.last()? });
+            }
+            b"similar" => {
+                let (operator, line, name) = (line.words("operator ")?.number(" line ")?, line.number(" ")?, line.name());
+                self.similar_operator = Some(SimilarOperator { operator, line, name });
+            }
+            b"operator" => {
+                let (operator, line) = (line.number(" line ")?, line.last()?);
+                if verdict.ends_with(b": conflicting effects") {
+                    self.conflict = Some(Conflict { operator, line, effects: Vec::new() });
+                } else {
+                    self.operators.push(BlockedOperator { operator, line, causes: Vec::new() });
+                }
+            }
+            b"goal" => self.goal_facts.push(GoalFact { index: line.words("fact ")?.last()?, cause: Cause::default() }),
+            b"metric" => self.cost.get_or_insert_with(CostFacts::default).metric = line.last()?,
+            b"steps" => self.cost.get_or_insert_with(CostFacts::default).steps = line.last()?,
+            b"sum" => self.cost.get_or_insert_with(CostFacts::default).cost_lines = line.words("of cost lines ")?.last()?,
+            b"hint" => self.hint = Some(str::from_utf8(line.0).ok()?),
+            number => {
+                let (failing, total) = (Line(number).last()?, line.words("of ")?.number(" ")?);
+                (self.failing, self.total) = (Some(failing), Some(total));
+            }
+        }
+        Some(())
+    }
+
+    /// Adds a line of four spaces to the conflict, or to a cause.
+    fn add_deep(&mut self, mut line: Line<'a>) -> Option<()> {
+        match line.word()? {
+            b"effect" => {
+                let effect = Effect { number: line.number(" sets ")?, fact: line.fact()? };
+                self.conflict.as_mut()?.effects.push(effect);
+            }
+            b"requires" => {
+                let cause = Cause { required: line.fact()?, ..Cause::default() };
+                match self.goal_facts.last_mut() {
+                    Some(goal) => goal.cause = cause,
+                    None => self.operators.last_mut()?.causes.push(cause),
+                }
+            }
+            b"actual" => self.cause()?.actual = line.fact()?,
+            b"since" => self.cause()?.since = Some(line.words("step ")?.step()?),
+            b"rule" => {
+                let number = line.number(" ")?;
+                let is_firing = match line.word()? { b"derives" => true, b"requires" => false, _ => return None };
+                let rule = Rule { number, is_firing, fact: line.fact()? };
+                self.cause()?.rules.push(rule);
+            }
+            b"no" if line.0 == b"rule derives it" => self.cause()?.no_rule = true,
+            _ => return None,
+        }
+        Some(())
+    }
+
+    /// The cause that is read.
+    fn cause(&mut self) -> Option<&mut Cause<'a>> {
+        match self.goal_facts.last_mut() {
+            Some(goal) => Some(&mut goal.cause),
+            None => self.operators.last_mut()?.causes.last_mut(),
+        }
+    }
+}
+
+/// What is left of a line that is read from its front.
+struct Line<'a>(&'a [u8]);
+
+impl<'a> Line<'a> {
+    /// A line after words that it begins with.
+    fn after(words: &str, line: &'a [u8]) -> Option<Line<'a>> {
+        line.strip_prefix(words.as_bytes()).map(Line)
+    }
+
+    /// Takes words.
+    fn words(&mut self, words: &str) -> Option<&mut Line<'a>> {
+        self.0 = self.0.strip_prefix(words.as_bytes())?;
+        Some(self)
+    }
+
+    /// Takes a word and the space after it.
+    fn word(&mut self) -> Option<&'a [u8]> {
+        let (word, rest) = self.0.split_at(self.0.iter().position(|it| *it == b' ')?);
+        self.0 = &rest[1..];
+        Some(word)
+    }
+
+    /// Takes a number and the words after it.
+    fn number<N: FromStr>(&mut self, words: &str) -> Option<N> {
+        let (number, rest) = self.0.split_at(self.0.iter().take_while(|it| it.is_ascii_digit()).count());
+        self.0 = rest.strip_prefix(words.as_bytes())?;
+        str::from_utf8(number).ok()?.parse().ok()
+    }
+
+    /// Takes the number that is all that is left.
+    fn last<N: FromStr>(&mut self) -> Option<N> {
+        let number = self.number("");
+        number.filter(|_| self.0.is_empty())
+    }
+
+    /// The name that is all that is left.
+    fn name(&self) -> Text<'a> {
+        Text(self.0)
+    }
+
+    fn fact(&mut self) -> Option<Fact<'a>> {
+        Some(Fact { variable: self.number(" ")?, value: self.number(" ")?, name: self.name() })
+    }
+
+    fn step(&mut self) -> Option<NamedStep<'a>> {
+        Some(NamedStep { number: self.number(" ")?, name: self.name() })
+    }
+}
+
+/// Takes a line off the front of a text.
+fn next_line<'a>(rest: &mut &'a [u8]) -> &'a [u8] {
+    let mut parts = rest.splitn(2, |it| *it == b'\n');
+    let line = parts.next().unwrap_or_default();
+    *rest = parts.next().unwrap_or_default();
+    line
+}
+
+/// Takes a step and its changes off the front of a trace.
+fn next_step<'a>(rest: &mut &'a [u8]) -> Option<Step<'a>> {
+    let mut line = Line::after("step ", next_line(rest))?;
+    let _: u64 = line.number(" ")?;
+    let (operator, cost, name) = (line.number(" ")?, line.number(" ")?, line.name());
+    Some(Step { operator, cost, name, changes: iter::from_fn(|| next_change(rest)).collect() })
+}
+
+/// Takes a change off the front of a trace, if it begins with one.
+fn next_change<'a>(rest: &mut &'a [u8]) -> Option<Change<'a>> {
+    let mut after = *rest;
+    let mut line = Line::after("change ", next_line(&mut after))?;
+    let change = Change { variable: line.number(" ")?, old: line.number(" ")?, new: line.number(" ")?, name: line.name() };
+    *rest = after;
+    Some(change)
+}
+
+/// The text, without its last line end.
+impl fmt::Display for Answer {
+    fn fmt(&self, out: &mut fmt::Formatter) -> fmt::Result {
+        Text(self.text.strip_suffix(b"\n").unwrap_or(&self.text)).fmt(out)
+    }
+}
+
+impl fmt::Debug for Answer {
+    fn fmt(&self, out: &mut fmt::Formatter) -> fmt::Result {
+        out.debug_struct("Answer").field("is_yes", &self.is_yes).field("text", &Text(&self.text)).finish()
+    }
+}
