@@ -362,14 +362,11 @@ def table_cases(cases, name):
 def stream_tests(_, sas, folder):
     """Yields the cases of program.json about streams by `python -m sas`, each in a process that begins with these. They could show one that
     is closed or full and isn't noticed, and a file that takes its place."""
-    program = os.path.join(folder, "module")
-    path = os.path.dirname(os.path.dirname(sas.__file__))
-    write(program, f"#!/bin/sh\nPYTHONPATH='{path}' exec '{sys.executable}' -B -I -c '{BY_PATH}' '{path}' \"$@\"\n".encode())
-    os.chmod(program, 0o755)
+    command = [sys.executable, "-B", "-I", "-c", BY_PATH, os.path.dirname(os.path.dirname(sas.__file__))]
     empty = tempfile.mkdtemp(dir=folder)
     for case in table("program.json"):
         if case["words"] and any(word in case for word in OF_STREAMS) and not any(word in case for word in OF_PROGRAM):
-            yield f"python -m sas, {case['name']}", run.faults(program, case, empty)
+            yield f"python -m sas, {case['name']}", run.faults(command, case, empty)
 
 
 # `python -m sas`, without what else the environment of Python may have
@@ -578,17 +575,13 @@ def main(words, module):
 
 
 def report_tests(_, sas, folder):
-    """Yields `python -m sas report` where a report is installed in the package, and where none is. They could show words or an exit status
-    that are lost, and a traceback."""
+    """Yields `python -m sas report`, with a module in the place of the command. They could show words or an exit status that are lost."""
     shutil.copytree(os.path.dirname(sas.__file__), os.path.join(folder, "sas"), ignore=shutil.ignore_patterns("report", "__pycache__"))
     env = {**os.environ, "PYTHONPATH": folder, "LIBSAS": importlib.import_module("sas._library")._LIBRARY._name}
-    command = [sys.executable, "-m", "sas", "report", "-o", "page.html"]
-    ran = ended(*command, env=env)
-    yield "no report", [] if (ran.returncode, ran.stderr) == (2, b"python -m sas report: it isn't installed\n") else [f"{ran}"]
     os.mkdir(os.path.join(folder, "sas/report"))
     write(os.path.join(folder, "sas/report/__init__.py"), b"")
     write(os.path.join(folder, "sas/report/command.py"), REPORT.encode())
-    ran = ended(*command, env=env)
+    ran = ended(sys.executable, "-m", "sas", "report", "-o", "page.html", env=env)
     yield "a report", [] if (ran.returncode, ran.stdout) == (7, b"['-o', 'page.html'] True\n") else [f"{ran}"]
 
 
