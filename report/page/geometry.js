@@ -26,7 +26,8 @@ class Side {
 
   to(offset) {
     this.offset = clamp(offset, 0, this.most);
-    this.box[this.scroll] = this.offset / this.scale;
+    const place = this.offset / this.scale;
+    if (Math.abs(this.box[this.scroll] - place) >= 1) this.box[this.scroll] = place;  // else the reader may be scrolling
     this.seen = this.box[this.scroll];
   }
 

@@ -23,7 +23,7 @@ class Page {
   // Shows the plan and the step of the address.
   follow() {
     clearTimeout(this.noting);
-    const [, plan, step] = /^#(?:plan-(\d+)-?)?(?:step-(\d+))?$/.exec(location.hash) || [], i = plan ? plan - 1 : this.overview ? -1 : 0;
+    const [, plan = 0, step] = /^#(?:plan-(\d+)-?)?(?:step-(\d+))?$/.exec(location.hash) || [], i = this.overview ? plan - 1 : 0;
     const run = this.runs[i], isPlan = i in this.runs;
     get("plans").hidden = isPlan;
     get("back").hidden = !this.overview || !isPlan;
