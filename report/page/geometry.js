@@ -18,11 +18,7 @@ class Side {
   get least() { return this.room / this.count; }
 
   measure(fixed, count) { Object.assign(this, { fixed, count, room: Math.max(1, this.box[this.client] - fixed) }); }
-
-  layout() {
-    this.spacer.style[this.style] = Math.min(this.length, LONGEST) + this.fixed + "px";
-    this.to(this.offset);
-  }
+  layout() { this.spacer.style[this.style] = Math.min(this.length, LONGEST) + this.fixed + "px"; this.to(this.offset); }
 
   to(offset) {
     this.offset = clamp(offset, 0, this.most);

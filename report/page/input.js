@@ -47,10 +47,7 @@ class Page {
     if (run.failing && this.picture.grid.wide < 12) this.zoom(WIDEST);
   }
 
-  layout() {
-    this.picture.layout();
-    this.draw();
-  }
+  layout() { this.picture.layout(); this.draw(); }
 
   draw() {
     if (!this.isDue) requestAnimationFrame(() => { this.isDue = false; this.picture.draw(); });
@@ -166,5 +163,4 @@ class Page {
   }
 }
 
-unpacked(get("data").textContent).then(data => new Page(data))
-  .catch(fault => get("trouble").append("This browser can’t show the timeline: " + fault));
+unpacked(get("data").textContent).then(data => new Page(data)).catch(fault => get("trouble").append("The timeline isn’t shown: " + fault));
