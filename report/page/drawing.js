@@ -25,10 +25,7 @@ class Picture {
     return g.createPattern(canvas, "repeat");
   }
 
-  layout() {
-    this.drawn = "";
-    this.grid.layout(this.run.total + 1, this.run.goal.size ? 132 : 12);
-  }
+  layout() { this.drawn = ""; this.grid.layout(this.run.total + 1, this.run.goal.size ? 132 : 12); }
 
   draw() {
     const { grid, box } = this, [w, h] = [box.clientWidth, box.clientHeight];
@@ -65,10 +62,7 @@ class Picture {
   font(g, size, weight = 400, style = "") { g.font = `${style} ${weight} ${size}px ${this.family}`; }
 
   // Fills a rectangle with a colour, or a pattern.
-  fill(g, colour, x, y, w, h) {
-    g.fillStyle = this.colours[colour] || colour;
-    g.fillRect(x, y, w, h);
-  }
+  fill(g, colour, x, y, w, h) { g.fillStyle = this.colours[colour] || colour; g.fillRect(x, y, w, h); }
 
   // Writes as much of a text as there is room for, if that is two letters or more.
   write(g, colour, text, x, y, room) {
