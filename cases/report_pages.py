@@ -309,8 +309,9 @@ FRAMES = "const frame = () => new Promise(requestAnimationFrame);"
 
 def shown_in(browser, path, address=""):
     """Opens a report, and returns how many seconds the first picture took."""
+    if address:  # or the page that is open would stay, and go to the address
+        browser.open("about:blank")
     began = time.monotonic()
-    browser.open("about:blank")
     browser.open(f"file://{urllib.parse.quote(path)}{address}")
     while not browser.run(READY):
         time.sleep(0.02)
@@ -573,6 +574,12 @@ def paper(browser, reports):
     count = "return document.querySelectorAll('#steps .row').length"
     browser.run("dispatchEvent(new Event('beforeprint'))")
     wrong += differs("steps on paper", browser.run(count), 7) + differs("the colour of paper", browser.run("return getComputedStyle(document.documentElement).getPropertyValue('--card').trim()"), "#ffffff")
+    if isinstance(browser, Chromium):
+        browser.request("POST", "/goog/cdp/execute", {"cmd": "Emulation.setEmulatedMedia", "params": {"media": "print"}})
+        looks = "return ['#find', '#steps .row'].map(it => getComputedStyle(document.querySelector(it))).map(it => it.display + ' ' + it.position)"
+        wrong += differs("the style of paper", browser.run(looks), ["none static", "flex static"])
+        browser.request("POST", "/goog/cdp/execute", {"cmd": "Emulation.setEmulatedMedia", "params": {"media": ""}})
+        browser.darken(True)
     browser.run("dispatchEvent(new Event('afterprint'))")
     wrong += differs("afterwards", browser.run(light), dark)
     wrong += [] if browser.printed().startswith(b"%PDF") else ["nothing is printed"]

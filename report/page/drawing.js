@@ -189,7 +189,7 @@ class Picture {
 
   // The cost of the whole plan. It is the map of the timeline, with a frame around what is in view.
   drawMap() {
-    const { grid, run } = this, g = this.sheet(this.map, this.map.clientWidth, MAP), span = grid.across.room, base = MAP - 9;
+    const { grid, run } = this, g = this.sheet(this.map, this.box.clientWidth, MAP), span = grid.across.room, base = MAP - 9;
     const most = Number(run.cost[run.judged]) || 1, x = t => grid.labels + t / (run.total + 1) * span;
     const y = t => base - Number(run.cost[t]) / most * (base - 16), points = Math.min(run.judged, Math.ceil(span));
     g.beginPath();

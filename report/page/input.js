@@ -163,4 +163,4 @@ class Page {
   }
 }
 
-unpacked(get("data").textContent).then(data => new Page(data)).catch(fault => get("trouble").append("The timeline isn’t shown: " + fault));
+unpacked(get("data").textContent).then(data => new Page(data)).catch(fault => get("trouble").append("No timeline: " + fault));
