@@ -36,8 +36,8 @@ enum class Verdict { valid, invalid, refused, yes, no, none };
 // A file that is refused.
 enum class File { task, plan };
 
-// The values below are views of an answer's text. The answer has to outlive them, and isn't changed or moved. Steps count from 1,
-// operators and all others from 0. Names may have any bytes; those in reasons are safe for a terminal.
+// The values below are views of an answer's text. The answer has to outlive them, and isn't changed or moved. Steps and lines count from
+// 1, all others from 0. Names may have any bytes; those in reasons are safe for a terminal.
 
 // A value of a variable, and the name of the value.
 struct Fact {
@@ -415,7 +415,7 @@ struct [[nodiscard]] Answer {
         return Steps(at == text.npos ? "" : std::string_view(text).substr(at + 1));
     }
 
-    // The reasons of `plan_why`. If the answer has none, nothing is in them.
+    // The reasons of `plan_why`. If the answer has none, nothing is in them. Keep them in a variable for a loop over a part of them.
     [[nodiscard]] Reasons reasons() const & {
         Reasons it;
         std::string_view rest = text;
