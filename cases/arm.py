@@ -3,7 +3,7 @@
 
     python3 cases/arm.py SAS
 
-SAS is the program for this machine. The one for ARM has to give its answers: to one of twenty of the cases of run.py, and to all that are
+SAS is the program for this machine. The one for ARM has to give its answers: to one of fifty of the cases of run.py, and to all that are
 large or about devices, but for those that limit memory or the stack, which would limit the emulator. `run.py SAS EMULATOR` runs all others,
 too. The library has to give them to the example in C, and keeps what is its own where memory is refused.
 
@@ -39,7 +39,7 @@ AARCH64, LOADED = 183, 1
 # the largest pages that Linux has on this processor
 PAGE = 65536
 # how long a case may take, and one of how many small ones is run: each takes 20 times as long as on this machine
-SECONDS, ONE_OF = 600, 20
+SECONDS, ONE_OF = 600, 50
 
 
 def build_tests():
