@@ -5,10 +5,10 @@
 kept. Then docs/READING.md is held against the definitions, docs/PROMISES.md against contracts and edits, pages and completions against the
 program, the commands that documents show are run, those for clusters with GNU parallel and Slurm too, each allocation is refused in turn,
 the calls of the crates are made, the program is run, with closed streams too, the library is built, called, and used by way of CMake,
-pkg-config, cargo and pip, a release and a package of Debian are packed and tried, and all is built and run for 64-bit ARM, for which two
-crates are proved once more. The last line is 'N passed, M failed' of all together, and the exit status
-is 0 exactly if M is 0. A command that doesn't end as its own last line says counts as one failure. gate.log keeps the last line for
-releases, with the commit and the toolchain.
+pkg-config, cargo and pip, a release and a package of Debian are packed and tried, and both are made for 64-bit ARM, for which two crates
+are proved once more, and run under an emulator. The last line is 'N passed, M failed' of all together, and the exit status is 0 exactly if
+M is 0. A command that doesn't end as its own last line says counts as one failure. gate.log keeps the last line for releases, with the
+commit and the toolchain.
 """
 import functools
 import glob
