@@ -3,12 +3,13 @@
 
     python3 cases/arm.py SAS
 
-SAS is the program for this machine. The one for ARM has to give its answers: to one of twenty of the cases of run.py, and to all that are
+SAS is the program for this machine. The one for ARM has to give its answers: to one of fifty of the cases of run.py, and to all that are
 large or about devices, but for those that limit memory or the stack, which would limit the emulator. `run.py SAS EMULATOR` runs all others,
 too. The library has to give them to the example in C, and keeps what is its own where memory is refused.
 
 aarch64-linux-gnu-gcc and its C library build, and qemu-aarch64-static runs. Where the first isn't there, nothing is tried, and where the
-second isn't, nothing is run; a line that begins with `skipped` says so. Two crates are proved again, in two to three minutes each.
+second isn't, nothing is run; a line that begins with `skipped` says so. Two crates are proved again, in two to three minutes each, and what
+is run takes some minutes of a processor.
 
 Each test that fails has a line, and the last line is 'N passed, M failed'. The exit status is 0 where none failed. No proof sees the code in
 C that stands beside the crates there, nor what the toolchain and the cross compiler make of them.
@@ -38,8 +39,8 @@ SYSROOT = "/usr/aarch64-linux-gnu"
 AARCH64, LOADED = 183, 1
 # the largest pages that Linux has on this processor
 PAGE = 65536
-# how long a case may take, and one of how many small ones is run: each takes 20 times as long as on this machine
-SECONDS, ONE_OF = 600, 20
+# how long a case may take, and one of how many small ones is run: each takes about 60 ms of a processor
+SECONDS, ONE_OF = 600, 50
 
 
 def build_tests():

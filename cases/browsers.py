@@ -17,7 +17,8 @@ import urllib.request
 KEYS = {"Enter": "\ue007", "Escape": "\ue00c", "PageUp": "\ue00e", "PageDown": "\ue00f", "End": "\ue010", "Home": "\ue011",
         "ArrowLeft": "\ue012", "ArrowUp": "\ue013", "ArrowRight": "\ue014", "ArrowDown": "\ue015", "Tab": "\ue004", "Control": "\ue009"}
 # how long a command and the start of a browser may take, in seconds
-SECONDS = 60
+SECONDS = 120
+WIDTH, HEIGHT = 1400, 1143
 
 
 class Browser:
@@ -27,11 +28,13 @@ class Browser:
         """Returns what a script returns; a promise is waited for."""
         return self.command("ExecuteScript", "POST", "execute/sync", {"script": script, "args": arguments})
 
+    def settle(self):
+        """Does what a session begins with."""
+        self.command("SetTimeouts", "POST", "timeouts", {"script": SECONDS * 1000, "pageLoad": SECONDS * 1000})
+        self.command("SetWindowRect", "POST", "window/rect", {"width": WIDTH, "height": HEIGHT})
+
     def open(self, address):
         self.command("Navigate", "POST", "url", {"url": address})
-
-    def resize(self, width, height):
-        self.command("SetWindowRect", "POST", "window/rect", {"width": width, "height": height})
 
     def act(self, *sources):
         self.command("PerformActions", "POST", "actions", {"actions": list(sources)})
@@ -43,17 +46,17 @@ class Browser:
 
     def click(self, x, y):
         """Clicks at a place of the window."""
-        move = {"type": "pointerMove", "x": int(x), "y": int(y), "duration": 0}
-        self.act({"type": "pointer", "id": "mouse", "actions": [move, {"type": "pointerDown", "button": 0}, {"type": "pointerUp", "button": 0}]})
+        self.point(x, y, {"type": "pointerDown", "button": 0}, {"type": "pointerUp", "button": 0})
 
-    def point(self, x, y):
-        self.act({"type": "pointer", "id": "mouse", "actions": [{"type": "pointerMove", "x": int(x), "y": int(y), "duration": 0}]})
+    def point(self, x, y, *then):
+        move = {"type": "pointerMove", "x": int(x), "y": int(y), "duration": 0}
+        self.act({"type": "pointer", "id": "mouse", "actions": [move, *then]})
 
     def wheel(self, x, y, down):
         """Turns the wheel while the control key is held."""
-        wait = {"type": "pause", "duration": 0}
-        self.act({"type": "key", "id": "keys", "actions": [{"type": "keyDown", "value": KEYS["Control"]}, wait, {"type": "keyUp", "value": KEYS["Control"]}]},
-                 {"type": "wheel", "id": "wheel", "actions": [wait, {"type": "scroll", "x": int(x), "y": int(y), "deltaX": 0, "deltaY": down, "duration": 0}]})
+        wait, (held, free) = {"type": "pause", "duration": 0}, ({"type": kind, "value": KEYS["Control"]} for kind in ("keyDown", "keyUp"))
+        turn = {"type": "scroll", "x": int(x), "y": int(y), "deltaX": 0, "deltaY": down, "duration": 0}
+        self.act({"type": "key", "id": "keys", "actions": [held, wait, free]}, {"type": "wheel", "id": "wheel", "actions": [wait, turn]})
 
     def picture(self):
         """Returns a PNG file of what is in the window."""
@@ -73,10 +76,15 @@ class Chromium(Browser):
         port = next(found[1] for line in self.driver.stdout for found in [re.search(r"successfully on port (\d+)", line)] if found)
         self.address = f"http://127.0.0.1:{port}/session"
         words = ["--headless=new", "--no-sandbox", "--disable-gpu", "--disable-dev-shm-usage", f"--user-data-dir={folder}",
-                 "--window-size=1400,1000", "--disable-background-networking", "--force-color-profile=srgb"]
+                 f"--window-size={WIDTH},{HEIGHT}", "--disable-background-networking", "--force-color-profile=srgb"]
         capabilities = {"alwaysMatch": {"browserName": "chrome", "goog:chromeOptions": {"binary": shutil.which("chromium"), "args": words},
                                         "goog:loggingPrefs": {"browser": "ALL"}}}
-        self.address += "/" + self.request("POST", "", {"capabilities": capabilities})["sessionId"]
+        try:
+            self.address += "/" + self.request("POST", "", {"capabilities": capabilities})["sessionId"]
+        except (OSError, RuntimeError):
+            self.driver.terminate()
+            raise
+        self.settle()
 
     def request(self, method, path, body):
         data = None if body is None else json.dumps(body).encode()
@@ -109,12 +117,13 @@ class Firefox(Browser):
         with open(os.path.join(folder, "user.js"), "w", encoding="utf-8") as file:
             file.write('user_pref("marionette.port", 0);\nuser_pref("datareporting.policy.dataSubmissionEnabled", false);\n'
                        'user_pref("app.update.enabled", false);\nuser_pref("browser.shell.checkDefaultBrowser", false);\n')
-        words = ["firefox", "--headless", "--marionette", "--no-remote", "--remote-allow-system-access", "--profile", folder, "--width=1400", "--height=1000"]
-        environment = {**os.environ, "HOME": folder, "MOZ_HEADLESS_WIDTH": "1400", "MOZ_HEADLESS_HEIGHT": "1000"}
+        words = ["firefox", "--headless", "--marionette", "--no-remote", "--remote-allow-system-access", "--profile", folder]
+        environment = {**os.environ, "HOME": folder, "MOZ_HEADLESS_WIDTH": str(WIDTH), "MOZ_HEADLESS_HEIGHT": str(HEIGHT)}
         self.browser = subprocess.Popen(words, stdout=subprocess.DEVNULL, stderr=subprocess.DEVNULL, env=environment)
         place, until = os.path.join(folder, "MarionetteActivePort"), time.monotonic() + SECONDS
         while not os.path.exists(place) or not os.path.getsize(place):
             if time.monotonic() > until or self.browser.poll() is not None:
+                self.browser.kill()
                 raise RuntimeError("Firefox doesn't start")
             time.sleep(0.05)
         with open(place, encoding="ascii") as file:
@@ -122,6 +131,7 @@ class Firefox(Browser):
         self.count = 0
         self.receive()
         self.send("WebDriver:NewSession", {})
+        self.settle()
 
     def receive(self):
         size = b""

@@ -21,7 +21,7 @@ import tempfile
 
 import report
 from pages import is_there, link_cases
-from release import INSTALLED, LIBRARY, NOTES, bytes_of, differs, ended, files_below, pack
+from release import INSTALLED, LIBRARY, NOTES, REPORT, bytes_of, differs, ended, files_below, pack
 from texts import TOP
 
 LIBRARIES = "lib/x86_64-linux-gnu"
@@ -43,7 +43,7 @@ KEPT = {"package-name-doesnt-match-sonames", "link-to-shared-library-in-wrong-pa
 
 def wanted():
     """Returns the files of the package: those of the folders that install.sh names, with a compressed page, and all documents."""
-    names = {it.format("sas") for it in INSTALLED} | {it.format(LIBRARIES) for it in LIBRARY}
+    names = {it.format("sas") for it in INSTALLED | REPORT} | {it.format(LIBRARIES) for it in LIBRARY}
     return {f"usr/{it}" for it in names if not it.startswith("share/man")} | {"usr/share/man/man1/sas.1.gz"} | ADDED
 
 

@@ -30,10 +30,11 @@ import subprocess
 import sys
 import tempfile
 import time
+import types
 
 import report
 import run
-from library import FUSES, LAMPS, differs, ended, is_there, package_in, read
+from library import FUSES, INPUT_TOO_LONG, LAMPS, OUT_OF_MEMORY, differs, ended, is_there, package_in, read, stub_library
 from shown import shown
 from texts import TOP, as_bytes, table
 
@@ -361,14 +362,11 @@ def table_cases(cases, name):
 def stream_tests(_, sas, folder):
     """Yields the cases of program.json about streams by `python -m sas`, each in a process that begins with these. They could show one that
     is closed or full and isn't noticed, and a file that takes its place."""
-    program = os.path.join(folder, "module")
-    path = os.path.dirname(os.path.dirname(sas.__file__))
-    write(program, f"#!/bin/sh\nPYTHONPATH='{path}' exec '{sys.executable}' -B -I -c '{BY_PATH}' '{path}' \"$@\"\n".encode())
-    os.chmod(program, 0o755)
+    command = [sys.executable, "-B", "-I", "-c", BY_PATH, os.path.dirname(os.path.dirname(sas.__file__))]
     empty = tempfile.mkdtemp(dir=folder)
     for case in table("program.json"):
         if case["words"] and any(word in case for word in OF_STREAMS) and not any(word in case for word in OF_PROGRAM):
-            yield f"python -m sas, {case['name']}", run.faults(program, case, empty)
+            yield f"python -m sas, {case['name']}", run.faults(command, case, empty)
 
 
 # `python -m sas`, without what else the environment of Python may have
@@ -479,6 +477,20 @@ def form_tests(sas, folder, rows):
     yield "table of no file", differs((ran.returncode == 3, ran.stdout), (True, line))
 
 
+def fault_tests(_, sas, folder):
+    """Yields commands over a library that only returns a number. They could show a lack of memory that ends a table, and an exit status of
+    an answer where there is none."""
+    stub = stub_library(types.SimpleNamespace(folder=os.path.dirname(os.path.dirname(sas.__file__))), folder)
+    for number, fault in ((OUT_OF_MEMORY, "out of memory"), (INPUT_TOO_LONG, "input too long")):
+        env = {**environment(sas), "LIBSAS": os.path.join(stub, "libsas.so"), "STUB": str(number)}
+        ran = ended(sys.executable, "-m", "sas", "table", *FUSES_FILES, env=env)
+        line = f"{COLUMNS}\n{','.join(FUSES_FILES)},{NO_ANSWER},,,,task: {fault}\n".encode()
+        yield f"a table, {fault}", [] if (ran.returncode, ran.stdout) == (3, line) else [f"{ran}"]
+        for words in (["plan", *FUSES_FILES], ["check", FUSES_FILES[0]], ["steps", FUSES_FILES[1]], ["plans", *FUSES_FILES]):
+            ran = ended(sys.executable, "-m", "sas", *words, env=env)
+            yield f"{words[0]}, {fault}", [] if (ran.returncode, ran.stderr) == (3, f"sas: {fault}\n".encode()) else [f"{ran}"]
+
+
 def interrupt_tests(_, sas, folder):
     """Yields runs that are interrupted, lose a process, or have a reader that ends early, and one on a terminal. They could show a run
     that hangs or leaves processes behind, rows that are lost with others, a traceback, and progress among the rows."""
@@ -563,17 +575,13 @@ def main(words, module):
 
 
 def report_tests(_, sas, folder):
-    """Yields `python -m sas report` where a report is installed in the package, and where none is. They could show words or an exit status
-    that are lost, and a traceback."""
+    """Yields `python -m sas report`, with a module in the place of the command. They could show words or an exit status that are lost."""
     shutil.copytree(os.path.dirname(sas.__file__), os.path.join(folder, "sas"), ignore=shutil.ignore_patterns("report", "__pycache__"))
     env = {**os.environ, "PYTHONPATH": folder, "LIBSAS": importlib.import_module("sas._library")._LIBRARY._name}
-    command = [sys.executable, "-m", "sas", "report", "-o", "page.html"]
-    ran = ended(*command, env=env)
-    yield "no report", [] if (ran.returncode, ran.stderr) == (2, b"python -m sas report: it isn't installed\n") else [f"{ran}"]
     os.mkdir(os.path.join(folder, "sas/report"))
     write(os.path.join(folder, "sas/report/__init__.py"), b"")
     write(os.path.join(folder, "sas/report/command.py"), REPORT.encode())
-    ran = ended(*command, env=env)
+    ran = ended(sys.executable, "-m", "sas", "report", "-o", "page.html", env=env)
     yield "a report", [] if (ran.returncode, ran.stdout) == (7, b"['-o', 'page.html'] True\n") else [f"{ran}"]
 
 
@@ -673,6 +681,7 @@ TESTS = (
     stream_tests,
     command_tests,
     table_tests,
+    fault_tests,
     interrupt_tests,
     report_tests,
     type_tests,

@@ -47,9 +47,10 @@ from sas_text import plan_pieces, task_pieces
 
 SEED = 7
 # random tasks with axioms whose plans have at least so many steps, and the most variables that the page shows at once
-TASKS, STEPS, VARIABLES = 8, 3, 12
-# bounds for 100,000 steps over 5,000 variables, and what was measured on four processors: 2.3 s, 92 MB, 720 kB, 1 s and 0.06 s
-LARGE = {"seconds": 25, "megabytes": 200, "bytes": 1000000, "picture": 15, "key": 1}
+TASKS, STEPS, VARIABLES = 6, 3, 12
+# bounds for 100,000 steps over 5,000 variables, and what was measured: 2 s, 92 MB, 722 kB, 1 s and 0.07 s. The seconds are those of
+# processors, and times in a browser are the best of several, since other tests may run beside this one
+LARGE = {"seconds": 15, "megabytes": 200, "bytes": 1000000, "picture": 15, "key": 1}
 # plans of examples, by short names
 EXAMPLES = {"valid": ("fuses.sas", "fuses.plan"), "short": ("fuses.sas", "fuses-short.plan"), "elevator": ("elevator.sas", "elevator.plan")}
 HARM = "</script><script>document.title='harm'</script><img src=x onerror=\"document.title='harm'\">"
@@ -181,7 +182,8 @@ def statuses(reports):
     expected = (
         ([task, plan, "-o", page, *sas], 0, ""), ([task, short, "-o", page, *sas], 1, ""), ([plan, task, "-o", page, *sas], 1, ""),
         ([task, plan, short, "-o", page, *sas], 1, ""), ([task], 2, "PLAN"), ([], 2, "TASK"), (["-", "-"], 2, "standard input used twice"),
-        ([task, plan, "--other"], 2, "--other"), ([gone, plan, *sas], 3, gone), ([task, gone, *sas], 3, gone), ([folder, plan, *sas], 3, folder),
+        ([task, plan, "--other"], 2, "--other"), ([gone, plan, *sas], 3, gone), ([task, gone, *sas], 3, gone),
+        ([folder, plan, *sas], 3, folder),
         ([task, plan, "-o", os.path.join(gone, "r"), *sas], 3, gone), ([task, plan, "--sas", gone], 3, gone),
         ([task, plan, "-o", "/dev/full", *sas], 3, "No space"), ([task, plan, "--sas", "/bin/false"], 3, "/bin/false"), (["--help"], 0, ""),
     )
@@ -252,7 +254,8 @@ def damaged():
     yield from ((with_line("examples/fuses.sas", line, text), plan) for line, text in ((2, "4"), (9, "x"), (107, "0 6 0 2"), (82, "2")))
     for spoiled in (gzip.compress(task), b"\xef\xbb\xbf" + task, plan, task[:-1], task[:200], task + b"x", b""):
         yield spoiled, plan
-    for spoiled in (task, plan[:-1], plan[:20], plan + b"x", b"; by hand\n" + plan, plan.replace(b"; cost = 4 (unit cost)\n", b""), b"(\n", b"; cost = x\n"):
+    without_cost = plan.replace(b"; cost = 4 (unit cost)\n", b"")
+    for spoiled in (task, plan[:-1], plan[:20], plan + b"x", b"; by hand\n" + plan, without_cost, b"(\n", b"; cost = x\n"):
         yield task, spoiled
 
 
@@ -260,8 +263,9 @@ def answers(reports):
     """Returns files with the lines that `plan --why` prints of them, of which each has a form of line that those before lack; and the
     forms that none has."""
     forms = {form: re.compile(re.sub(r"\b[A-Z]+\b", ".+", re.escape(form).replace("PDDL", "pddl"))) for form in FORMS.splitlines()}
-    listed = itertools.chain(why.written_cases(), why.verdict_cases(), why.refused_cases(), why.walked_cases(), itertools.islice(why.random_cases(), 4000))
-    given = ((case["files"]["t.sas"], case["files"]["p.txt"]) for case in listed if case["words"][1] == "--why" and " valid" not in case["output"][:12])
+    kinds = why.written_cases(), why.verdict_cases(), why.refused_cases(), why.walked_cases(), itertools.islice(why.random_cases(), 4000)
+    listed = (case for case in itertools.chain(*kinds) if case["words"][1] == "--why" and case["status"] == 1)
+    given = ((case["files"]["t.sas"], case["files"]["p.txt"]) for case in listed)
     chosen = []
     for task, plan in itertools.chain([example("valid")], damaged(), given):
         task, plan = as_bytes(task), as_bytes(plan)
@@ -309,8 +313,9 @@ FRAMES = "const frame = () => new Promise(requestAnimationFrame);"
 
 def shown_in(browser, path, address=""):
     """Opens a report, and returns how many seconds the first picture took."""
+    if address:  # or the page that is open would stay, and go to the address
+        browser.open("about:blank")
     began = time.monotonic()
-    browser.open("about:blank")
     browser.open(f"file://{urllib.parse.quote(path)}{address}")
     while not browser.run(READY):
         time.sleep(0.02)
@@ -342,7 +347,8 @@ def random_plans():
         task = operated_task(chance)
         steps, cost, _ = walk(chance, task)
         if any(layer is not None for layer in task["layers"]) and len(steps) >= STEPS and len(task["ranges"]) <= VARIABLES:
-            plans = [steps, *([*steps[:place], "no step", *steps[place:]] for place in range(len(steps))), *(steps[:place] for place in range(len(steps)))]
+            places = range(len(steps))
+            plans = [steps, *([*steps[:place], "no step", *steps[place:]] for place in places), *(steps[:place] for place in places)]
             yield task_text({**task, "goal": [(0, 0)]}).encode("latin-1"), [plan_text(plan, cost).encode("latin-1") for plan in plans]
             count += 1
 
@@ -369,7 +375,8 @@ def states(browser, reports):
             *lines, _ = reports.printed(["trace"], paths[0], path)
             expected = named_states(lines)
             count += len(expected)
-            wrong += differs(page, plan[:len(expected)], expected) + [f"{page}: {state}" for state in plan[len(expected):] if state != expected[-1]]
+            wrong += differs(page, plan[:len(expected)], expected)
+            wrong += [f"{page}: {state} before a step that fails" for state in plan[len(expected):] if state != expected[-1]]
     return wrong + ([] if count > 100 else [f"only {count} states"])
 
 
@@ -410,13 +417,16 @@ def hostile(browser, reports):
     wrong += differs("elements", browser.run("return document.querySelectorAll('img, b:not(header b, output b), iframe').length"), 0)
     wrong += differs("scripts", browser.run("return document.scripts.length"), 2)
     seen = browser.run("return document.body.innerText")
-    wrong += [f"{name!r} isn't shown" for name in (HARM, "&lt;b&gt;", "a\\xe2\\x80\\xaeb\\xe2\\x81\\xa6c", "\\x1b[31mred", "\\xff\\xfe not text") if name not in seen]
+    names = HARM, "&lt;b&gt;", "a\\xe2\\x80\\xaeb\\xe2\\x81\\xa6c", "\\x1b[31mred", "\\xff\\xfe not text"
+    wrong += [f"{name!r} isn't shown" for name in names if name not in seen]
     wrong += [f"{ord(c):x} is shown" for c in sorted(set(seen)) if not c.isprintable() and c not in "\n\t"]
-    loaded = """return new Promise(resolve => { const it = new Image(); it.onload = () => resolve("loaded"); it.onerror = () => resolve("blocked");
+    loaded = """return new Promise(resolve => {
+        const it = Object.assign(new Image(), {onload: () => resolve("loaded"), onerror: () => resolve("blocked")});
         it.src = "data:image/gif;base64,R0lGODlhAQABAAAAACwAAAAAAQABAAA="; })"""
     wrong += differs("an image", browser.run(loaded), "blocked")
     sets = "try { document.getElementById('trouble').innerHTML = '<i>x</i>'; return 'set'; } catch (fault) { return 'blocked'; }"
-    written = browser.run("const it = document.createElement('script'); it.append('document.title = 1'); document.body.append(it); return document.title")
+    adds = "const it = document.createElement('script'); it.append('document.title = 1'); document.body.append(it); return document.title"
+    written = browser.run(adds)
     return wrong + differs("markup", browser.run(sets), "blocked") + differs("another script", written[:1], "✕")
 
 
@@ -429,8 +439,8 @@ def keys(browser, reports):
     page, _ = reports.page(*example("elevator"))
     shown_in(browser, page)
     wrong = differs("at first", heading(browser), "Step 1 up f0 f1")
-    for pressed, expected in (("ArrowRight", "Step 2"), ("End", "Step 6"), ("ArrowRight", "Step 6"), ("ArrowLeft", "Step 5"), ("PageUp", "Initial"),
-                              ("PageDown", "Step 6"), ("Home", "Initial")):
+    for pressed, expected in (("ArrowRight", "Step 2"), ("End", "Step 6"), ("ArrowRight", "Step 6"), ("ArrowLeft", "Step 5"),
+                              ("PageUp", "Initial"), ("PageDown", "Step 6"), ("Home", "Initial")):
         browser.press(pressed)
         wrong += [] if heading(browser).startswith(expected) else [f"{pressed}: {heading(browser)}"]
     wrong += differs("cost", text(browser, "#spent"), "0 of 7")
@@ -457,7 +467,8 @@ def keys(browser, reports):
 
 def choose(browser, name, value):
     """Sets a field, as typing or choosing does."""
-    script = """const it = document.getElementById(arguments[0]); if (it.type === "checkbox") it.checked = arguments[1]; else it.value = arguments[1];
+    script = """const it = document.getElementById(arguments[0]);
+        it[it.type === "checkbox" ? "checked" : "value"] = arguments[1];
         it.dispatchEvent(new Event("input", {bubbles: true}))"""
     browser.run(script, name, value)
 
@@ -495,7 +506,8 @@ def pointer(browser, reports):
     shown_in(browser, page)
     wrong, places = [], {}
     for name in ("grid", "cost"):
-        places[name] = browser.run("const it = document.getElementById(arguments[0]).getBoundingClientRect(); return [it.left, it.top, it.width]", name)
+        place = "const it = document.getElementById(arguments[0]).getBoundingClientRect(); return [it.left, it.top, it.width]"
+        places[name] = browser.run(place, name)
     browser.click(places["grid"][0] + 255, places["grid"][1] + 60)
     wrong += differs("the first column", heading(browser), "Initial state")
     right = places["cost"][0] + places["cost"][2] - 160
@@ -519,11 +531,14 @@ def several(browser, reports):
     shown_in(browser, page)
     wrong = differs("status", status, 1)
     rows = browser.run("return [...document.querySelectorAll('#listed tr')].map(row => [...row.cells].map(cell => cell.textContent))")
-    wrong += differs("the list", rows, [["a.plan", "✓ plan valid: 4 steps, cost 4", "4", "4"], ["b.plan", "✕ plan invalid: step 2: not applicable", "3", "–"],
-                                        ["c.plan", "✕ plan invalid: step 4: not applicable", "4", "–"], ["d.plan", "! plan refused: line 1: keyword", "–", "–"]])
+    wrong += differs("the list", rows, [
+        ["a.plan", "✓ plan valid: 4 steps, cost 4", "4", "4"], ["b.plan", "✕ plan invalid: step 2: not applicable", "3", "–"],
+        ["c.plan", "✕ plan invalid: step 4: not applicable", "4", "–"], ["d.plan", "! plan refused: line 1: keyword", "–", "–"]])
     wrong += differs("where they part", text(browser, "#parts"), "They part at step 2. Steps at the end that are the same: 2.")
-    pairs = "return [...document.querySelectorAll('#compared .row')].map(row => [...row.children].map(cell => cell.innerText.replace(/\\s+/g, ' ').trim()))"
-    wrong += differs("side by side", browser.run(pairs), [["1 take f1", "1 take f1"], ["2 put f1 link", ""], ["3 take f2", "2 take f2"], ["4 put f2 feed", "3 put f2 feed"]])
+    pairs = """return [...document.querySelectorAll("#compared .row")].map(
+        row => [...row.children].map(cell => cell.innerText.replace(/\\s+/g, " ").trim()))"""
+    steps = [["1 take f1", "1 take f1"], ["2 put f1 link", ""], ["3 take f2", "2 take f2"], ["4 put f2 feed", "3 put f2 feed"]]
+    wrong += differs("side by side", browser.run(pairs), steps)
     browser.run("const it = document.getElementById('other'); it.value = 2; it.dispatchEvent(new Event('change'))")
     wrong += differs("another pair", text(browser, "#parts"), "They part at step 4.")
     for address, verdict in (("#plan-2", rows[1][1][2:]), ("#plan-4", rows[3][1][2:]), ("#plan-1-step-3", rows[0][1][2:])):
@@ -555,7 +570,8 @@ def edges(browser, reports):
         browser.press("ArrowRight", "f", "End", "f", "+", "Home")
         wrong += differs(f"{name}: after keys", heading(browser), "Initial state")
     if isinstance(browser, Chromium):  # its scripts see the classes of the page
-        sums = "return String(new Run({moves: [[0]], operators: [[0, 2147483647, '', []]], initial: [], variables: [], goal: []}, {steps: Array(5e6).fill(0), rest: [], answer: []}, []).cost[5e6])"
+        sums = """const task = {moves: [[0]], operators: [[0, 2147483647, "", []]], initial: [], variables: [], goal: []};
+            return String(new Run(task, {steps: Array(5e6).fill(0), rest: [], answer: []}, []).cost[5e6])"""
         wrong += differs("a sum of costs", browser.run(sums), str(5000000 * (2**31 - 1)))
     return wrong
 
@@ -572,7 +588,15 @@ def paper(browser, reports):
     browser.run("document.getElementById('steps').parentElement.style.maxHeight = '90px'; return document.body.offsetHeight")
     count = "return document.querySelectorAll('#steps .row').length"
     browser.run("dispatchEvent(new Event('beforeprint'))")
-    wrong += differs("steps on paper", browser.run(count), 7) + differs("the colour of paper", browser.run("return getComputedStyle(document.documentElement).getPropertyValue('--card').trim()"), "#ffffff")
+    card = "return getComputedStyle(document.documentElement).getPropertyValue('--card').trim()"
+    wrong += differs("steps on paper", browser.run(count), 7) + differs("the colour of paper", browser.run(card), "#ffffff")
+    if isinstance(browser, Chromium):
+        browser.request("POST", "/goog/cdp/execute", {"cmd": "Emulation.setEmulatedMedia", "params": {"media": "print"}})
+        looks = """return ["#find", "#steps .row"].map(it => getComputedStyle(document.querySelector(it)))
+            .map(it => it.display + " " + it.position)"""
+        wrong += differs("the style of paper", browser.run(looks), ["none static", "flex static"])
+        browser.request("POST", "/goog/cdp/execute", {"cmd": "Emulation.setEmulatedMedia", "params": {"media": ""}})
+        browser.darken(True)
     browser.run("dispatchEvent(new Event('afterprint'))")
     wrong += differs("afterwards", browser.run(light), dark)
     wrong += [] if browser.printed().startswith(b"%PDF") else ["nothing is printed"]
@@ -588,31 +612,31 @@ def large_files():
 
 
 def large_report(reports):
-    """A large report is made in time, with little memory, and is small."""
+    """A large report takes little processor time and memory, and is small."""
     task, plan = reports.files(*large_files())
-    page, began = os.path.join(os.path.dirname(task), "report.html"), time.monotonic()
+    page = os.path.join(os.path.dirname(task), "report.html")
     process = subprocess.Popen([*reports.command, task, plan, "-o", page, "--sas", reports.sas])
     _, status, used = os.wait4(process.pid, 0)
-    seconds = time.monotonic() - began
-    found = {"seconds": seconds, "megabytes": used.ru_maxrss / 1024, "bytes": os.path.getsize(page)}
+    found = {"seconds": used.ru_utime + used.ru_stime, "megabytes": used.ru_maxrss / 1024, "bytes": os.path.getsize(page)}
     print("large report:", ", ".join(f"{value:.0f} {name}" if value > 9 else f"{value:.1f} {name}" for name, value in found.items()))
     reports.large = page
-    return differs("status", os.waitstatus_to_exitcode(status), 0) + [f"{value} {name}" for name, value in found.items() if value > LARGE[name]]
+    wrong = differs("status", os.waitstatus_to_exitcode(status), 0)
+    return wrong + [f"{value} {name}" for name, value in found.items() if value > LARGE[name]]
 
 
 def large_page(browser, reports):
     """A large page is there soon, and follows keys. It can be scrolled to its last step at any scale."""
-    first = shown_in(browser, reports.large)
+    first = min(shown_in(browser, reports.large, "#step-1") for _ in range(3))
     timed = f"""{PRESS} {FRAMES} return (async () => {{
-        const took = [];
-        for (const key of ["ArrowRight", "End", "ArrowLeft", "PageUp", "f", "ArrowRight", "f", ..."+".repeat(32), "Home", "End"]) {{
+        const slowest = {{}};
+        for (const key of ["ArrowRight", "End", "ArrowLeft", "PageUp", "ArrowLeft", "PageUp", "f", "ArrowRight", "f", ..."+".repeat(32), "Home", "End", "Home", "End"]) {{
           await frame();
           const began = performance.now();
           press(key);
           await frame();
-          took.push(performance.now() - began);
+          slowest[key] = Math.min(slowest[key] ?? Infinity, performance.now() - began);
         }}
-        return Math.max(...took) / 1000; }})()"""
+        return Math.max(...Object.values(slowest)) / 1000; }})()"""
     key = browser.run(timed)
     print(f"large page in {type(browser).__name__}: first picture {first:.1f} s, the slowest key {key:.2f} s")
     wrong = [f"the first picture took {first} s"] * (first > LARGE["picture"]) + [f"a key took {key} s"] * (key > LARGE["key"])
@@ -620,7 +644,8 @@ def large_page(browser, reports):
     last = browser.run("return [...document.querySelectorAll('#steps .row')].pop().innerText.split(/\\s/)[0]")
     rows = browser.run("return document.querySelectorAll('#steps .row').length")
     wrong += differs("the last row", last, "100,000") + [f"{rows} rows"] * (rows > 200)
-    box = browser.run("const it = document.getElementById('grid'), box = it.getBoundingClientRect(); return [box.left, box.top, it.clientWidth, it.scrollWidth]")
+    box = browser.run("""const it = document.getElementById("grid"), box = it.getBoundingClientRect();
+        return [box.left, box.top, it.clientWidth, it.scrollWidth]""")
     browser.click(box[0] + box[2] - 160, box[1] + 60)
     wrong += differs("the column at the right end", heading(browser).split(" ")[1], "100,000")
     browser.run("document.getElementById('grid').scrollLeft = arguments[0]", box[3] // 2)
@@ -657,7 +682,6 @@ def main():
         for kind in (Chromium, Firefox):
             if all(map(is_there, kind.NEEDS)):
                 with tempfile.TemporaryDirectory(ignore_cleanup_errors=True) as profile, contextlib.closing(kind(profile)) as browser:
-                    browser.resize(1400, 1143)
                     tried(lines_in, browser, reports, chosen)
                     for test in IN_BROWSER:
                         tried(test, browser, reports)

@@ -96,7 +96,8 @@ def main(processors=str(os.cpu_count()), platform=proving.NATIVE):
     link(compiler, platform, new)
     for name in BESIDE:
         shutil.copy(f"{HERE}/{name}", new)
-    shutil.copytree(f"{HERE}/python/sas", f"{new}/sas", ignore=shutil.ignore_patterns("__pycache__"))
+    for source, to in ((f"{HERE}/python/sas", "sas"), (f"{TOP}/report", "sas/report")):
+        shutil.copytree(source, f"{new}/{to}", ignore=shutil.ignore_patterns("__pycache__", "sas-report"))
     shutil.rmtree(out, ignore_errors=True)
     os.rename(new, out)
     shown = os.path.relpath(out, TOP)

@@ -40,6 +40,7 @@ Architecture: {architecture}
 Maintainer: {maintainer}
 Installed-Size: {size}
 Depends: libc6 (>= {c_library})
+Recommends: python3
 Section: science
 Priority: optional
 Description: proved validator of task files and plans of Fast Downward

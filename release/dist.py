@@ -136,8 +136,7 @@ C library of the machine.
 def names(platform):
     """Returns the names of what is packed, each with its path: no file that the repository doesn't know, but for what was built."""
     known = printed("git", "ls-files", "-z")
-    found = [it for pattern in PACKED for it in glob.glob(pattern, root_dir=TOP)]
-    found = [it for it in found if os.path.isfile(f"{TOP}/{it}") or os.path.islink(f"{TOP}/{it}")]
+    found = [it for pattern in PACKED for it in glob.glob(pattern, root_dir=TOP) if os.path.isfile(f"{TOP}/{it}")]
     found = [it for it in found if it not in [f"docs/{name}.md" for name in OF_SOURCE]]
     found = {it: f"{TOP}/{it}" for it in found if known is None or it in known.split("\0")}
     library = TOP + ("/library/out" if platform == proving.NATIVE else f"/library/out-{platform}")
@@ -147,7 +146,7 @@ def names(platform):
 
 def released(name, path):
     """Returns what a release holds of a file under a name."""
-    held = b"" if os.path.islink(path) else bytes_of(path)
+    held = bytes_of(path)
     return ONLY_SOURCE.sub(b"", held) if name.endswith(".md") else held
 
 

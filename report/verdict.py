@@ -7,7 +7,7 @@ from .task import lines, text
 SENTENCES = (
     (r"plan valid: .*", "Every step can be carried out, the goal holds at the end, and the cost on the plan’s last line is right."),
     (r"plan invalid: step (\d+): no op.*", "The task has no operator with the name of step {0}. Later steps weren’t judged."),
-    (r"plan invalid: step (\d+): not .*", "Step {0} requires something that doesn’t hold when its turn comes. Later steps weren’t judged."),
+    (r"plan invalid: step (\d+): not .*", "Step {0} requires what doesn’t hold when its turn comes. Later steps weren’t judged."),
     (r"plan invalid: step (\d+): conf.*", "Step {0} would set a variable to two values at once. Later steps weren’t judged."),
     (r"plan invalid: goal .*", "Every step can be carried out, but the goal doesn’t hold at the end."),
     (r"plan invalid: cost is (\d+), not (\d+)", "The steps reach the goal. They cost {0}, but the plan’s last line says {1}."),
@@ -55,11 +55,12 @@ def article(number, label, task_name, answer, refused, numbers):
     verdict, *reasons = answer
     printed = reasons[:LONGEST] + ["  .."] * (len(reasons) > LONGEST)
     why = '<pre class="printed">%s</pre>' % html.escape("\n".join(printed)) if reasons else ""
-    pairs = ["".join("<div><dt>%s</dt><dd>%s</dd></div>" % (label, format(it, ",")) for label, it in group.items()) for group in numbers if group]
-    lists = "".join('<dl class="numbers">%s</dl>' % group for group in pairs)
+    pair = "<div><dt>%s</dt><dd>%s</dd></div>"
+    groups = ["".join(pair % (label, format(number, ",")) for label, number in group.items()) for group in numbers if group]
+    lists = "".join('<dl class="numbers">%s</dl>' % group for group in groups)
     return """<article id="plan-%d" class="%s">
 <header><div class="sign" aria-hidden="true">%s</div><div class="lead"><p class="files">%s for %s</p><h1>%s</h1><p>%s</p></div>%s</header>
 <section class="why" aria-label="Why">%s%s</section>
 </article>
-""" % (number, kind(verdict), SIGNS[kind(verdict)], bdi(label), bdi(task_name), html.escape(verdict), html.escape(sentence(verdict)), lists, why,
-       "" if refused is None else excerpt(refused, answer))
+""" % (number, kind(verdict), SIGNS[kind(verdict)], bdi(label), bdi(task_name), html.escape(verdict), html.escape(sentence(verdict)),
+       lists, why, "" if refused is None else excerpt(refused, answer))

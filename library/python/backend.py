@@ -10,6 +10,7 @@ import zipfile
 
 HERE = os.path.dirname(os.path.abspath(__file__))
 PACKAGE = os.path.join(HERE, "sas")
+REPORT = os.path.join(os.path.dirname(os.path.dirname(HERE)), "report")
 LIBRARY = os.path.join(os.path.dirname(HERE), "out/libsas.so")
 PROGRAM = os.path.join(os.path.dirname(os.path.dirname(HERE)), "sas")
 # the number of a processor in the header of a file that it executes, and its name in the tag of a wheel
@@ -39,11 +40,16 @@ def named(text, name):
     return re.search(rf'^{name} = "(.*)"$', text.decode(), re.MULTILINE)[1]
 
 
-def package_files():
-    """Returns the files of the package, and the library in it."""
-    paths = (os.path.join(folder, name) for folder, _, names in os.walk(PACKAGE, followlinks=True) for name in names)
+def files_below(folder, to):
+    """Returns the files below a folder, each by its name in the wheel below another one."""
+    paths = (os.path.join(at, name) for at, _, names in os.walk(folder) for name in names)
     kept = sorted(path for path in paths if "__pycache__" not in path)
-    return {**{os.path.relpath(path, HERE): content_of(path) for path in kept}, "sas/libsas.so": content_of(LIBRARY)}
+    return {os.path.join(to, os.path.relpath(path, folder)): content_of(path) for path in kept}
+
+
+def package_files():
+    """Returns the files of the package, and in it those of reports and the library."""
+    return {**files_below(PACKAGE, "sas"), **files_below(REPORT, "sas/report"), "sas/libsas.so": content_of(LIBRARY)}
 
 
 def written(wheel_directory, files):

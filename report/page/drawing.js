@@ -25,10 +25,7 @@ class Picture {
     return g.createPattern(canvas, "repeat");
   }
 
-  layout() {
-    this.drawn = "";
-    this.grid.layout(this.run.total + 1, this.run.goal.size ? 132 : 12);
-  }
+  layout() { this.drawn = ""; this.grid.layout(this.run.total + 1, this.run.goal.size ? 132 : 12); }
 
   draw() {
     const { grid, box } = this, [w, h] = [box.clientWidth, box.clientHeight];
@@ -65,10 +62,7 @@ class Picture {
   font(g, size, weight = 400, style = "") { g.font = `${style} ${weight} ${size}px ${this.family}`; }
 
   // Fills a rectangle with a colour, or a pattern.
-  fill(g, colour, x, y, w, h) {
-    g.fillStyle = this.colours[colour] || colour;
-    g.fillRect(x, y, w, h);
-  }
+  fill(g, colour, x, y, w, h) { g.fillStyle = this.colours[colour] || colour; g.fillRect(x, y, w, h); }
 
   // Writes as much of a text as there is room for, if that is two letters or more.
   write(g, colour, text, x, y, room) {
@@ -195,7 +189,7 @@ class Picture {
 
   // The cost of the whole plan. It is the map of the timeline, with a frame around what is in view.
   drawMap() {
-    const { grid, run } = this, g = this.sheet(this.map, this.map.clientWidth, MAP), span = grid.across.room, base = MAP - 9;
+    const { grid, run } = this, g = this.sheet(this.map, this.box.clientWidth, MAP), span = grid.across.room, base = MAP - 9;
     const most = Number(run.cost[run.judged]) || 1, x = t => grid.labels + t / (run.total + 1) * span;
     const y = t => base - Number(run.cost[t]) / most * (base - 16), points = Math.min(run.judged, Math.ceil(span));
     g.beginPath();

@@ -18,15 +18,12 @@ class Side {
   get least() { return this.room / this.count; }
 
   measure(fixed, count) { Object.assign(this, { fixed, count, room: Math.max(1, this.box[this.client] - fixed) }); }
-
-  layout() {
-    this.spacer.style[this.style] = Math.min(this.length, LONGEST) + this.fixed + "px";
-    this.to(this.offset);
-  }
+  layout() { this.spacer.style[this.style] = Math.min(this.length, LONGEST) + this.fixed + "px"; this.to(this.offset); }
 
   to(offset) {
     this.offset = clamp(offset, 0, this.most);
-    this.box[this.scroll] = this.offset / this.scale;
+    const place = this.offset / this.scale;
+    if (Math.abs(this.box[this.scroll] - place) >= 1) this.box[this.scroll] = place;  // else the reader may be scrolling
     this.seen = this.box[this.scroll];
   }
 

@@ -23,7 +23,7 @@ class Page {
   // Shows the plan and the step of the address.
   follow() {
     clearTimeout(this.noting);
-    const [, plan, step] = /^#(?:plan-(\d+)-?)?(?:step-(\d+))?$/.exec(location.hash) || [], i = plan ? plan - 1 : this.overview ? -1 : 0;
+    const [, plan = 0, step] = /^#(?:plan-(\d+)-?)?(?:step-(\d+))?$/.exec(location.hash) || [], i = this.overview ? plan - 1 : 0;
     const run = this.runs[i], isPlan = i in this.runs;
     get("plans").hidden = isPlan;
     get("back").hidden = !this.overview || !isPlan;
@@ -47,10 +47,7 @@ class Page {
     if (run.failing && this.picture.grid.wide < 12) this.zoom(WIDEST);
   }
 
-  layout() {
-    this.picture.layout();
-    this.draw();
-  }
+  layout() { this.picture.layout(); this.draw(); }
 
   draw() {
     if (!this.isDue) requestAnimationFrame(() => { this.isDue = false; this.picture.draw(); });
@@ -166,5 +163,4 @@ class Page {
   }
 }
 
-unpacked(get("data").textContent).then(data => new Page(data))
-  .catch(fault => get("trouble").append("This browser can’t show the timeline: " + fault));
+unpacked(get("data").textContent).then(data => new Page(data)).catch(fault => get("trouble").append("No timeline: " + fault));

@@ -16,7 +16,8 @@ const linkTo = (address, ...children) => Object.assign(make("a", "", ...children
 class List {
   // `render` returns the row of an item. `box` needs a height of its own.
   constructor(box, render) {
-    Object.assign(this, { box, render, count: 0, isPrinted: false, space: make("div", "space") });
+    Object.assign(this, { box, render, count: 0, isPrinted: false, space: make("div", "") });
+    this.space.role = "presentation";
     box.append(this.space);
     this.side = Object.assign(new Side(box, this.space, false), { size: ROW });
     box.addEventListener("scroll", () => { this.side.read(); this.draw(); });

@@ -1,5 +1,5 @@
 -- Operators are reported as a valid plan exactly if they are one.
-use Rattle.sas_c.proofs.Imports.{◌≡◌, ℕ, List, ap, sym, subst, ◌∙◌, inl, inr, Option, Some, None, same_Some, IfSome, Parts, IsLayered, Output, Status, Yes, No, Returns, HeadlineByNumbers, ReturnsByNumbers, SolvesByNumbers, NumbersOut, NumbersAnswer, number_fault_words, invalid_line, numbers_have_no_fault, other_words, invalid_line_apart}
+use Rattle.sas_c.proofs.Imports.{◌≡◌, ℕ, List, take, ap, sym, subst, ◌∙◌, inl, inr, Option, Some, None, same_Some, IfSome, Parts, IsLayered, Output, Status, Yes, No, Returns, HeadlineByNumbers, ReturnsByNumbers, SolvesByNumbers, NumbersOut, NumbersAnswer, number_fault_words, invalid_line, numbers_have_no_fault, other_words, invalid_line_apart}
 
 module _ (p : Parts) (operators : List ℕ) (cost : ℕ) (layered : IsLayered p) where
   headline_of : (o : Output) → NumbersAnswer p operators cost o → HeadlineByNumbers p operators cost o.text o.status
@@ -27,7 +27,7 @@ module _ (p : Parts) (operators : List ℕ) (cost : ℕ) (layered : IsLayered p)
   returned before room size number t = λ status is.
       let (o, (answer, answers, same), its, long, text) = t.answer status is in
       let answered = subst (NumbersAnswer p operators cost) (sym (same_Some o answer same)) answers in
-      subst (λ (s : Status). HeadlineByNumbers p operators cost _ s) its
+      subst (λ (s : Status). HeadlineByNumbers p operators cost (take size room) s) its
       (subst (λ (xs : List ℕ). HeadlineByNumbers p operators cost xs o.status) (sym text) (headline_of o answered))
 
 -- of the task that is held

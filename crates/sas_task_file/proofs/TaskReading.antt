@@ -42,9 +42,11 @@ module _ (line : List ℕ) (words : List (List ℕ)) (parted : words ≡ segment
 pub fact_taken : (f : Fact) (bytes rest : List ℕ) → FactAhead bytes f 32 rest → TakesFact (segments 32 bytes) f (segments 32 rest)
 fact_taken f bytes rest (fits, before) =
     let behind = decimal f.value ++ 32 ∷ rest in
-    let both : bytes ≡ decimal f.var ++ 32 ∷ behind = before ∙ append_assoc (decimal f.var) (32 ∷ decimal f.value) (32 ∷ rest) in
-    (fits, ap (segments 32) both ∙ words-first (decimal f.var) behind (NoSpace-number f.var fits.0)
-    ∙ ap (λ words. decimal f.var ∷ words) (words-first (decimal f.value) rest (NoSpace-number f.value fits.1)))
+    let both : bytes ≡ decimal f.var ++ 32 ∷ behind = before ∙ append_assoc (decimal f.var) (32 ∷ decimal f.value) (32 ∷ rest) in (
+      fits,
+      ap (segments 32) both ∙ words-first (decimal f.var) behind (NoSpace-number f.var fits.0)
+          ∙ ap (λ words. decimal f.var ∷ words) (words-first (decimal f.value) rest (NoSpace-number f.value fits.1)),
+    )
 
 facts_more : (fs : List Fact) (f : Fact) (rest : List (List ℕ)) → flat_map fact_words (fs ++ f ∷ []) ++ rest ≡ flat_map fact_words fs ++ (fact_words f ++ rest)
 facts_more [] f rest = refl

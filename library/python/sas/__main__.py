@@ -10,6 +10,7 @@ The exit status is 0 for yes, 1 for no, 2 for invalid arguments or this help, 3 
 from __future__ import annotations
 
 import importlib
+import importlib.util
 import sys
 from typing import Sequence
 
@@ -24,8 +25,12 @@ def main(words: Sequence[str]) -> int:
         return run(command, rest)
     if command == "table":
         return int(importlib.import_module("sas._table").main(rest))
-    if command == "report":
+    # the report isn't in a checkout, but in what is built of it
+    if command == "report" and importlib.util.find_spec("sas.report"):
         return int(importlib.import_module("sas.report.command").main(list(rest), importlib.import_module("sas")))
+    if command == "report":
+        write_error("python -m sas report: it isn't installed")
+        return INVALID_ARGUMENTS
     write_error(f"sas {__version__}" if command == "--version" else str(__doc__).rstrip())
     return INVALID_ARGUMENTS
 
