@@ -341,23 +341,32 @@ def lines_in(browser, reports, chosen):
 
 
 def random_plans():
-    """Yields tasks with axioms, each with a plan and the same plan spoiled at each step."""
+    """Yields tasks with axioms, each with a plan, and that plan with a step that fails in each place."""
     chance, count = random.Random(SEED), 0
     while count < TASKS:
         task = operated_task(chance)
         steps, cost, _ = walk(chance, task)
         if any(layer is not None for layer in task["layers"]) and len(steps) >= STEPS and len(task["ranges"]) <= VARIABLES:
-            places = range(len(steps))
-            plans = [steps, *([*steps[:place], "no step", *steps[place:]] for place in places), *(steps[:place] for place in places)]
+            plans = [steps, *([*steps[:place], "no step", *steps[place:]] for place in range(len(steps)))]
             yield task_text({**task, "goal": [(0, 0)]}).encode("latin-1"), [plan_text(plan, cost).encode("latin-1") for plan in plans]
             count += 1
+
+
+@functools.lru_cache(None)
+def random_pages(reports):
+    """Returns pages of these, and for each plan the states of its trace."""
+    pages = []
+    for task, plans in random_plans():
+        paths = reports.files(task, *plans)
+        traces = [reports.printed(["trace"], paths[0], path)[:-1] for path in paths[1:]]
+        pages.append((reports.page(task, *plans)[0], [named_states(lines) for lines in traces]))
+    return pages
 
 
 def states(browser, reports):
     """The state that the page shows after each step is that of `sas trace`, for plans that fail at each step."""
     wrong, count = [], 0
-    for task, plans in random_plans():
-        page, _ = reports.page(task, *plans)
+    for page, expected in random_pages(reports):
         shown_in(browser, page)
         found = browser.run(f"""{PRESS} return (async () => {{
             const out = [];
@@ -365,18 +374,15 @@ def states(browser, reports):
               const changed = new Promise(resolve => addEventListener("hashchange", resolve, {{once: true}}));
               location.hash = `#plan-${{plan}}-step-0`;
               await changed;
-              const states = [], total = +document.querySelector("#steps .row").getAttribute("aria-setsize") - 1;
+              const states = [], total = +document.querySelector("#steps .row").ariaSetSize - 1;
               for (let t = 0; t <= total; t++, press("ArrowRight")) states.push({STATE});
               out.push(states);
             }}
-            return out; }})()""", len(plans))
-        paths = reports.files(task, *plans)
-        for plan, path in zip(found, paths[1:]):
-            *lines, _ = reports.printed(["trace"], paths[0], path)
-            expected = named_states(lines)
-            count += len(expected)
-            wrong += differs(page, plan[:len(expected)], expected)
-            wrong += [f"{page}: {state} before a step that fails" for state in plan[len(expected):] if state != expected[-1]]
+            return out; }})()""", len(expected))
+        for plan, states_of_plan in zip(found, expected):
+            count += len(states_of_plan)
+            wrong += differs(page, plan[:len(states_of_plan)], states_of_plan)
+            wrong += [f"{page}: {state} where no step went through" for state in plan[len(states_of_plan):] if state != states_of_plan[-1]]
     return wrong + ([] if count > 100 else [f"only {count} states"])
 
 
@@ -629,7 +635,8 @@ def large_page(browser, reports):
     first = min(shown_in(browser, reports.large, "#step-1") for _ in range(3))
     timed = f"""{PRESS} {FRAMES} return (async () => {{
         const slowest = {{}};
-        for (const key of ["ArrowRight", "End", "ArrowLeft", "PageUp", "ArrowLeft", "PageUp", "f", "ArrowRight", "f", ..."+".repeat(32), "Home", "End", "Home", "End"]) {{
+        for (const key of [..."ArrowRight End ArrowLeft PageUp ArrowLeft PageUp f ArrowRight f".split(" "), ..."+".repeat(32), "Home", "End",
+                           "Home", "End"]) {{
           await frame();
           const began = performance.now();
           press(key);
