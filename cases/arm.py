@@ -11,8 +11,8 @@ aarch64-linux-gnu-gcc and its C library build, and qemu-aarch64-static runs. Whe
 second isn't, nothing is run; a line that begins with `skipped` says so. Two crates are proved again, in two to three minutes each, and what
 is run takes some minutes of a processor.
 
-Each test that fails has a line, and the last line is 'N passed, M failed'. The exit status is 0 where none failed. No proof sees the code in
-C that stands beside the crates there, nor what the toolchain and the cross compiler make of them.
+Each test that fails has a line, and the last line is 'N passed, M failed'. The exit status is 0 where none failed. No proof sees the code
+in C that stands beside the crates there, nor what the toolchain and the cross compiler make of them.
 """
 import os
 import shutil

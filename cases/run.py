@@ -264,8 +264,8 @@ def output_device(case, folder):
 
 
 def command_of(program, case, folder):
-    """Returns the words of the program with those of the case, and what closes its streams and sets its limits before it, where there is any of
-    that."""
+    """Returns the words of the program with those of the case, and what closes its streams and sets its limits before it, where
+    there is any of that."""
     words = [*program, *(as_bytes(word.replace("FOLDER", folder)) for word in case["words"])]
     # the shell needs some files itself to close a stream
     before = [CLOSING[name] for name in case.get("closed", ())]

@@ -7,8 +7,8 @@ and its SHA-256.
 FOLDER and PLATFORM are those of dist.py, which packs the release. The program is linked from the same object, but with the C library of
 the system, as Debian wants it. The package depends on the version of that library which the program and libsas.so ask for.
 
-`dpkg-deb`, `readelf` and `strip` have to be there. The same files at the same commit, with the same compilers and the same `dpkg-deb`, give the
-same bytes.
+`dpkg-deb`, `readelf` and `strip` have to be there. The same files at the same commit, with the same compilers and the same `dpkg-deb`,
+give the same bytes.
 """
 import gzip
 import hashlib
