@@ -9,6 +9,7 @@ line that begins with `without`.
 
 No proof knows these packages. One that names a file that isn't there, or lacks one, would be found here alone.
 """
+import contextlib
 import glob
 import io
 import os
@@ -176,13 +177,13 @@ def pip_tests(top, place):
         yield from environment_tests(top, os.path.join(place, f"environment of {name}"), f"pip, {name}", words)
     bare, none = os.path.join(place, "bare/python"), os.path.join(place, "none")
     shutil.copytree(source, bare, ignore=shutil.ignore_patterns("__pycache__"))
-    for words in ((bare,), ("-e", bare)):
+    for form, words in (("a folder", (bare,)), ("-e", ("-e", bare))):
         status, said = ended(sys.executable, *PIP_INSTALL, "--target", none, *words)
         lines = [it.strip() for it in said.splitlines()]
         line = f"run make lib first: there is no {os.path.join(place, 'bare/out/libsas.so')}"
         well = status and line in lines and "Traceback" not in said
-        yield f"pip, without the library, {words[0]}", [] if well else [f"status {status}: {said}"]
-        yield f"pip, without the library, {words[0]}, nothing is installed", os.listdir(none) if os.path.isdir(none) else []
+        yield f"pip, without the library, {form}", [] if well else [f"status {status}: {said}"]
+        yield f"pip, without the library, {form}, nothing is installed", os.listdir(none) if os.path.isdir(none) else []
 
 
 def wheel_tests(top, place):
@@ -200,8 +201,8 @@ def wheel_tests(top, place):
     version = re.search('^__version__ = "(.*)"$', text_of(os.path.join(top, "library/python/sas/__init__.py")), re.MULTILINE)[1]
     about, program = f"sas-{version}.dist-info", f"sas-{version}.data/scripts/sas"
     yield "pip wheel, its name", [] if held[0][0] == f"sas-{version}-py3-none-linux_{platform.machine()}.whl" else [held[0][0]]
-    package = files_below(os.path.join(top, "library/python/sas"))
-    expected = package | {"sas/libsas.so", *(f"{about}/{it}" for it in ("METADATA", "WHEEL", "RECORD"))}
+    package = files_below(os.path.join(top, "library/python/sas"), "sas") | files_below(os.path.join(top, "report"), "sas/report")
+    expected = package - {"sas/report/sas-report"} | {"sas/libsas.so", *(f"{about}/{it}" for it in ("METADATA", "WHEEL", "RECORD"))}
     built = os.path.exists(os.path.join(top, "sas"))
     yield "pip wheel, its files", sorted(set(files) ^ (expected | {program} if built else expected))
     library, command = bytes_of(top, "library/out/libsas.so"), bytes_of(top, "sas") if built else None
@@ -212,11 +213,10 @@ def wheel_tests(top, place):
     yield "pip wheel, METADATA", [] if lines.encode() in files[f"{about}/METADATA"] else [f"{files[f'{about}/METADATA']}"]
 
 
-def files_below(folder):
-    """Returns the files of a package, by their names in a wheel."""
-    above = os.path.dirname(folder)
-    paths = (os.path.join(at, it) for at, _, names in os.walk(folder, followlinks=True) for it in names)
-    return {os.path.relpath(path, above) for path in paths if "__pycache__" not in path}
+def files_below(folder, to):
+    """Returns the files below a folder, by their names in a wheel, below another one."""
+    paths = (os.path.join(at, it) for at, _, names in os.walk(folder) for it in names)
+    return {os.path.join(to, os.path.relpath(path, folder)) for path in paths if "__pycache__" not in path}
 
 
 def environment_tests(top, folder, name, words):
@@ -238,6 +238,14 @@ def environment_tests(top, folder, name, words):
     for command in commands:
         got = ended(*command, "plan", *files, **more)
         yield f"{name}, {os.path.basename(command[0])}", [] if got == (0, "plan valid: 4 steps, cost 4\n") else [f"{got}"]
+    page = os.path.join(folder, "page.html")
+    status, said = ended(python, "-m", "sas", "report", "-o", page, *files, **more)
+    # the package of a checkout has no report
+    expected = (2, "python -m sas report: it isn't installed\n") if "-e" in words else (0, "")
+    well = (status, said) == expected and ("-e" in words or b"plan valid: 4 steps, cost 4" in bytes_of(page))
+    yield f"{name}, a report", [] if well else [f"{status}, {said}"]
+    with contextlib.suppress(FileNotFoundError):
+        os.remove(page)
     yield f"{name}, removed", wrong(python, *PIP, "uninstall", "-q", "-y", "sas")
     yield f"{name}, nothing is left", [] if sorted(os.walk(folder)) == before else ["files are left"]
 

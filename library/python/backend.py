@@ -43,7 +43,8 @@ def named(text, name):
 def files_below(folder, to):
     """Returns the files below a folder, each by its name in the wheel below another one."""
     paths = (os.path.join(at, name) for at, _, names in os.walk(folder) for name in names)
-    kept = sorted(path for path in paths if "__pycache__" not in path)
+    # a checkout has a script beside the report, which is `python -m sas report` in a wheel
+    kept = sorted(path for path in paths if "__pycache__" not in path and not path.endswith("/sas-report"))
     return {os.path.join(to, os.path.relpath(path, folder)): content_of(path) for path in kept}
 
 
