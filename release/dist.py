@@ -45,6 +45,7 @@ PACKED = (
     "man/sas.1",
     "completions/*",
     "docs/*.md",
+    "docs/report.png",
     "examples/*",
     "library/examples/*",
     "library/python/*.*",
