@@ -173,7 +173,7 @@ def pip_tests(top, place):
         return
     yield from wheel_tests(top, place)
     source = os.path.join(top, "library/python")
-    for name, words in (("a wheel", glob.glob(os.path.join(place, "first/*.whl"))), ("a folder", [source]), ("-e", ["-e", source])):
+    for name, words in (("a wheel", glob.glob(os.path.join(place, "wheel/*.whl"))), ("a folder", [source]), ("-e", ["-e", source])):
         yield from environment_tests(top, os.path.join(place, f"environment of {name}"), f"pip, {name}", words)
     bare, none = os.path.join(place, "bare/python"), os.path.join(place, "none")
     shutil.copytree(source, bare, ignore=shutil.ignore_patterns("__pycache__"))
@@ -189,10 +189,10 @@ def pip_tests(top, place):
 def wheel_tests(top, place):
     """Yields the wheel, made twice."""
     held = []
-    for name in ("first", "second"):
+    for name in ("wheel", "same wheel"):
         folder = os.path.join(place, name)
         words = ["wheel", "-q", "--no-index", "-w", folder, os.path.join(top, "library/python")]
-        yield f"pip wheel, {name}", wrong(sys.executable, *PIP, *words)
+        yield f"pip wheel, into {name}", wrong(sys.executable, *PIP, *words)
         held += [(it, bytes_of(folder, it)) for it in os.listdir(folder)]
     yield "pip wheel, the same bytes twice", [] if len(held) == 2 and held[0] == held[1] else [f"{[name for name, _ in held]}"]
     with zipfile.ZipFile(io.BytesIO(held[0][1])) as wheel:
