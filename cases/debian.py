@@ -44,7 +44,8 @@ KEPT = {"package-name-doesnt-match-sonames", "link-to-shared-library-in-wrong-pa
 def wanted():
     """Returns the files of the package: those of the folders that install.sh names, with a compressed page, and all documents."""
     names = {it.format("sas") for it in INSTALLED | REPORT} | {it.format(LIBRARIES) for it in LIBRARY}
-    return {f"usr/{it}" for it in names if not it.startswith("share/man")} | {"usr/share/man/man1/sas.1.gz"} | ADDED
+    pages = {f"usr/share/man/man1/{it}.1.gz" for it in ("sas", "sas-report")}
+    return {f"usr/{it}" for it in names if not it.startswith("share/man")} | pages | ADDED
 
 
 def entries_of(path):

@@ -10,6 +10,7 @@ the system, as Debian wants it. The package depends on the version of that libra
 `dpkg-deb`, `readelf` and `strip` have to be there. The same files at the same commit, with the same compilers and the same `dpkg-deb`,
 give the same bytes.
 """
+import glob
 import gzip
 import hashlib
 import io
@@ -93,13 +94,13 @@ def install(platform, root, place):
 
 
 def fit(root, about, moment, strip):
-    """Makes what is below a folder fit for Debian: what dpkg notes itself is left out, the page is compressed, the library has no names
-    for debuggers, and there are the licence and the changes."""
+    """Makes what is below a folder fit for Debian: what dpkg notes itself is left out, pages are compressed, the library has no names for
+    debuggers, and there are the licence and the changes."""
     os.remove(f"{root}/{DOCUMENTS}/INSTALLED")
-    page = f"{root}/usr/share/man/man1/sas.1"
+    for page in glob.glob(f"{root}/usr/share/man/man1/*.1"):
+        write(f"{page}.gz", gzip.compress(dist.bytes_of(page), mtime=0))
+        os.remove(page)
     changes = CHANGES.format(date=formatdate(moment), **about).encode()
-    write(f"{page}.gz", gzip.compress(dist.bytes_of(page), mtime=0))
-    os.remove(page)
     write(f"{root}/{DOCUMENTS}/changelog.gz", gzip.compress(changes, mtime=0))
     write(f"{root}/{DOCUMENTS}/copyright", COPYRIGHT)
     library, = (it for it in files_below(root) if ".so." in it)

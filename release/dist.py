@@ -42,7 +42,7 @@ PACKED = (
     "install.sh",
     "README.md",
     "CHANGELOG.md",
-    "man/sas.1",
+    "man/*.1",
     "completions/*",
     "docs/*.md",
     "docs/report.png",
