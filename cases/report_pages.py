@@ -47,7 +47,7 @@ from sas_text import plan_pieces, task_pieces
 
 SEED = 7
 # random tasks with axioms whose plans have at least so many steps, and the most variables that the page shows at once
-TASKS, STEPS, VARIABLES = 6, 3, 12
+TASKS, STEPS, VARIABLES = 8, 3, 12
 # bounds for 100,000 steps over 5,000 variables, and what was measured: 2 s, 92 MB, 722 kB, 1 s and 0.07 s. The seconds are those of
 # processors, and times in a browser are the best of several, since other tests may run beside this one
 LARGE = {"seconds": 15, "megabytes": 200, "bytes": 1000000, "picture": 20, "key": 3}
