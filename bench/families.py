@@ -24,6 +24,7 @@ from idle import Below, Layers, Unruled
 from make import made_input
 from names import Names
 from tables import Tables
+from wide import Timed
 
 TIMES = (1, 4)
 
@@ -45,6 +46,7 @@ FAMILIES = [
     Family("effects beside a group", "mutex", Effects, 5000),
     Family("effects and no group", "mutex", Ungrouped, 5000),
     Family("names that end alike", "plan", Names, 10000, 1),
+    Family("effects with many conditions", "check", Timed, 300),
 ]
 
 
