@@ -105,9 +105,9 @@ enum sas_number sas_task_trace(sas_task *task, const uint8_t *plan, size_t plan_
                                uint8_t *room, size_t room_length, size_t *size);
 
 /* Whether these operators, in this order, solve the task that is held at this cost. `operators` has `count` numbers,
-   from 0 in the order of the task file. No name is looked up, so operators of one name are told apart. The answer is a
-   line that fits in SAS_LINE_ROOM bytes: one of those of sas_task_plan, or `plan invalid: step S: no operator of that
-   number`. The task is still held in any case. If no task is held, the call returns SAS_NO_TASK. */
+   from 0 in the order of the task file. No name is looked up: of several operators with one name, the number says
+   which. The answer is a line that fits in SAS_LINE_ROOM bytes: one of those of sas_task_plan, or `plan invalid: step S:
+   no operator of that number`. The task is still held in any case. If no task is held, the call returns SAS_NO_TASK. */
 enum sas_number sas_task_plan_operators(sas_task *task, const uint32_t *operators, size_t count, uint64_t cost,
                                         uint8_t *room, size_t room_length, size_t *size);
 
