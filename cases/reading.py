@@ -3,10 +3,11 @@
 
     python3 cases/reading.py crates/sas_run/specs/Plans.antt   prints these files, each with its number of lines without imports and
                                                                empty ones
-    python3 cases/reading.py                                   tests that docs/READING.md names, in each section, the files in bold and
-                                                               exactly those that they rest on, with their numbers of lines; that the
-                                                               sum that it gives for `plan valid` is theirs; and that what it quotes of
-                                                               a file stands there, but for comments
+    python3 cases/reading.py                                   tests that docs/READING.md, and after it docs/PROMISES.md, name in each
+                                                               section the files in bold and exactly those that they rest on, with
+                                                               their numbers of lines; that the sum that READING.md gives for `plan
+                                                               valid` is theirs; and that what it quotes of a file stands there, but
+                                                               for comments
 """
 import os
 import re
@@ -15,22 +16,22 @@ import sys
 import report
 
 TOP = os.path.dirname(os.path.dirname(os.path.abspath(__file__)))
-READING = f"{TOP}/docs/READING.md"
+PAGES = ("docs/READING.md", "docs/PROMISES.md")
 STARTS = 13
 # what rests on this file has to be believed for `plan valid`, in at most so many lines
 THEOREM, MOST = "crates/sas_requests/specs/Headline.antt", 560
-# a heading of READING.md; a file that the page names; one with its number of lines; one in bold, with which a section starts
+# a heading of a page; a file that the page names; one with its number of lines; one in bold, with which a section starts
 HEADING = re.compile(r"^## (.*)$", re.MULTILINE)
 FILE = re.compile(r"`(crates/[^`]*)`")
 NAMED = re.compile(r"`(crates/\w+/specs/\w+\.antt)`(?:\*\*)? \((\d+)\)")
 START = re.compile(r"\*\*`(crates/[^`]*)`\*\*")
-# what the page quotes of a file, and the number of lines that it gives for `plan valid`
+# what READING.md quotes of a file, and the number of lines that it gives for `plan valid`
 QUOTED = re.compile(r"^```antt (\S+)\n(.*?)^```$", re.MULTILINE | re.DOTALL)
 SUM = re.compile(r"(\d+) for `plan valid`")
 
 
 def text_of(path):
-    """Returns the text of a file of definitions, which is named from the top of the repository."""
+    """Returns the text of a file, which is named from the top of the repository."""
     with open(f"{TOP}/{path}", encoding="utf-8") as file:
         return file.read()
 
@@ -65,7 +66,7 @@ def size(path):
 
 
 def wrong_sections(reading):
-    """Yields the sections of READING.md that name files with which they start, these files, and what is wrong with the files that a
+    """Yields the sections of the pages that name files with which they start, these files, and what is wrong with the files that a
     section names. It need not name what an earlier one names."""
     known = set()
     parts = re.split(HEADING, reading)[1:]
@@ -105,11 +106,10 @@ def main():
             print(f"{lines:4} {path}")
         print(f"{sum(sizes.values()):4} lines in {len(sizes)} files")
         return
-    with open(READING, encoding="utf-8") as file:
-        reading = file.read()
+    reading = "".join(map(text_of, PAGES))
     sections = list(wrong_sections(reading))
     starts = [start for _, found, _ in sections for start in found]
-    cases = [(f"READING.md, {heading}", wrong) for heading, _, wrong in sections]
+    cases = [(f"the files of the section {heading}", wrong) for heading, _, wrong in sections]
     cases.append(("the number of files with which sections start", [] if len(starts) == STARTS else [f"{len(starts)}, not {STARTS}"]))
     quotes = list(wrong_quotes(reading))
     cases += [(f"READING.md, the quote of {path}", wrong) for path, wrong in quotes]
