@@ -10,7 +10,7 @@ from .page import page
 from .task import text
 
 ABOUT = "Shows plans in a browser: writes one HTML file with what sas prints about them, and the plans as a picture."
-STATUSES = ("Exit status: 0 if every plan is valid; 1 if one isn't, or a file is refused; 2 for arguments that aren't understood; "
+STATUSES = ("Exit status: 0 if every plan is valid; 1 if one isn't, or a file is refused; 2 for invalid arguments; "
             "3 if a file or a device fails, or sas can't be run. At 3 the report isn't written, or not in full.")
 
 
