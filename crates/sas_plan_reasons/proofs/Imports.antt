@@ -93,7 +93,7 @@ pub use Rattle.sas_run.proofs.Runs.{some_run, one_run, leads_to_last, last_rests
 pub use Rattle.sas_run.specs.Executions.{Executed, next_name, next_operator, Executes, Advances}
 pub use Rattle.sas_run.specs.Named.{IsNamed}
 pub use Rattle.sas_run.specs.Nameless.{nameless_steps}
-pub use Rattle.sas_run.specs.Plans.{LeadTo, LeadsTo, IsValid}
+pub use Rattle.sas_run.specs.Plans.{LeadFrom, LeadsTo, IsValid}
 pub use Rattle.sas_run.specs.Running.{IsLater, IsLaterIfAny}
 pub use Rattle.sas_run.specs.Runs.{Run, last_state, state_at, StepsSucceed, steps_before, RunEndsWith}
 pub use Rattle.sas_run.specs.Stepping.{ListsChanges}

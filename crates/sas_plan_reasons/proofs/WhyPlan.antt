@@ -1,6 +1,6 @@
 -- The fault of a plan has exactly one list of reasons.
 use Rattle.std.proofs.lemmas.Grind.{common_steps}
-use Rattle.sas_plan_reasons.proofs.Imports.{◌≡◌, ℕ, ◌-◌, ◌<◌, List, [], ◌∷◌, ◌++◌, length, take, refl, sym, ◌∙◌, ap, subst, inl, inr, arith, take-append_seam, filter, count_by, bytes_eq, Operator, Parts, PlanParts, step_at, operator_at, IsLayered, IsSettled, preconditions, places, PlanFault, Memory, NoOperator, NotApplicable, Conflict, GoalMissed, CostDiffers, LeadTo, LeadsTo, ComesTo, IsFaultOf, Line, Run, with_lines, LineThen, LinesOfEach, fails, IsCause, AreFailedPreconditionLines, AreConflictLines, goal_fact_at, AreGoalFactLines, cost_lines, AreCouldBeLines, AreFaultLines, IsWhy, SomeWhy, OneWhy, last_state, StepsSucceed, steps_before, some_run, one_run}
+use Rattle.sas_plan_reasons.proofs.Imports.{◌≡◌, ℕ, ◌-◌, ◌<◌, List, [], ◌∷◌, ◌++◌, length, take, refl, sym, ◌∙◌, ap, subst, inl, inr, arith, take-append_seam, filter, count_by, bytes_eq, Operator, Parts, PlanParts, step_at, operator_at, IsLayered, IsSettled, preconditions, places, PlanFault, Memory, NoOperator, NotApplicable, Conflict, GoalMissed, CostDiffers, LeadFrom, LeadsTo, ComesTo, IsFaultOf, Line, Run, with_lines, LineThen, LinesOfEach, fails, IsCause, AreFailedPreconditionLines, AreConflictLines, goal_fact_at, AreGoalFactLines, cost_lines, AreCouldBeLines, AreFaultLines, IsWhy, SomeWhy, OneWhy, last_state, StepsSucceed, steps_before, some_run, one_run}
 use Rattle.sas_answers.specs.declared.line.Line.TheVariants as line
 use Rattle.sas_plan_reasons.proofs.MayMean.{some_may_mean, one_may_mean}
 use Rattle.sas_plan_reasons.proofs.CauseLines.{some_cause, one_cause}
@@ -80,7 +80,7 @@ one_why p plan fault a b layered x y = x.whole
 -- ---- at least one list
 
 -- steps lead to settled states
-goes_settled : (p : Parts) (s : List ℕ) (names : List (List ℕ)) (operators last : List ℕ) → IsSettled p s → LeadTo p s names operators last → IsSettled p last
+goes_settled : (p : Parts) (s : List ℕ) (names : List (List ℕ)) (operators last : List ℕ) → IsSettled p s → LeadFrom p s names operators last → IsSettled p last
 goes_settled p s [] [] last settled g = subst (IsSettled p) (sym g) settled
 goes_settled p s [] (o ∷ os) last settled g = absurd g
 goes_settled p s (n ∷ ns) [] last settled g = absurd g

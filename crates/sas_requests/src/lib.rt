@@ -73,8 +73,8 @@ pub enum Request {
 /// `Plan` or `Mutex` finds that the task isn't layered, where the plan isn't valid, and where a group isn't shown to be
 /// exclusive. Not to be called with a device that has failed.
 ///
-/// The theorem, `answers`, holds by `EndsRequest.output` for every reader whose bytes are known, such as one over memory. The code is
-/// generic, and so the same for a file, whose bytes aren't; that a file gives what the disk holds is trusted.
+/// By `EndsRequest.output` the clause `answers` says what is written for every reader whose bytes are known, such as one over memory. The
+/// code is generic, and so the same for a file, whose bytes aren't; that a file gives what the disk holds is trusted.
 pub fn run<T: Read, P: Read, W: Write>(
     alloc: Global,
     request: Request,
@@ -151,7 +151,7 @@ pub fn explain<T: Read, P: Read, W: Write>(
 /// before. At `Write` the first bytes of the answer were written, and `written` is their number where that is less than 2^64; at
 /// any other fault nothing was. Not to be called with a device that has failed.
 ///
-/// The theorem, `answers`, is like that of `run`.
+/// The clause `answers` is like that of `run`.
 pub fn trace<T: Read, P: Read, W: Write>(
     alloc: Global,
     task: &mut Watched<T>,

@@ -1,6 +1,6 @@
 -- Steps are executable in at most one way.
 use Rattle.std.proofs.lemmas.Grind.{common_steps}
-use Rattle.sas_run.proofs.Imports.{◌≡◌, ℕ, ◌<◌, List, [], ◌∷◌, ◌++◌, length, refl, sym, ◌∙◌, ap, subst, arith, cases_lt, Parts, operator_at, IsLayered, Step, IsInitial, settled_is_one, step_is_one, IsChosen, LeadTo, LeadsTo, ComesTo}
+use Rattle.sas_run.proofs.Imports.{◌≡◌, ℕ, ◌<◌, List, [], ◌∷◌, ◌++◌, length, refl, sym, ◌∙◌, ap, subst, arith, cases_lt, Parts, operator_at, IsLayered, Step, IsInitial, settled_is_one, step_is_one, IsChosen, LeadFrom, LeadsTo, ComesTo}
 
 -- there is at most one chosen operator
 pub chosen_is_one : (p : Parts) (s name : List ℕ) (a b : ℕ) → IsChosen p s name a → IsChosen p s name b → a ≡ b
@@ -44,7 +44,7 @@ module _ (p : Parts) (layered : IsLayered p) where
       (same, step_is_one p s (operator_at p o) x y layered step (subst (λ k. Step p s (operator_at p k) y) (sym same) step'))
 
   -- the same steps from the same state have the same operators and lead to the same state
-  goes_one_way : (s : List ℕ) (names : List (List ℕ)) (a b x y : List ℕ) → LeadTo p s names a x → LeadTo p s names b y → (a ≡ b) × (x ≡ y)
+  goes_one_way : (s : List ℕ) (names : List (List ℕ)) (a b x y : List ℕ) → LeadFrom p s names a x → LeadFrom p s names b y → (a ≡ b) × (x ≡ y)
   goes_one_way s [] [] [] x y g h = (refl, g ∙ sym h)
   goes_one_way s [] [] (q ∷ b) x y g h = absurd h
   goes_one_way s [] (o ∷ a) b x y g h = absurd g
@@ -52,19 +52,19 @@ module _ (p : Parts) (layered : IsLayered p) where
   goes_one_way s (n ∷ ns) (o ∷ a) [] x y g h = absurd h
   goes_one_way s (n ∷ ns) (o ∷ a) (q ∷ b) x y g h =
       let e = makes_one s n o q g.0 h.0 g.1 h.1 g.2 h.2 in
-      let r = goes_one_way g.0 ns a b x y g.3 (subst (λ z. LeadTo p z ns b y) (sym e.1) h.3) in
+      let r = goes_one_way g.0 ns a b x y g.3 (subst (λ z. LeadFrom p z ns b y) (sym e.1) h.3) in
       (ap (λ k. k ∷ a) e.0 ∙ ap (λ ks. q ∷ ks) r.0, r.1)
 
   -- executable steps have a step at each of their names
   goes_on : (s : List ℕ) (before : List (List ℕ)) (name : List ℕ) (behind : List (List ℕ)) (operators last first there : List ℕ)
-      → LeadTo p s (before ++ name ∷ behind) operators last → LeadTo p s before first there → GoesOn p there name
+      → LeadFrom p s (before ++ name ∷ behind) operators last → LeadFrom p s before first there → GoesOn p there name
   goes_on s [] name behind [] last first there g h = absurd g
   goes_on s [] name behind (o ∷ os) last [] there g h = rw h record { operator = o; chosen = g.1; next = g.0; step = g.2 }
   goes_on s [] name behind (o ∷ os) last (q ∷ qs) there g h = absurd h
   goes_on s (b ∷ bs) name behind [] last first there g h = absurd g
   goes_on s (b ∷ bs) name behind (o ∷ os) last [] there g h = absurd h
   goes_on s (b ∷ bs) name behind (o ∷ os) last (q ∷ qs) there g h =
-      goes_on g.0 bs name behind os last qs there g.3 (subst (λ z. LeadTo p z bs qs there) (sym (makes_one s b o q g.0 h.0 g.1 h.1 g.2 h.2).1) h.3)
+      goes_on g.0 bs name behind os last qs there g.3 (subst (λ z. LeadFrom p z bs qs there) (sym (makes_one s b o q g.0 h.0 g.1 h.1 g.2 h.2).1) h.3)
 
   pub initial_is_one : (a b : List ℕ) → IsInitial p a → IsInitial p b → a ≡ b
   initial_is_one a b x y = settled_is_one p p.init a b layered x y
@@ -73,13 +73,13 @@ module _ (p : Parts) (layered : IsLayered p) where
   pub leads_one_way : (steps : List (List ℕ)) (a b x y : List ℕ) → LeadsTo p steps a x → LeadsTo p steps b y → (a ≡ b) × (x ≡ y)
   leads_one_way steps a b x y g h =
       goes_one_way g.initial steps a b x y g.goes
-      (subst (λ z. LeadTo p z steps b y) (initial_is_one h.initial g.initial h.starts g.starts) h.goes)
+      (subst (λ z. LeadFrom p z steps b y) (initial_is_one h.initial g.initial h.starts g.starts) h.goes)
 
   pub leads_on : (before : List (List ℕ)) (name : List ℕ) (behind : List (List ℕ)) (operators last first there : List ℕ)
       → LeadsTo p (before ++ name ∷ behind) operators last → LeadsTo p before first there → GoesOn p there name
   leads_on before name behind operators last first there g h =
       goes_on g.initial before name behind operators last first there g.goes
-      (subst (λ z. LeadTo p z before first there) (initial_is_one h.initial g.initial h.starts g.starts) h.goes)
+      (subst (λ z. LeadFrom p z before first there) (initial_is_one h.initial g.initial h.starts g.starts) h.goes)
 
   -- executable steps from the initial state have a step at each of their names
   pub comes_on : (steps : List (List ℕ)) (step : ℕ) (s name operators last : List ℕ) → LeadsTo p steps operators last → ComesTo p steps step s name → GoesOn p s name

@@ -1,8 +1,8 @@
 -- One more step succeeds or fails.
-use Rattle.sas_run.proofs.Imports.{◌≡◌, ℕ, Result, Err, ◌+◌, ◌<◌, List, [], ◌∷◌, ◌++◌, length, take, drop, get_or, sym, ap, ◌∙◌, arith, take-append-drop, drop_more, common_steps, Parts, LeadTo, LeadsTo, MakesStep}
+use Rattle.sas_run.proofs.Imports.{◌≡◌, ℕ, Result, Err, ◌+◌, ◌<◌, List, [], ◌∷◌, ◌++◌, length, take, drop, get_or, sym, ap, ◌∙◌, arith, take-append-drop, drop_more, common_steps, Parts, LeadFrom, LeadsTo, MakesStep}
 
 pub goes_one_more : (p : Parts) (s : List ℕ) (names : List (List ℕ)) (operators mid : List ℕ) (name : List ℕ) (operator : ℕ) (next : List ℕ)
-    → LeadTo p s names operators mid → MakesStep p mid name operator next → LeadTo p s (names ++ name ∷ []) (operators ++ operator ∷ []) next
+    → LeadFrom p s names operators mid → MakesStep p mid name operator next → LeadFrom p s (names ++ name ∷ []) (operators ++ operator ∷ []) next
 goes_one_more p s [] [] mid name operator next goes on = grind (arith, common_steps)
 goes_one_more p s [] (o ∷ operators) mid name operator next goes on = absurd goes
 goes_one_more p s (n ∷ names) [] mid name operator next goes on = absurd goes

@@ -1,5 +1,5 @@
 -- Operators, by their numbers, go through in at most one way. What they were chosen for.
-use Rattle.sas_run.proofs.Imports.{◌≡◌, ℕ, zero, suc, ◌+◌, ◌<◌, ◌⊎◌, List, [], ◌∷◌, ◌++◌, length, take, get_or, refl, sym, ◌∙◌, ap, subst, inl, inr, arith, cases_eq, take-append_seam, get_or-append_seam, get_or_append_left, length-append, take_all, All, All-nil, All-cons, Operator, Parts, operator_at, IsLayered, Step, IsInitial, step_is_one, IsChosen, LeadTo, LeadsTo, Choice, Found, OperatorsLead, GoThrough, GoesThrough, Makes}
+use Rattle.sas_run.proofs.Imports.{◌≡◌, ℕ, zero, suc, ◌+◌, ◌<◌, ◌⊎◌, List, [], ◌∷◌, ◌++◌, length, take, get_or, refl, sym, ◌∙◌, ap, subst, inl, inr, arith, cases_eq, take-append_seam, get_or-append_seam, get_or_append_left, length-append, take_all, All, All-nil, All-cons, Operator, Parts, operator_at, IsLayered, Step, IsInitial, step_is_one, IsChosen, LeadFrom, LeadsTo, Choice, Found, OperatorsLead, GoThrough, GoesThrough, Makes}
 use Rattle.std.proofs.lemmas.List.{take-append-le}
 use Rattle.sas_run.proofs.Determined.{initial_is_one}
 
@@ -44,7 +44,7 @@ module _ (p : Parts) where
   -- operators that names mean are those of the named steps
   led : (s : List ℕ) (names : List (List ℕ)) (operators last : List ℕ) → length operators ≡ length names
       → ((k : ℕ) (there : List ℕ) → k < length operators → GoThrough p s (take k operators) there → IsChosen p there (get_or names k []) (get_or operators k 0))
-      → GoThrough p s operators last → LeadTo p s names operators last
+      → GoThrough p s operators last → LeadFrom p s names operators last
   led s [] [] last same each goes = goes
   led s [] (o ∷ os) last same each goes = absurd (omega arith)
   led s (n ∷ ns) [] last same each goes = absurd (omega arith)
@@ -63,7 +63,7 @@ module _ (p : Parts) where
 
   -- named steps lead by numbers, too, by steps of any kind that each step is of
   module _ (IsStep : List ℕ → Operator → List ℕ → Type 0) (is : (s : List ℕ) (o : Operator) (next : List ℕ) → Step p s o next → IsStep s o next) where
-    pub led_on : (s : List ℕ) (names : List (List ℕ)) (operators last : List ℕ) → LeadTo p s names operators last → OperatorsLead p IsStep s operators last
+    pub led_on : (s : List ℕ) (names : List (List ℕ)) (operators last : List ℕ) → LeadFrom p s names operators last → OperatorsLead p IsStep s operators last
     led_on s [] [] last goes = goes
     led_on s [] (o ∷ os) last goes = absurd goes
     led_on s (n ∷ ns) [] last goes = absurd goes
@@ -72,7 +72,7 @@ module _ (p : Parts) where
   pub leads_on_numbers : (names : List (List ℕ)) (operators last : List ℕ) → LeadsTo p names operators last → GoesThrough p operators last
   leads_on_numbers names operators last leads = record { initial = leads.initial; starts = leads.starts; goes = led_on (Step p) (λ s o next step. step) leads.initial names operators last leads.goes }
 
-  as_many : (s : List ℕ) (names : List (List ℕ)) (operators last : List ℕ) → LeadTo p s names operators last → length operators ≡ length names
+  as_many : (s : List ℕ) (names : List (List ℕ)) (operators last : List ℕ) → LeadFrom p s names operators last → length operators ≡ length names
   as_many s [] [] last goes = refl
   as_many s [] (o ∷ os) last goes = absurd goes
   as_many s (n ∷ ns) [] last goes = absurd goes
@@ -98,7 +98,7 @@ module _ (p : Parts) where
     goes_one_way operators x y g h = go_one_way g.initial operators x y g.goes (from operators y g.initial g.starts h)
 
     -- each named step means its operator
-    chosen_at : (s : List ℕ) (names : List (List ℕ)) (operators last : List ℕ) (k : ℕ) (there : List ℕ) → LeadTo p s names operators last → k < length operators
+    chosen_at : (s : List ℕ) (names : List (List ℕ)) (operators last : List ℕ) (k : ℕ) (there : List ℕ) → LeadFrom p s names operators last → k < length operators
         → GoThrough p s (take k operators) there → IsChosen p there (get_or names k []) (get_or operators k 0)
     chosen_at s [] [] last k there leads lt goes = absurd (omega arith)
     chosen_at s [] (o ∷ os) last k there leads lt goes = absurd leads

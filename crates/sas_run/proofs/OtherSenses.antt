@@ -1,10 +1,10 @@
 -- A valid plan is valid in the usual sense, and in Fast Downward's search.
-use Rattle.sas_run.proofs.Imports.{◌≡◌, ℕ, List, [], ◌∷◌, sym, ◌∙◌, subst, AllZip, Parts, PlanParts, operator_at, IsLayered, FastDownwardStep, step_there, is_one_there, IsNamed, LeadTo, IsValid, OperatorsLead, ValidIsUsuallyValid, ValidInFastDownward, EndsInFastDownward}
+use Rattle.sas_run.proofs.Imports.{◌≡◌, ℕ, List, [], ◌∷◌, sym, ◌∙◌, subst, AllZip, Parts, PlanParts, operator_at, IsLayered, FastDownwardStep, step_there, is_one_there, IsNamed, LeadFrom, IsValid, OperatorsLead, ValidIsUsuallyValid, ValidInFastDownward, EndsInFastDownward}
 use Rattle.sas_run.proofs.Determined.{initial_is_one}
 use Rattle.sas_run.proofs.GoingByNumbers.{led_on, leads_on_numbers}
 
 -- the operators of executable steps have their names
-named : (p : Parts) (s : List ℕ) (names : List (List ℕ)) (operators last : List ℕ) → LeadTo p s names operators last → AllZip (IsNamed p) names operators
+named : (p : Parts) (s : List ℕ) (names : List (List ℕ)) (operators last : List ℕ) → LeadFrom p s names operators last → AllZip (IsNamed p) names operators
 named p s [] [] last goes = tt
 named p s [] (operator ∷ operators) last goes = absurd goes
 named p s (name ∷ names) [] last goes = absurd goes

@@ -1,8 +1,8 @@
 -- All states of a plan's execution are reachable, and so settled states of the task.
-use Rattle.sas_run.proofs.Imports.{ℕ, ◌<◌, List, [], ◌∷◌, length, sym, subst, All, All-nil, All-cons, Contains-get_or, Parts, operator_at, IsState, Reachable, Initial, Next, IsSettled, LeadTo, LeadsTo, LeadsToReachable, LastIsReachable}
+use Rattle.sas_run.proofs.Imports.{ℕ, ◌<◌, List, [], ◌∷◌, length, sym, subst, All, All-nil, All-cons, Contains-get_or, Parts, operator_at, IsState, Reachable, Initial, Next, IsSettled, LeadFrom, LeadsTo, LeadsToReachable, LastIsReachable}
 
 -- from a reachable state steps lead to reachable ones
-go_on : (p : Parts) (s : List ℕ) (names : List (List ℕ)) (operators last : List ℕ) → Reachable p s → LeadTo p s names operators last
+go_on : (p : Parts) (s : List ℕ) (names : List (List ℕ)) (operators last : List ℕ) → Reachable p s → LeadFrom p s names operators last
     → Reachable p last
 go_on p s [] [] last reach goes = subst (Reachable p) (sym goes) reach
 go_on p s [] (operator ∷ operators) last reach goes = absurd goes
@@ -26,7 +26,7 @@ pub leads_to_rest : (p : Parts) (steps : List (List ℕ)) (operators last : List
 leads_to_rest p steps operators last leads = rests p last (leads_to_reachable p steps operators last leads)
 
 -- the operators of executable steps exist
-goes_by : (p : Parts) (s : List ℕ) (names : List (List ℕ)) (operators last : List ℕ) → LeadTo p s names operators last
+goes_by : (p : Parts) (s : List ℕ) (names : List (List ℕ)) (operators last : List ℕ) → LeadFrom p s names operators last
     → All (λ (o : ℕ). o < length p.operators) operators
 goes_by p s [] [] last goes = All-nil (λ (o : ℕ). o < length p.operators)
 goes_by p s [] (operator ∷ operators) last goes = absurd goes

@@ -1,6 +1,6 @@
 -- Executable steps are those of exactly one run. Laws about runs.
 use Rattle.std.proofs.lemmas.Grind.{common_steps}
-use Rattle.sas_run.proofs.Imports.{◌≡◌, ℕ, zero, suc, ◌+◌, ◌-◌, ◌<◌, ◌≤◌, List, [], ◌∷◌, ◌++◌, length, take, get_or, refl, sym, ◌∙◌, ap, subst, arith, All, take-append_seam, get_or-append_seam, same_lists, take_all, take_more, get_or_default, get_or-take, Parts, PlanParts, IsState, IsLayered, IsInitial, IsSettled, LeadTo, LeadsTo, MakesStep, PlanFault, Memory, NoOperator, NotApplicable, Conflict, GoalMissed, CostDiffers, Run, state_at, last_state, StepsSucceed, steps_before, ComesTo, IsFaultOf, SomeRun, OneRun}
+use Rattle.sas_run.proofs.Imports.{◌≡◌, ℕ, zero, suc, ◌+◌, ◌-◌, ◌<◌, ◌≤◌, List, [], ◌∷◌, ◌++◌, length, take, get_or, refl, sym, ◌∙◌, ap, subst, arith, All, take-append_seam, get_or-append_seam, same_lists, take_all, take_more, get_or_default, get_or-take, Parts, PlanParts, IsState, IsLayered, IsInitial, IsSettled, LeadFrom, LeadsTo, MakesStep, PlanFault, Memory, NoOperator, NotApplicable, Conflict, GoalMissed, CostDiffers, Run, state_at, last_state, StepsSucceed, steps_before, ComesTo, IsFaultOf, SomeRun, OneRun}
 use Rattle.sas_run.proofs.Determined.{leads_on, leads_one_way, initial_is_one}
 use Rattle.sas_run.proofs.Going.{leads_one_more, length_of_take}
 use Rattle.sas_run.proofs.PlanStates.{leads_to_rest, leads_by}
@@ -9,11 +9,11 @@ use Rattle.sas_run.proofs.PlanStates.{leads_to_rest, leads_by}
 record Came (p : Parts) (s : List ℕ) (names : List (List ℕ)) (operators last : List ℕ) : Type 0 where
   states : List (List ℕ)
   one_more : length states ≡ length names + 1
-  each : (k : ℕ) → k ≤ length names → LeadTo p s (take k names) (take k operators) (get_or states k [])
+  each : (k : ℕ) → k ≤ length names → LeadFrom p s (take k names) (take k operators) (get_or states k [])
   ends : get_or states (length names) [] ≡ last
   as_many : length operators ≡ length names
 
-came : (p : Parts) (s : List ℕ) (names : List (List ℕ)) (operators last : List ℕ) → LeadTo p s names operators last → Came p s names operators last
+came : (p : Parts) (s : List ℕ) (names : List (List ℕ)) (operators last : List ℕ) → LeadFrom p s names operators last → Came p s names operators last
 came p s [] [] last g = record {
   states = s ∷ [];
   one_more = refl;
@@ -22,7 +22,7 @@ came p s [] [] last g = record {
   as_many = refl;
 }
   where
-    at : (k : ℕ) → k ≡ 0 → LeadTo p s (take k []) (take k []) (get_or (s ∷ []) k [])
+    at : (k : ℕ) → k ≡ 0 → LeadFrom p s (take k []) (take k []) (get_or (s ∷ []) k [])
     at zero e = refl
     at (suc k) e = absurd (omega arith)
 came p s [] (o ∷ os) last g = absurd g
@@ -38,7 +38,7 @@ came p s (n ∷ ns) (o ∷ os) last g = more (came p g.0 ns os last g.3)
       as_many = (let e = c.as_many in omega arith);
     }
       where
-        at : (k : ℕ) → k ≤ length (n ∷ ns) → LeadTo p s (take k (n ∷ ns)) (take k (o ∷ os)) (get_or (s ∷ c.states) k [])
+        at : (k : ℕ) → k ≤ length (n ∷ ns) → LeadFrom p s (take k (n ∷ ns)) (take k (o ∷ os)) (get_or (s ∷ c.states) k [])
         at zero le = refl
         at (suc k) le = (g.0, g.1, g.2, c.each k (omega arith))
 

@@ -28,20 +28,20 @@ pub record IsChosen (p : Parts) (s name : List ℕ) (operator : ℕ) : Type 0 wh
       → IsApplicable s (operator_at p lower) → ⊥
 
 -- the named steps are executable from the state s, by these operators, and lead to the state `last`
-abbrev pub LeadTo : Parts → List ℕ → List (List ℕ) → List ℕ → List ℕ → Type 0
-LeadTo p s [] [] last = last ≡ s
-LeadTo p s (name ∷ names) (operator ∷ operators) last = (next : List ℕ)
+abbrev pub LeadFrom : Parts → List ℕ → List (List ℕ) → List ℕ → List ℕ → Type 0
+LeadFrom p s [] [] last = last ≡ s
+LeadFrom p s (name ∷ names) (operator ∷ operators) last = (next : List ℕ)
     × IsChosen p s name operator
     × Step p s (operator_at p operator) next
-    × LeadTo p next names operators last
-LeadTo p s [] (operator ∷ operators) last = ⊥
-LeadTo p s (name ∷ names) [] last = ⊥
+    × LeadFrom p next names operators last
+LeadFrom p s [] (operator ∷ operators) last = ⊥
+LeadFrom p s (name ∷ names) [] last = ⊥
 
 -- the named steps are executable from the initial state, by these operators, and lead to `last`
 pub record LeadsTo (p : Parts) (steps : List (List ℕ)) (operators last : List ℕ) : Type 0 where
   pub initial : List ℕ
   pub starts : IsInitial p initial
-  pub goes : LeadTo p initial steps operators last
+  pub goes : LeadFrom p initial steps operators last
 
 -- the sum of the operators' costs
 abbrev pub cost_of_all : Parts → List ℕ → ℕ

@@ -1,5 +1,5 @@
 -- What the arguments request.
-use Rattle.std.specs.Prelude.{◌≡◌, ◌≢◌, ◌⊎◌, ℕ, List, codes, ⊤, Option, Some, None}
+use Rattle.std.specs.Prelude.{◌≡◌, ◌≢◌, ◌⊎◌, ℕ, List, [], ◌∷◌, Contains, codes, ⊤, Option, Some, None}
 use Rattle.std.specs.String.{string_bytes}
 use Rattle.sas_requests.specs.declared.Request.{Request}
 use Rattle.sas_requests.specs.declared.Request.TheVariants as request
@@ -30,9 +30,15 @@ abbrev pub name_of : Job → List ℕ
 name_of (Files question task plan) = question_name question
 name_of (Plans task labels) = codes "plans"
 
--- the job requests what has this name; all other names are those of `steps`
-abbrev pub IsNamed : List ℕ → Job → Type 0
-IsNamed name job = (name_of job ≡ name) ⊎ (name_of job ≡ codes "steps")
+-- the names of all requests but `steps`
+abbrev pub other_names : List (List ℕ)
+other_names = codes "plan" ∷ codes "plans" ∷ codes "trace" ∷ codes "mutex" ∷ codes "show"
+    ∷ codes "check" ∷ codes "print" ∷ []
+
+-- the job requests what has this name, or `steps` if no other request has it
+abbrev pub IsRequested : List ℕ → Job → Type 0
+IsRequested name job = (name_of job ≡ name)
+    ⊎ ((name_of job ≡ codes "steps") × (Contains other_names name → ⊥))
 
 -- the job is over plans with these labels, in order
 abbrev pub HasLabels : List (List ℕ) → Job → Type 0

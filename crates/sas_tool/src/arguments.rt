@@ -2,7 +2,7 @@
 ghost use Rattle.std.specs.Prelude.{◌≡◌, [], codes, IfOk};
 ghost use Rattle.std.specs.Option.{option_map_or};
 ghost use Rattle.clap.specs.Words.{first_value, found_of, matched_of, raw_values};
-ghost use Rattle.sas_tool.specs.Jobs.{IsNamed, NamesInputOnce, name_of, question_name, request_name};
+ghost use Rattle.sas_tool.specs.Jobs.{IsRequested, NamesInputOnce, name_of, question_name, request_name};
 ghost use Rattle.sas_tool.specs.Jobs.{HasLabels, IsSource, source_name};
 ghost use Rattle.sas_tool.specs.Labels.{bytes_of_labels};
 
@@ -274,7 +274,7 @@ fn job_of(alloc: Global, matches: &ArgMatches<'_>) -> Result<Job, AllocError> {
 
 /// Returns the job of the request of this name.
 fn job_named(alloc: Global, name: &str, matches: &ArgMatches<'_>) -> Result<Job, AllocError>
-    ensures { IfOk result (IsNamed name.now) }
+    ensures { IfOk result (IsRequested name.now) }
 {
     match name {
         "plan" => job_over_files(alloc, by_flag(Request::Plan, matches), matches),
