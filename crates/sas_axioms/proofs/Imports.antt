@@ -33,7 +33,7 @@ pub use Rattle.sas_meaning.proofs.Forced.{condition_within, Fired, fired_there, 
 pub use Rattle.sas_meaning.proofs.Layers.{looks_down, layer_decides, on_layer_within, given_on}
 pub use Rattle.sas_meaning.proofs.Places.{places_to, places_one_more, places_all, place_is, is_place}
 pub use Rattle.sas_meaning.proofs.Rules.{new_value_is}
-pub use Rattle.sas_meaning.proofs.Settling.{default_off, forced_at_default, settled_when_fired, settled_off, basic_off}
+pub use Rattle.sas_meaning.proofs.Settling.{default_off, forced_at_default, settled_when_fired, settled_where_empty, settled_off, basic_off}
 pub use Rattle.sas_meaning.proofs.Covering.{covers_set, covers_gone, covers_any}
 pub use Rattle.sas_meaning.proofs.Unique.{differs_decides}
 pub use Rattle.sas_meaning.specs.Following.{HaveGone}
@@ -45,10 +45,10 @@ pub use Rattle.sas_meaning.specs.States.{Holds, AllHold}
 pub use Rattle.sas_meaning.specs.ChangedVariables.{AddsTouched, StillCovers}
 pub use Rattle.sas_meaning.specs.declared.changed_variables.ChangedVariables.{ChangedVariables}
 pub use Rattle.sas_axioms.specs.Agenda.{layer_cmp, entry_for, IsOnAgenda, AddsToAgenda, work_left, IsOrdered, IsAwaited, AreBehind, RemovesFromAgenda, IsMadeReady, AreMadeReady, IsEmpty, NoLowerLayer, Lowest}
-pub use Rattle.sas_axioms.specs.ByLayers.{IsIdle, SettlesNext, SettlesLayer}
+pub use Rattle.sas_axioms.specs.ByLayers.{SettlesNext, SettlesLayer}
 pub use Rattle.sas_axioms.specs.Conditions.{asking, waiting_entry, waiting_at, released, occurrences, open_conditions, IsOfRule, entries, IsFullIndex, AreCounted, IsCounted, waits_for, CanCount}
 pub use Rattle.sas_axioms.specs.Following.{NotesMore, IsFollowed, SameWork, CountsTo, SameFrom, ChangesAreNoted, CountsChange, IsOnTrack, IsFalling, IsRising, CountedSoFar, IsBetween, AsksAbout, HasRisen, KeepsRoom}
-pub use Rattle.sas_axioms.specs.LayerRules.{IsRuleOn, AreRulesOn, IsLate, AreFirstRules, AreRulesOf, IsLayerSpan, AreSpans}
+pub use Rattle.sas_axioms.specs.LayerRules.{IsRuleOn, AreRulesOn, AreWaiting, IsLate, AreFirstRules, AreRulesOf, IsLayerSpan}
 pub use Rattle.sas_axioms.specs.Sources.{AreGiven, SameSourcesOff, IsHolding, HaveSources, SourcesHold, IsSourceOf}
 pub use Rattle.sas_axioms.specs.Worklist.{AreCountedBy, value_seen, IsRunning, HaveFired, WorkHasRoom, IsAtWork, WorkGoesOn, FiresRule, LayerBeginsAt, left_to_do}
 pub use Rattle.sas_axioms.specs.declared.agenda.Agenda.{Agenda}
@@ -56,4 +56,3 @@ pub use Rattle.sas_axioms.specs.declared.conditions.ValueChange.{ValueChange}
 pub use Rattle.sas_axioms.specs.declared.conditions.RuleCondition.{RuleCondition}
 pub use Rattle.sas_axioms.specs.declared.firing.Work.{Work}
 pub use Rattle.sas_axioms.specs.declared.layer_rules.LayerRule.{LayerRule}
-pub use Rattle.sas_axioms.specs.declared.layer_rules.LayerSpan.{LayerSpan}

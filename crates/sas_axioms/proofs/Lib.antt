@@ -4,7 +4,6 @@ pub mod OneLayer
 pub mod Groups
 pub mod Standing
 pub mod AllConditions
-pub mod Spans
 pub mod Sources
 pub mod Tracking
 pub mod RuleChanges

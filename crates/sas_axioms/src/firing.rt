@@ -1,5 +1,5 @@
 // Settles one layer by counters: each rule counts its open conditions, and fires when none is left.
-ghost use Rattle.std.specs.Prelude.{◌≡◌, ℕ, ◌<◌, [], ◌∷◌, ◌++◌, List, IfOk, OnOk, slice_index};
+ghost use Rattle.std.specs.Prelude.{◌≡◌, ℕ, ◌<◌, ◌≤◌, [], ◌∷◌, ◌++◌, List, length, All, IfOk, OnOk, IfSome, IfNone, slice_index};
 ghost use Rattle.sas_core.specs.Grounded.{rule_at};
 ghost use Rattle.sas_core.specs.Variables.{IsState};
 ghost use Rattle.sas_meaning.specs.States.{AllHold};
@@ -8,7 +8,8 @@ ghost use Rattle.sas_meaning.specs.Following.{HaveGone};
 ghost use Rattle.sas_meaning.specs.Settled.{SameBasic};
 ghost use Rattle.sas_meaning.specs.ChangedVariables.{StillCovers};
 ghost use Rattle.sas_axioms.specs.ByLayers.{SettlesLayer};
-ghost use Rattle.sas_axioms.specs.LayerRules.{IsRuleOn, AreRulesOn};
+ghost use Rattle.sas_axioms.specs.declared.layer_rules.LayerRule.{LayerRule};
+ghost use Rattle.sas_axioms.specs.LayerRules.{IsRuleOn, AreRulesOn, AreWaiting};
 ghost use Rattle.sas_axioms.specs.Conditions.{AreCounted};
 ghost use Rattle.sas_axioms.specs.Agenda.{IsEmpty};
 ghost use Rattle.sas_axioms.specs.Sources.{AreGiven, SameSourcesOff};
@@ -122,8 +123,25 @@ impl LayerSettler {
         self.work.counters = Items::from_vec(counters);
     }
 
-    /// Settles a layer. All its variables must have their defaults. `rules` are its rules that can fire; those that never fire first may
-    /// be left out.
+    /// Returns the index of the first rule from index `start` on that has no open conditions.
+    pub fn next_ready(&self, rules: &[LayerRule], start: usize) -> Option<usize>
+        requires { All (λ (r : LayerRule). r.rule < length self.now.work.counters) rules.now }
+        ensures some { IfSome result (λ ready. (start ≤ ready) × (ready < length rules.now)
+            × AreWaiting self.now.work.counters rules.now start ready) }
+        ensures none { IfNone result
+            (AreWaiting self.now.work.counters rules.now start (length rules.now)) }
+    {
+        let counters = self.work.counters.as_slice();
+        for index in start..rules.len() {
+            if counters[rules[index].rule as usize] == 0 {
+                return Some(index);
+            }
+        }
+        None
+    }
+
+    /// Settles a layer. All its variables must have their defaults. `rules` are its rules that have no open conditions, and maybe others of
+    /// its rules that can fire.
     pub fn settle_layer<T: Grounded>(
         &mut self,
         layered: &Layered<T>,
@@ -133,7 +151,7 @@ impl LayerSettler {
     )
         requires prepared { IsFiringReady layered.now self.old }
         requires counts { AreCounted layered.now state.old self.old.work.counters }
-        requires rules { AreRulesOn layered.now layer rules.now }
+        requires rules { AreRulesOn layered.now layer self.old.work.counters rules.now }
         requires state { IsState layered.now.variables state.old }
         requires default { AtDefault layered.now layer state.old }
         ensures prepared { IsFiringReady layered.now self.new }
@@ -207,21 +225,19 @@ impl LayerSettler {
     }
 }
 
-/// Fires the rules of the layer that have no open conditions. All variables of the layer must have their defaults, so that none of the
-/// rules that are left out has.
+/// Fires the rules of the layer that have no open conditions. They are among `rules`.
 fn fire_ready<T: Grounded>(
     indexed: &IndexedRules<'_, '_, T>,
     rules: &[LayerRule],
     work: &mut Work,
     state: &mut State,
 )
-    requires rules { AreRulesOn indexed.now work.old.layer rules.now }
+    requires rules { AreRulesOn indexed.now work.old.layer work.old.counters rules.now }
     requires room { WorkHasRoom indexed.now work.old }
     requires running { IsRunning indexed.now work.old.layer state.old work.old.stack.items }
     requires empty { work.old.stack.items ≡ [] }
     requires counts { AreCounted indexed.now state.old work.old.counters }
     requires given { AreGiven indexed.now work.old.layer state.old work.old.sources }
-    requires default { AtDefault indexed.now work.old.layer state.old }
     ensures at_work { IsAtWork indexed.now state.new work.new.stack.items work.new }
     ensures goes_on { WorkGoesOn indexed.now state.old work.old state.new work.new }
 {

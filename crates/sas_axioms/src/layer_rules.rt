@@ -1,6 +1,7 @@
 // The rules that can fire, layer by layer.
-ghost use Rattle.std.specs.Prelude.{◌<◌, ℕ, length, IfOk, IfSome, IfNone, IsTrue};
-ghost use Rattle.sas_axioms.specs.LayerRules.{IsRuleOn, IsLate, AreFirstRules, AreSpans, AreRulesOf};
+ghost use Rattle.std.specs.Prelude.{◌<◌, ◌≤◌, ℕ, length, slice_index_or, IfOk, IfSome, IfNone, IsTrue};
+ghost use Rattle.sas_axioms.specs.declared.layer_rules.LayerRule.{LayerRule};
+ghost use Rattle.sas_axioms.specs.LayerRules.{IsRuleOn, IsLate, AreFirstRules, IsLayerSpan, AreRulesOf};
 
 use sas_core::Grounded;
 use sas_flat::{Entry, Lists};
@@ -87,24 +88,17 @@ pub fn firing_layer<T: Grounded>(layered: &Layered<T>, rule: u32) -> Option<u32>
     task.layer(change.var)
 }
 
-/// A layer in a list of rules, and the index after its last rule.
-#[derive(Clone, Copy, Debug, PartialEq, Eq)]
-pub struct LayerSpan {
-    pub layer: u32,
-    pub end: usize,
-}
-
-/// Returns the layers of the rules, from the lowest to the highest.
-pub fn spans_of(alloc: Global, rules: &[LayerRule]) -> Result<Vec<LayerSpan>, AllocError>
-    ensures { IfOk result (λ spans. AreSpans rules.now 0 spans.items (length rules.now)) }
+/// Returns the index after the last rule of a layer. `start` is the index of a rule on it, and the rules are sorted by their layers.
+pub fn layer_end(rules: &[LayerRule], start: usize) -> usize
+    requires { start < length rules.now }
+    ensures after { start < result }
+    ensures within { result ≤ length rules.now }
+    ensures span { (d : LayerRule)
+        → IsLayerSpan rules.now start (slice_index_or rules.now start d).layer result }
 {
-    let mut spans = Vec::new(alloc);
-    for index in 0..rules.len() {
-        let layer = rules[index].layer;
-        let end = index + 1;
-        if end == rules.len() || rules[end].layer != layer {
-            spans.push(LayerSpan { layer, end })?;
-        }
+    let mut end = start + 1;
+    while end < rules.len() && rules[end].layer == rules[start].layer {
+        end += 1;
     }
-    Ok(spans)
+    end
 }

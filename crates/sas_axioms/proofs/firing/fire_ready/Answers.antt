@@ -1,7 +1,6 @@
 -- One more rule without open conditions has fired.
-use Rattle.sas_axioms.proofs.Imports.{◌≡◌, ℕ, List, length, get_or, refl, sym, subst, ap, ◌∙◌, inl, inr, arith, cases_eq, get_or_default, rule_at, differs_true, LayerRule, IsRuleOn, value_seen, AreCountedBy}
+use Rattle.sas_axioms.proofs.Imports.{◌≡◌, ℕ, List, length, get_or, refl, sym, subst, ap, ◌∙◌, inl, inr, arith, cases_eq, get_or_default, rule_at, differs_true, LayerRule, IsRuleOn}
 use Rattle.sas_axioms.proofs.Counters.{ready, counts_seen, goes_on_still, goes_on_more}
-use Rattle.sas_axioms.proofs.Sources.{late_waits}
 use Rattle.sas_axioms.proofs.firing.fire_ready.Goals as goal
 use Rattle.sas_axioms.proofs.firing.fire_ready.Goals.{then-as_slice-entry-eq0, else-as_slice-entry-eq0}
 
@@ -37,21 +36,17 @@ returns-clause-at_work g c =
     let counters = c.args.work.now.counters in
     let s = c.loop-entry.state in
     let inv = c.loop-entry.invariant in
-    let first : AreCountedBy p (value_seen p c.args.state.now c.args.work.now.stack.items) counters = rw c.requires.empty c.requires.counts.exact in
     record {
       room = inv.room;
       running = rw inv.goes_on.layer inv.running;
       counts = rw inv.same inv.counts;
       given = rw inv.goes_on.layer inv.given;
-      fired = rw (inv.goes_on.layer, inv.same) (λ rule on none. elim (c.requires.rules.each rule on) [
-        | inl there ↦
-            (let entry : LayerRule = record { layer = layer; rule = rule } in
-            let its : (get_or c.args.rules.now there.0 entry).rule ≡ rule = ap (λ (r : LayerRule). r.rule) there.2 in
-            subst (λ k. get_or s (rule_at p k).var 0 ≡ (rule_at p k).new) its
-            (inv.fired there.0 entry (omega (arith, there.1, c.loop-entry-test.false)) (subst (λ k. get_or counters k 0 ≡ 0) (sym its) none)))
-        | inr late ↦ absurd (late_waits p layer rule c.args.state.now (rw c.indexed.view_is at c.indexed.invariant).layered on late c.requires.default
-            (ready p layer c.args.state.now c.args.work.now.stack.items rule (rw c.indexed.view_is at c.indexed.invariant).layered c.requires.running on (sym (first layer rule on) ∙ none)))
-      ]);
+      fired = rw (inv.goes_on.layer, inv.same) (λ rule on none.
+          let there = c.requires.rules.each rule on none in
+          let entry : LayerRule = record { layer = layer; rule = rule } in
+          let its : (get_or c.args.rules.now there.0 entry).rule ≡ rule = ap (λ (r : LayerRule). r.rule) there.2 in
+          subst (λ k. get_or s (rule_at p k).var 0 ≡ (rule_at p k).new) its
+          (inv.fired there.0 entry (omega (arith, there.1, c.loop-entry-test.false)) (subst (λ k. get_or counters k 0 ≡ 0) (sym its) none)));
     }
 
 pub loop-entry-preserved : goal.loop-entry-preserved
