@@ -48,7 +48,7 @@ pub use Rattle.sas_axioms.specs.Agenda.{layer_cmp, entry_for, IsOnAgenda, AddsTo
 pub use Rattle.sas_axioms.specs.ByLayers.{SettlesNext, SettlesLayer}
 pub use Rattle.sas_axioms.specs.Conditions.{asking, waiting_entry, waiting_at, released, occurrences, open_conditions, IsOfRule, entries, IsFullIndex, AreCounted, IsCounted, waits_for, CanCount}
 pub use Rattle.sas_axioms.specs.Following.{NotesMore, IsFollowed, SameWork, CountsTo, SameFrom, ChangesAreNoted, CountsChange, IsOnTrack, IsFalling, IsRising, CountedSoFar, IsBetween, AsksAbout, HasRisen, KeepsRoom}
-pub use Rattle.sas_axioms.specs.LayerRules.{IsRuleOn, AreRulesOn, AreWaiting, IsLate, AreFirstRules, AreRulesOf, IsLayerSpan}
+pub use Rattle.sas_axioms.specs.LayerRules.{IsRuleOn, AreReadyFrom, AreWaiting, layer_at, IsLate, AreFirstRules, AreRulesOf, IsLayerSpan}
 pub use Rattle.sas_axioms.specs.Sources.{AreGiven, SameSourcesOff, IsHolding, HaveSources, SourcesHold, IsSourceOf}
 pub use Rattle.sas_axioms.specs.Worklist.{AreCountedBy, value_seen, IsRunning, HaveFired, WorkHasRoom, IsAtWork, WorkGoesOn, FiresRule, LayerBeginsAt, left_to_do}
 pub use Rattle.sas_axioms.specs.declared.agenda.Agenda.{Agenda}

@@ -1,7 +1,6 @@
 pub mod Layering
 pub mod Counters
 pub mod OneLayer
-pub mod Groups
 pub mod Standing
 pub mod AllConditions
 pub mod Sources

@@ -1,5 +1,5 @@
 -- The rules that can fire, layer by layer.
-use Rattle.std.specs.Prelude.{◌≡◌, ◌⊎◌, ℕ, ◌<◌, ◌≤◌, List, [], length, All, Contains, slice_index, slice_index_or}
+use Rattle.std.specs.Prelude.{◌≡◌, ◌⊎◌, ℕ, ◌<◌, ◌≤◌, List, [], length, All, Contains, drop, slice_index, slice_index_or}
 use Rattle.std.specs.List.Sorted.{IsNonDecreasingBy}
 use Rattle.sas_core.specs.declared.parts.Fact.{Fact}
 use Rattle.sas_core.specs.declared.parts.Parts.{Parts}
@@ -47,12 +47,18 @@ abbrev pub AreWaiting : List ℕ → List LayerRule → ℕ → ℕ → Type 0
 AreWaiting counters rules start end = (place : ℕ) (d : LayerRule) → start ≤ place → place < end
     → 0 < slice_index counters (slice_index_or rules place d).rule
 
--- rules on one layer that can fire, among them all that have no open conditions
-pub record AreRulesOn (p : Parts) (layer : ℕ) (counters : List ℕ) (rules : List LayerRule)
+-- the layer of the rule at an index
+abbrev pub layer_at : List LayerRule → ℕ → ℕ
+layer_at rules place = (slice_index_or rules place (record { layer = 0; rule = 0 })).layer
+
+-- rules that can fire, each with its layer, in ascending order of their layers; from index `start`
+-- on, there are all rules of this layer that have no open conditions
+pub record AreReadyFrom (p : Parts) (start layer : ℕ) (counters : List ℕ) (rules : List LayerRule)
     : Type 0 where
-  pub only : All (λ (r : LayerRule). IsRuleOn p layer r.rule) rules
+  pub only : All (λ (r : LayerRule). IsRuleOn p r.layer r.rule) rules
   pub each : (rule : ℕ) → IsRuleOn p layer rule → slice_index counters rule ≡ 0
-      → Contains rules (record { layer = layer; rule = rule })
+      → Contains (drop start rules) (record { layer = layer; rule = rule })
+  pub ascending : IsNonDecreasingBy (λ (r : LayerRule). r.layer) rules
 
 -- for each variable its rules that can fire, in order
 pub record AreRulesOf (p : Parts) (lists : List (List ℕ)) : Type 0 where

@@ -87,18 +87,3 @@ pub fn firing_layer<T: Grounded>(layered: &Layered<T>, rule: u32) -> Option<u32>
     }
     task.layer(change.var)
 }
-
-/// Returns the index after the last rule of a layer. `start` is the index of a rule on it, and the rules are sorted by their layers.
-pub fn layer_end(rules: &[LayerRule], start: usize) -> usize
-    requires { start < length rules.now }
-    ensures after { start < result }
-    ensures within { result ≤ length rules.now }
-    ensures span { (d : LayerRule)
-        → IsLayerSpan rules.now start (slice_index_or rules.now start d).layer result }
-{
-    let mut end = start + 1;
-    while end < rules.len() && rules[end].layer == rules[start].layer {
-        end += 1;
-    }
-    end
-}

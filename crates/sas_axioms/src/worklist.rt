@@ -8,7 +8,7 @@ ghost use Rattle.sas_axioms.specs.Worklist.{IsReadyFor};
 
 use crate::by_layers::{ByLayers, settle_by_layers};
 use crate::firing::LayerSettler;
-use crate::layer_rules::{LayerRule, first_rules, layer_end};
+use crate::layer_rules::{LayerRule, first_rules};
 use sas_core::{Fact, Grounded};
 use sas_meaning::{ChangedVariables, Layered, Settle, State, derived_variables};
 use std::alloc::{AllocError, Global};
@@ -111,10 +111,7 @@ impl<T: Grounded> ByLayers<T> for Worklist {
         let rules = self.rules.as_slice();
         let ready = self.firing.next_ready(rules, self.next)?;
         let layer = rules[ready].layer;
-        let end = layer_end(rules, ready);
-        self.firing
-            .settle_layer(layered, layer, &rules[ready..end], state);
-        self.next = end;
+        self.next = self.firing.settle_layer(layered, rules, ready, state);
         Some(layer)
     }
 }

@@ -1,10 +1,10 @@
 -- The next layer on which a rule holds.
-use Rattle.sas_axioms.proofs.Imports.{rules, ◌≡◌, ℕ, ◌+◌, ◌≤◌, ◌<◌, length, get_or, ap, arith, LayerRule, SettlesLayer, IsLayerSpan, AreWaiting, IsSettledAt, IsSettled, IsFollowed}
+use Rattle.sas_axioms.proofs.Imports.{rules, ℕ, ◌≤◌, ◌<◌, length, arith, SettlesLayer, IsLayerSpan, AreWaiting, layer_at, IsSettledAt, IsSettled, IsFollowed}
 use Rattle.sas_axioms.proofs.AllCounted.{given_to_next, followed_in_the_end}
-use Rattle.sas_axioms.proofs.Standing.{settled_while_waiting, settled_between, from_on, rules_of_span, stands_behind}
+use Rattle.sas_axioms.proofs.Standing.{settled_while_waiting, settled_between, from_on, ready_from, stands_behind}
 use Rattle.sas_axioms.proofs.worklist.WorklistByLayers.settle_next.Goals as goal
 use Rattle.sas_axioms.proofs.worklist.WorklistByLayers.settle_next.Given.{Over}
-use Rattle.sas_axioms.proofs.worklist.WorklistByLayers.settle_next.Goals.{After-layer_end-end}
+use Rattle.sas_axioms.proofs.worklist.WorklistByLayers.settle_next.Goals.{In_ok-ready}
 
 pub next_ready-requires : goal.next_ready-requires
 next_ready-requires g c = rw c.as_slice-rules.ensures.value (λ k d lt.
@@ -30,66 +30,60 @@ returns-in_err-ready-clause-follows g c =
     c.requires.stands.counts c.requires.stands.given c.requires.default in
     search rules
 
-abbrev no_entry : LayerRule
-no_entry = record { layer = 0; rule = 0 }
-
--- the layer of the rule that is ready
-abbrev layer_of : (g : Over) → After-layer_end-end g → ℕ
-layer_of g c = (get_or c.args.self.now.rules.items c.in_ok-ready.ready no_entry).layer
-
-waiting : (g : Over) (c : After-layer_end-end g) → AreWaiting c.args.self.now.firing.work.counters c.args.self.now.rules.items c.args.self.now.next c.in_ok-ready.ready
+waiting : (g : Over) (c : In_ok-ready g) → AreWaiting c.args.self.now.firing.work.counters c.args.self.now.rules.items c.args.self.now.next c.in_ok-ready.ready
 waiting g c = rw c.as_slice-rules.ensures.value at c.in_ok-ready.ensures.some.2
 
-span : (g : Over) (c : After-layer_end-end g) → IsLayerSpan c.args.self.now.rules.items c.in_ok-ready.ready (layer_of g c) c.layer_end-end.result
-span g c = rw c.as_slice-rules.ensures.value at (c.layer_end-end.ensures.span no_entry)
+within : (g : Over) (c : In_ok-ready g) → c.in_ok-ready.ready < length c.args.self.now.rules.items
+within g c = rw c.as_slice-rules.ensures.value at c.in_ok-ready.ensures.some.1
 
-left : (g : Over) (c : After-layer_end-end g) → c.args._from ≤ layer_of g c
+left : (g : Over) (c : In_ok-ready g) → c.args._from ≤ layer_at c.args.self.now.rules.items c.in_ok-ready.ready
 left g c =
     let stands = c.requires.stands in
     let w = c.args.self.now in
     from_on c.args.layered.now w.rules.items c.args._from w.next stands.ready.rules stands.stands c.args.state.now w.firing.work.counters stands.ready.firing.counted.layered stands.counts
-    c.in_ok-ready.ready (layer_of g c) c.layer_end-end.result c.in_ok-ready.ensures.some.0 (waiting g c) (span g c)
+    c.in_ok-ready.ready c.in_ok-ready.ensures.some.0 (within g c) (waiting g c)
 
-pub settle_layer-requires-clause-rules : goal.settle_layer-requires-clause-rules
-settle_layer-requires-clause-rules g c =
-    let at = (goal.at.settle_layer-requires-clause-rules g c).After-layer_end-end in
+pub settle_layer-self-requires-clause-rules : goal.settle_layer-self-requires-clause-rules
+settle_layer-self-requires-clause-rules g c =
+    let at = (goal.at.settle_layer-self-requires-clause-rules g c).In_ok-ready in
     let stands = c.requires.stands in
     let w = c.args.self.now in
     rw c.as_slice-rules.ensures.value
-    (rules_of_span c.args.layered.now w.rules.items c.args._from w.next stands.ready.rules stands.stands c.args.state.now w.firing.work.counters stands.ready.firing.counted.layered stands.counts
-    c.in_ok-ready.ready (layer_of g at) c.layer_end-end.result c.in_ok-ready.ensures.some.0 (waiting g at) (span g at) (c.requires.default (layer_of g at) (left g at)))
+    (ready_from c.args.layered.now w.rules.items c.args._from w.next stands.ready.rules stands.stands c.args.state.now w.firing.work.counters stands.ready.firing.counted.layered stands.counts
+    c.in_ok-ready.ready c.in_ok-ready.ensures.some.0 (within g at) (waiting g at) (c.requires.default (layer_at w.rules.items c.in_ok-ready.ready) (left g at)))
 
-pub settle_layer-requires-clause-default : goal.settle_layer-requires-clause-default
-settle_layer-requires-clause-default g c =
-    let at = (goal.at.settle_layer-requires-clause-default g c).After-layer_end-end in
-    rw c.as_slice-rules.ensures.value (c.requires.default (layer_of g at) (left g at))
+pub settle_layer-self-requires-clause-default : goal.settle_layer-self-requires-clause-default
+settle_layer-self-requires-clause-default g c =
+    let at = (goal.at.settle_layer-self-requires-clause-default g c).In_ok-ready in
+    rw c.as_slice-rules.ensures.value (c.requires.default (layer_at c.args.self.now.rules.items c.in_ok-ready.ready) (left g at))
 
 pub returns-clause-stands : goal.returns-clause-stands
 returns-clause-stands g c =
-    let at = (goal.at.returns-clause-stands g c).After-layer_end-end in
+    let at = (goal.at.returns-clause-stands g c).In_ok-ready in
     let p = c.args.layered.now in
     let w = c.args.self.now in
     let stands = c.requires.stands in
-    let layer = layer_of g at in
-    let settles : SettlesLayer p layer c.args.state.now c.settle_layer.new.state = rw c.as_slice-rules.ensures.value at c.settle_layer.ensures.settles in
+    let layer = layer_at w.rules.items c.in_ok-ready.ready in
+    let settles : SettlesLayer p layer c.args.state.now c.settle_layer-self.new.state = rw c.as_slice-rules.ensures.value at c.settle_layer-self.ensures.settles in
+    let span : IsLayerSpan w.rules.items c.in_ok-ready.ready layer c.settle_layer-self.result = rw c.as_slice-rules.ensures.value at c.settle_layer-self.ensures.end in
     rw c.as_slice-rules.ensures.value record {
-      ready = record { variables = stands.ready.variables; rules = stands.ready.rules; firing = c.settle_layer.ensures.prepared };
+      ready = record { variables = stands.ready.variables; rules = stands.ready.rules; firing = c.settle_layer-self.ensures.prepared };
       stands = stands_behind p w.rules.items c.args._from w.next stands.ready.rules stands.stands c.args.state.now w.firing.work.counters stands.ready.firing.counted.layered stands.counts
-          c.in_ok-ready.ready layer c.layer_end-end.result c.in_ok-ready.ensures.some.0 (waiting g at) (span g at);
-      given = given_to_next p layer c.args.state.now c.settle_layer.new.state w.firing.work.sources c.settle_layer.new.self.work.sources
-          stands.ready.firing.counted.layered settles.off (rw c.as_slice-rules.ensures.value at c.settle_layer.ensures.sources) (rw c.as_slice-rules.ensures.value at c.settle_layer.ensures.given) stands.given c.requires.default;
-      counts = c.settle_layer.ensures.counts;
+          c.in_ok-ready.ready c.in_ok-ready.ensures.some.0 (within g at) (waiting g at) c.settle_layer-self.result span;
+      given = given_to_next p layer c.args.state.now c.settle_layer-self.new.state w.firing.work.sources c.settle_layer-self.new.self.work.sources
+          stands.ready.firing.counted.layered settles.off (rw c.as_slice-rules.ensures.value at c.settle_layer-self.ensures.sources) (rw c.as_slice-rules.ensures.value at c.settle_layer-self.ensures.given) stands.given c.requires.default;
+      counts = c.settle_layer-self.ensures.counts;
     }
 
 pub returns-clause-settles : goal.returns-clause-settles
 returns-clause-settles g c =
-    let at = (goal.at.returns-clause-settles g c).After-layer_end-end in
+    let at = (goal.at.returns-clause-settles g c).In_ok-ready in
     let p = c.args.layered.now in
     let w = c.args.self.now in
     let stands = c.requires.stands in
     rw c.as_slice-rules.ensures.value record {
       from_on = left g at;
       skipped = λ below le lt. settled_between p w.rules.items c.args._from w.next stands.ready.rules stands.stands c.args.state.now w.firing.work.counters stands.ready.firing.counted.layered stands.counts
-          c.in_ok-ready.ready (layer_of g at) c.layer_end-end.result c.in_ok-ready.ensures.some.0 (waiting g at) (span g at) below le lt (c.requires.default below le);
-      settles = rw c.as_slice-rules.ensures.value at c.settle_layer.ensures.settles;
+          c.in_ok-ready.ready c.in_ok-ready.ensures.some.0 (within g at) (waiting g at) below le lt (c.requires.default below le);
+      settles = rw c.as_slice-rules.ensures.value at c.settle_layer-self.ensures.settles;
     }
