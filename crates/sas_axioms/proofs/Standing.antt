@@ -1,6 +1,6 @@
 -- Where a layer of a worklist begins and ends, and which layers before it are settled.
-use Rattle.sas_axioms.proofs.Imports.{◌≡◌, ◌≢◌, ℕ, ◌+◌, ◌-◌, ◌<◌, ◌≤◌, List, length, get_or, get_or_default, get_or-drop, length-drop, sym, ◌∙◌, ap, inl, inr, arith, cases_lt, Parts, LayerRule, rule_at, IsLayered, IsSettledAt, AtDefault, forced_at_default, AreCounted, IsHolding, IsRuleOn, AreFirstRules, AreWaiting, IsLayerSpan, AreReadyFrom, layer_at, LayerBeginsAt}
-use Rattle.sas_axioms.proofs.Counters.{all_hold_when_none_open, none_open_when_all_hold}
+use Rattle.sas_axioms.proofs.Imports.{◌≡◌, ◌≢◌, ℕ, ◌+◌, ◌-◌, ◌<◌, ◌≤◌, List, length, get_or, get_or_default, get_or-drop, length-drop, sym, ◌∙◌, ap, inl, inr, arith, cases_lt, Parts, LayerRule, rule_at, IsLayered, IsSettledAt, AtDefault, forced_at_default, AreCounted, IsHolding, IsRuleOn, AreFirstRules, AreWaiting, IsLayerSpan, AreReadyFrom, IsReadyAt, layer_at, LayerBeginsAt, Work, value_seen, IsRunning, AreCountedBy, WorkHasRoom, WorkGoesOn, FiresRule, AreGiven, All, subst, cases_eq, differs_true}
+use Rattle.sas_axioms.proofs.Counters.{all_hold_when_none_open, none_open_when_all_hold, counts_seen, goes_on_more}
 use Rattle.sas_axioms.proofs.Sources.{late_waits, settled_when_set}
 
 -- where a rule is among others
@@ -34,6 +34,71 @@ before_end p start layer end counters rules are here le last rule on none =
       ],
       is,
     )
+
+-- the rules of the layer from one index up to another that have no open conditions have fired
+pub record FiringTo (p : Parts) (rules : List LayerRule) (start next : ℕ) (s0 : List ℕ) (w0 : Work) (s : List ℕ) (w : Work) : Type 0 where
+  pub goes_on : WorkGoesOn p s0 w0 s w
+  pub same : w.counters ≡ w0.counters
+  pub given : AreGiven p w0.layer s w.sources
+  pub room : WorkHasRoom p w
+  pub running : IsRunning p w0.layer s w.stack.items
+  pub counts : AreCountedBy p (value_seen p s w.stack.items) w0.counters
+  pub from_start : start ≤ next
+  pub within : next ≤ length rules
+  pub on : (j : ℕ) (d : LayerRule) → start ≤ j → j < next → (get_or rules j d).layer ≡ w0.layer
+  pub fired : (j : ℕ) (d : LayerRule) → start ≤ j → j < next → get_or w0.counters (get_or rules j d).rule 0 ≡ 0
+      → get_or s (rule_at p (get_or rules j d).rule).var 0 ≡ (rule_at p (get_or rules j d).rule).new
+
+module _ (p : Parts) (rules : List LayerRule) (start i : ℕ) (s0 : List ℕ) (w0 : Work) (s : List ℕ) (w : Work) (lt : i < length rules) (to : FiringTo p rules start i s0 w0 s w)
+    (on_layer : layer_at rules i ≡ w0.layer) where
+  same_entry : (j : ℕ) (d : LayerRule) → j ≡ i → get_or rules i (record { layer = 0; rule = 0 }) ≡ get_or rules j d
+  same_entry j d e = get_or_default rules i (record { layer = 0; rule = 0 }) d lt ∙ ap (λ n. get_or rules n d) (sym e)
+
+  on_so_far : (j : ℕ) (d : LayerRule) → start ≤ j → j < i + 1 → (get_or rules j d).layer ≡ w0.layer
+  on_so_far j d ge below = elim (cases_eq j i) [
+    | inl e ↦ ap (λ (r : LayerRule). r.layer) (sym (same_entry j d e)) ∙ on_layer
+    | inr ne ↦ to.on j d ge (omega arith)
+  ]
+
+  -- the next rule of the layer has fired
+  pub one_fired : (s' : List ℕ) (w' : Work) → All (λ (r : LayerRule). IsRuleOn p r.layer r.rule) rules → FiresRule p (get_or rules i (record { layer = 0; rule = 0 })).rule s w s' w' → FiringTo p rules start (i + 1) s0 w0 s' w'
+  one_fired s' w' only f = record {
+    goes_on = goes_on_more p s0 w0 s w s' w' to.goes_on f.goes_on;
+    same = f.counters ∙ to.same;
+    given = rw to.goes_on.layer at (f.given (rw to.goes_on.layer to.given));
+    room = record { one_each = ap length f.counters ∙ to.room.one_each; variables = omega (arith, to.room.variables, f.room); sources = f.sources ∙ to.room.sources };
+    running = rw to.goes_on.layer at f.running;
+    counts = counts_seen p s s' w.stack.items w'.stack.items w0.counters f.seen to.counts;
+    from_start = omega (arith, to.from_start);
+    within = omega arith;
+    on = on_so_far;
+    fired = λ j d ge below none. elim (cases_eq j i) [
+      | inl e ↦ subst (λ (r : LayerRule). get_or s' (rule_at p r.rule).var 0 ≡ (rule_at p r.rule).new) (same_entry j d e) (f.fired here)
+      | inr ne ↦ (let before = to.fired j d ge (omega arith) none in
+          f.kept (rule_at p (get_or rules j d).rule).var (differs_true p s (rule_at p (get_or rules j d).rule).var (λ e. (only j d (omega arith)).can (sym before ∙ e))) ∙ before)
+    ];
+  }
+    where
+      here : IsRuleOn p w.layer (get_or rules i (record { layer = 0; rule = 0 })).rule
+      here = subst (λ m. IsRuleOn p m (get_or rules i (record { layer = 0; rule = 0 })).rule) (on_layer ∙ sym to.goes_on.layer) (only i (record { layer = 0; rule = 0 }) lt)
+
+  -- the next rule of the layer has open conditions
+  pub one_waits : (get_or w0.counters (get_or rules i (record { layer = 0; rule = 0 })).rule 0 ≡ 0 → ⊥) → FiringTo p rules start (i + 1) s0 w0 s w
+  one_waits waits = record {
+    goes_on = to.goes_on;
+    same = to.same;
+    given = to.given;
+    room = to.room;
+    running = to.running;
+    counts = to.counts;
+    from_start = omega (arith, to.from_start);
+    within = omega arith;
+    on = on_so_far;
+    fired = λ j d ge below none. elim (cases_eq j i) [
+      | inl e ↦ absurd (waits (subst (λ (r : LayerRule). get_or w0.counters r.rule 0 ≡ 0) (sym (same_entry j d e)) none))
+      | inr ne ↦ to.fired j d ge (omega arith) none
+    ];
+  }
 
 module _ (p : Parts) (rules : List LayerRule) (from place : ℕ) (rules_are : AreFirstRules p rules) (stands : LayerBeginsAt rules from place)
     (s counters : List ℕ) (layered : IsLayered p) (counts : AreCounted p s counters) where
@@ -69,7 +134,7 @@ module _ (p : Parts) (rules : List LayerRule) (from place : ℕ) (rules_are : Ar
       ])
 
   -- the first rule that doesn't wait begins its layer
-  module _ (ready : ℕ) (ge : place ≤ ready) (within : ready < length rules) (waiting : AreWaiting counters rules place ready) where
+  module _ (ready : ℕ) (ge : place ≤ ready) (within : ready < length rules) (waiting : AreWaiting counters rules place ready) (is_ready : IsReadyAt counters rules ready) where
     first : (d : LayerRule) → layer_at rules ready ≡ (get_or rules ready d).layer
     first d = ap (λ (r : LayerRule). r.layer) (get_or_default rules ready (record { layer = 0; rule = 0 }) d within)
 
@@ -88,6 +153,8 @@ module _ (p : Parts) (rules : List LayerRule) (from place : ℕ) (rules_are : Ar
     -- from there on are the rules of the layer that don't wait
     pub ready_from : AtDefault p (layer_at rules ready) s → AreReadyFrom p ready (layer_at rules ready) counters rules
     ready_from default = record {
+      within = within;
+      first = is_ready;
       only = rules_are.only;
       each = λ rule is none.
           (let layer = layer_at rules ready in

@@ -9,7 +9,7 @@ ghost use Rattle.sas_meaning.specs.Settled.{SameBasic};
 ghost use Rattle.sas_meaning.specs.ChangedVariables.{StillCovers};
 ghost use Rattle.sas_axioms.specs.ByLayers.{SettlesLayer};
 ghost use Rattle.sas_axioms.specs.declared.layer_rules.LayerRule.{LayerRule};
-ghost use Rattle.sas_axioms.specs.LayerRules.{IsRuleOn, IsLayerSpan, AreReadyFrom, AreWaiting, layer_at};
+ghost use Rattle.sas_axioms.specs.LayerRules.{IsRuleOn, IsLayerSpan, AreReadyFrom, AreWaiting, IsReadyAt, layer_at};
 ghost use Rattle.sas_axioms.specs.Conditions.{AreCounted};
 ghost use Rattle.sas_axioms.specs.Agenda.{IsEmpty};
 ghost use Rattle.sas_axioms.specs.Sources.{AreGiven, SameSourcesOff};
@@ -127,7 +127,8 @@ impl LayerSettler {
     pub fn next_ready(&self, rules: &[LayerRule], start: usize) -> Option<usize>
         requires { All (λ (r : LayerRule). r.rule < length self.now.work.counters) rules.now }
         ensures some { IfSome result (λ ready. (start ≤ ready) × (ready < length rules.now)
-            × AreWaiting self.now.work.counters rules.now start ready) }
+            × AreWaiting self.now.work.counters rules.now start ready
+            × IsReadyAt self.now.work.counters rules.now ready) }
         ensures none { IfNone result
             (AreWaiting self.now.work.counters rules.now start (length rules.now)) }
     {
@@ -140,8 +141,8 @@ impl LayerSettler {
         None
     }
 
-    /// Settles the layer of the rule at index `start`. All its variables must have their defaults. From there on stand its rules that have
-    /// no open conditions. Returns the index of the first rule of a higher layer.
+    /// Settles the layer of the rule at index `start`, which is its first rule without open conditions. All variables of the layer must
+    /// have their defaults. Returns the index of the first rule of a higher layer.
     pub fn settle_layer<T: Grounded>(
         &mut self,
         layered: &Layered<T>,
@@ -151,7 +152,6 @@ impl LayerSettler {
     ) -> usize
         requires prepared { IsFiringReady layered.now self.old }
         requires counts { AreCounted layered.now state.old self.old.work.counters }
-        requires within { start < length rules.now }
         requires rules { AreReadyFrom layered.now start (layer_at rules.now start)
             self.old.work.counters rules.now }
         requires state { IsState layered.now.variables state.old }
@@ -230,8 +230,8 @@ impl LayerSettler {
     }
 }
 
-/// Fires the rules of the layer that have no open conditions. The rules of the layer begin at index `start`, but for others. Returns the
-/// index after the last one.
+/// Fires the rules of the layer that have no open conditions. The first of them is at index `start`. Returns the index after the last rule
+/// of the layer.
 fn fire_ready<T: Grounded>(
     indexed: &IndexedRules<'_, '_, T>,
     rules: &[LayerRule],
@@ -239,7 +239,6 @@ fn fire_ready<T: Grounded>(
     work: &mut Work,
     state: &mut State,
 ) -> usize
-    requires within { start < length rules.now }
     requires layer { work.old.layer ≡ layer_at rules.now start }
     requires rules { AreReadyFrom indexed.now start work.old.layer work.old.counters rules.now }
     requires room { WorkHasRoom indexed.now work.old }
@@ -251,7 +250,8 @@ fn fire_ready<T: Grounded>(
     ensures goes_on { WorkGoesOn indexed.now state.old work.old state.new work.new }
     ensures end { IsLayerSpan rules.now start work.old.layer result }
 {
-    let mut next = start;
+    fire(indexed.layered, rules[start].rule, work, state);
+    let mut next = start + 1;
     while next < rules.len() && rules[next].layer == work.layer {
         let rule = rules[next].rule;
         if work.counters.as_slice()[rule as usize] == 0 {

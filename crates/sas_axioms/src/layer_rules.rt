@@ -1,7 +1,6 @@
 // The rules that can fire, layer by layer.
-ghost use Rattle.std.specs.Prelude.{◌<◌, ◌≤◌, ℕ, length, slice_index_or, IfOk, IfSome, IfNone, IsTrue};
-ghost use Rattle.sas_axioms.specs.declared.layer_rules.LayerRule.{LayerRule};
-ghost use Rattle.sas_axioms.specs.LayerRules.{IsRuleOn, IsLate, AreFirstRules, IsLayerSpan, AreRulesOf};
+ghost use Rattle.std.specs.Prelude.{◌<◌, ℕ, length, IfOk, IfSome, IfNone, IsTrue};
+ghost use Rattle.sas_axioms.specs.LayerRules.{IsRuleOn, IsLate, AreFirstRules, AreRulesOf};
 
 use sas_core::Grounded;
 use sas_flat::{Entry, Lists};
