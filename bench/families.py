@@ -4,7 +4,7 @@
     bench/families.py ./sas FOLDER [--only TEXT] [--scale F] [--at-once N]
 
 A family is tasks of one shape in any size, each with one thing in great number that might make a cost grow as a square; a plan
-grows as its task does. The inputs are made in FOLDER if they aren't there, some 35 MB. Growth is the instructions a byte at the
+grows as its task does, unless each step goes through the whole task. The inputs are made in FOLDER if they aren't there, some 35 MB. Growth is the instructions a byte at the
 second size over those at the first. Near 1 is linear; the second size is four times the first, so a square shows as nearly 4.
 The exit status is 1 if one is above 1.15, or an answer isn't right. N families are counted side by side (as many as there are
 processors), which changes no count. It needs valgrind.
@@ -20,7 +20,7 @@ from answers import digest, expected_digest
 from cases import files_of
 from count import LINEAR, answer_word, counted, size_of
 from groups import Chained, Effects, Relying, Repeated, Resting, Shared, Spoiled, Ungrouped
-from idle import Below, Layers, Unruled
+from idle import Below, Layers, Ruled, Turned, Unruled
 from make import made_input
 from names import Names
 from tables import Tables
@@ -28,14 +28,16 @@ from wide import Timed
 
 TIMES = (1, 4)
 
-# a request over tasks of a domain, with so many objects at the first size, and so many steps of a plan for each of these; None
-# where the request reads no plan
-Family = namedtuple("Family", "name request domain objects steps", defaults=[None])
+# a request over tasks of a domain, with so many objects at the first size, and so many steps of a plan for each of these, or
+# so many in all; None where the request reads no plan
+Family = namedtuple("Family", "name request domain objects steps all_steps", defaults=[None, None])
 
 FAMILIES = [
     Family("idle steps, variables without a rule", "plan", Unruled, 8000, 10),
     Family("idle steps, layers", "plan", Layers, 4000, 10),
     Family("idle steps, rules over a lower layer", "plan", Below, 4000, 10),
+    Family("idle steps, rules of one variable", "plan", Ruled, 10000, 1),
+    Family("steps that turn all layers", "plan", Turned, 4000, all_steps=100),
     Family("steps that change one net of many", "plan", Tables, 250, 20),
     Family("groups that list a fact many times", "mutex", Repeated, 500),
     Family("groups that share a fact and stay", "mutex", Shared, 2000),
@@ -52,7 +54,7 @@ FAMILIES = [
 
 def input_of(folder, family, domain):
     """Returns the input of a family, over the task of this domain."""
-    steps = None if family.steps is None else domain.objects * family.steps
+    steps = family.all_steps if family.steps is None else domain.objects * family.steps
     return made_input(folder, family.domain.__name__.lower(), domain, steps)
 
 

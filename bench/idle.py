@@ -4,8 +4,13 @@ and the lamps stay as they are. Each class has one thing in great number that a 
     Unruled     derived variables without a rule
     Layers      layers, with a lamp on each, lit where the one on the layer below is
     Below       rules that read a lower layer, each of a lamp of its own
+    Ruled       rules of one lamp
 
-A task of n objects has n + 2 or n + 3 variables, n or n + 1 of them derived, and three operators.
+In one more class each step turns all lamps, on or off:
+
+    Turned      layers, as those of Layers, the lowest lamp lit where the door is shut
+
+A task of n objects has at most n + 3 variables, all but two of them derived, and three operators.
 """
 from sas_text import both
 
@@ -82,3 +87,27 @@ class Below(Idle):
         others = range(FIRST + 1, FIRST + 1 + self.objects)
         above = [([(FIRST, HOLDS), (MAIN, HOLDS)], (lamp, NOT, HOLDS)) for lamp in others]
         return [([(MAIN, HOLDS)], (FIRST, NOT, HOLDS)), *above]
+
+
+class Ruled(Idle):
+    """One lamp with so many rules, all of them alike."""
+
+    def layers(self):
+        return [0]
+
+    def goal(self):
+        return [(FIRST, HOLDS)]
+
+    def rules(self):
+        return [([(MAIN, HOLDS)], (FIRST, NOT, HOLDS))] * self.objects
+
+
+class Turned(Layers):
+    """So many layers, of a lamp each, over a door that is shut at first."""
+
+    def rules(self):
+        return [([(DOOR, NOT)], (FIRST, NOT, HOLDS)), *super().rules()[1:]]
+
+    def plan(self, steps):
+        """Yields the steps of a plan: so many, an even number."""
+        return (("open", "shut")[step % 2] for step in range(steps))

@@ -167,11 +167,11 @@ pub fired_kept : (t : Parts) (layer : ℕ) (s s' counters : List ℕ) → ((v : 
 fired_kept t layer s s' counters kept fired k on nil =
     let e = fired k on nil in kept (rule_at t k).var (differs_true t s (rule_at t k).var (λ f. on.can (sym e ∙ f))) ∙ e
 
-pub fired_set : (t : Parts) (layer : ℕ) (s counters : List ℕ) (k n : ℕ) → k < length counters → (n ≡ 0 → get_or s (rule_at t k).var 0 ≡ (rule_at t k).new)
+pub fired_set : (t : Parts) (layer : ℕ) (s counters : List ℕ) (k n : ℕ) → k < length counters → (n ≡ 0 → IsRuleOn t layer k → get_or s (rule_at t k).var 0 ≡ (rule_at t k).new)
     → HaveFired t layer s counters → HaveFired t layer s (set counters k n)
 fired_set t layer s counters k n within here fired j on nil = elim (cases_eq j k) [
   | inl e ↦ subst (λ i. get_or s (rule_at t i).var 0 ≡ (rule_at t i).new) (sym e)
-      (here (sym (get_or-set_same counters k n 0 within) ∙ subst (λ i. get_or (set counters k n) i 0 ≡ 0) e nil))
+      (here (sym (get_or-set_same counters k n 0 within) ∙ subst (λ i. get_or (set counters k n) i 0 ≡ 0) e nil) (subst (λ i. IsRuleOn t layer i) e on))
   | inr ne ↦ fired j on (sym (get_or-set_other counters k j n 0 ne) ∙ nil)
 ]
 
@@ -291,9 +291,9 @@ pub record Releasing (t : Parts) (moved : ValueChange) (waiting : List RuleCondi
   pub fired : HaveFired t w0.layer s w.counters
   pub seen : (v : ℕ) → value_seen t s w.stack.items v ≡ value_seen t s0 w0.stack.items v
 
--- the counter of a rule is set, and isn't zero
+-- the counter of a rule is set, and isn't zero, or the rule is on another layer
 pub released_on : (t : Parts) (moved : ValueChange) (waiting : List RuleCondition) (i : ℕ) (s0 : List ℕ) (w0 : Work) (s : List ℕ) (w : Work) (counters : List ℕ) (k n : ℕ)
-    → Releasing t moved waiting i s0 w0 s w → CountersSoFar moved waiting (i + 1) w0.counters counters → k < length w.counters → counters ≡ set w.counters k n → n ≢ 0
+    → Releasing t moved waiting i s0 w0 s w → CountersSoFar moved waiting (i + 1) w0.counters counters → k < length w.counters → counters ≡ set w.counters k n → (n ≡ 0 → IsRuleOn t w0.layer k → ⊥)
     → Releasing t moved waiting (i + 1) s0 w0 s (record { layer = w.layer; counters = counters; stack = w.stack; sources = w.sources; agenda = w.agenda })
 released_on t moved waiting i s0 w0 s w counters k n so_far next within is some = record {
   counters = next;
@@ -301,7 +301,7 @@ released_on t moved waiting i s0 w0 s w counters k n so_far next within is some 
   room = record { one_each = ap length is ∙ (length-set w.counters k n ∙ so_far.room.one_each); variables = so_far.room.variables; sources = so_far.room.sources };
   running = so_far.running;
   given = so_far.given;
-  fired = rw is (fired_set t w0.layer s w.counters k n within (λ none. absurd (some none)) so_far.fired);
+  fired = rw is (fired_set t w0.layer s w.counters k n within (λ none on. absurd (some none on)) so_far.fired);
   seen = so_far.seen;
 }
 

@@ -1,10 +1,8 @@
 pub mod Layering
 pub mod Counters
 pub mod OneLayer
-pub mod Groups
 pub mod Standing
 pub mod AllConditions
-pub mod Spans
 pub mod Sources
 pub mod Tracking
 pub mod RuleChanges

@@ -1,64 +1,189 @@
--- Where the layers of a worklist begin and end.
-use Rattle.sas_axioms.proofs.Imports.{◌≡◌, ◌≢◌, ℕ, ◌+◌, ◌-◌, ◌<◌, ◌≤◌, List, length, get_or, take, drop, ap, inl, inr, arith, cases_lt, Contains, Parts, LayerRule, IsIdle, AreFirstRules, IsLayerSpan, AreRulesOn, LayerBeginsAt}
-use Rattle.sas_axioms.proofs.Groups.{layer_group}
+-- Where a layer of a worklist begins and ends, and which layers before it are settled.
+use Rattle.sas_axioms.proofs.Imports.{◌≡◌, ◌≢◌, ℕ, ◌+◌, ◌-◌, ◌<◌, ◌≤◌, List, length, get_or, get_or_default, get_or-drop, length-drop, sym, ◌∙◌, ap, inl, inr, arith, cases_lt, Parts, LayerRule, rule_at, IsLayered, IsSettledAt, AtDefault, forced_at_default, AreCounted, IsHolding, IsRuleOn, AreFirstRules, AreWaiting, IsLayerSpan, AreReadyFrom, IsReadyAt, layer_at, LayerBeginsAt, Work, value_seen, IsRunning, AreCountedBy, WorkHasRoom, WorkGoesOn, FiresRule, AreGiven, All, subst, cases_eq, differs_true}
+use Rattle.sas_axioms.proofs.Counters.{all_hold_when_none_open, none_open_when_all_hold, counts_seen, goes_on_more}
+use Rattle.sas_axioms.proofs.Sources.{late_waits, settled_when_set}
 
-module _ (p : Parts) (rules : List LayerRule) (from place : ℕ) (rules_are : AreFirstRules p rules) (stands : LayerBeginsAt rules from place) where
-  -- a layer is idle if no rule that is left is on it
-  idle_without : (layer : ℕ) → from ≤ layer → ((k : ℕ) (d : LayerRule) → place ≤ k → k < length rules → (get_or rules k d).layer ≢ layer) → IsIdle p layer
-  idle_without layer le none k on = elim (rules_are.each layer k on) [ inl there ↦ absurd (not_there there) | inr late ↦ late ]
+-- where a rule is among others
+record Stands (rules : List LayerRule) (start layer rule : ℕ) : Type 0 where
+  pub at : ℕ
+  pub from_start : start ≤ at
+  pub within : at < length rules
+  pub is : get_or rules at (record { layer = layer; rule = rule }) ≡ (let r : LayerRule = record { layer = layer; rule = rule } in r)
+
+-- a rule of the layer without open conditions is before the end of the layer's rules
+pub before_end : (p : Parts) (start layer end : ℕ) (counters : List ℕ) (rules : List LayerRule) → AreReadyFrom p start layer counters rules → layer ≡ layer_at rules start → start ≤ end
+    → ((d : LayerRule) → end < length rules → (get_or rules end d).layer ≡ layer → ⊥)
+    → (rule : ℕ) → IsRuleOn p layer rule → get_or counters rule 0 ≡ 0
+    → (at : ℕ) × (start ≤ at) × (at < end) × (get_or rules at (record { layer = layer; rule = rule }) ≡ (let r : LayerRule = record { layer = layer; rule = rule } in r))
+before_end p start layer end counters rules are here le last rule on none =
+    let found = are.each rule on none in
+    let d : LayerRule = record { layer = layer; rule = rule } in
+    let rest = length-drop start rules in
+    let within : start + found.0 < length rules = let lt = found.1 in omega arith in
+    let is : get_or rules (start + found.0) d ≡ d = sym (get_or-drop start rules found.0 d) ∙ found.2 in
+    let its : (get_or rules (start + found.0) d).layer ≡ layer = ap (λ (r : LayerRule). r.layer) is in (
+      start + found.0,
+      omega arith,
+      elim (cases_lt (start + found.0) end) [
+        | inl lt ↦ lt
+        | inr past ↦ (let first : (get_or rules start d).layer ≡ layer =
+            sym (here ∙ ap (λ (r : LayerRule). r.layer) (get_or_default rules start (record { layer = 0; rule = 0 }) d (omega arith))) in
+            let low = are.ascending start end d le (omega arith) in
+            let high = are.ascending end (start + found.0) d past within in
+            absurd (last d (omega arith) (omega arith)))
+      ],
+      is,
+    )
+
+-- the rules of the layer from one index up to another that have no open conditions have fired
+pub record FiringTo (p : Parts) (rules : List LayerRule) (start next : ℕ) (s0 : List ℕ) (w0 : Work) (s : List ℕ) (w : Work) : Type 0 where
+  pub goes_on : WorkGoesOn p s0 w0 s w
+  pub same : w.counters ≡ w0.counters
+  pub given : AreGiven p w0.layer s w.sources
+  pub room : WorkHasRoom p w
+  pub running : IsRunning p w0.layer s w.stack.items
+  pub counts : AreCountedBy p (value_seen p s w.stack.items) w0.counters
+  pub from_start : start ≤ next
+  pub within : next ≤ length rules
+  pub on : (j : ℕ) (d : LayerRule) → start ≤ j → j < next → (get_or rules j d).layer ≡ w0.layer
+  pub fired : (j : ℕ) (d : LayerRule) → start ≤ j → j < next → get_or w0.counters (get_or rules j d).rule 0 ≡ 0
+      → get_or s (rule_at p (get_or rules j d).rule).var 0 ≡ (rule_at p (get_or rules j d).rule).new
+
+module _ (p : Parts) (rules : List LayerRule) (start i : ℕ) (s0 : List ℕ) (w0 : Work) (s : List ℕ) (w : Work) (lt : i < length rules) (to : FiringTo p rules start i s0 w0 s w)
+    (on_layer : layer_at rules i ≡ w0.layer) where
+  same_entry : (j : ℕ) (d : LayerRule) → j ≡ i → get_or rules i (record { layer = 0; rule = 0 }) ≡ get_or rules j d
+  same_entry j d e = get_or_default rules i (record { layer = 0; rule = 0 }) d lt ∙ ap (λ n. get_or rules n d) (sym e)
+
+  on_so_far : (j : ℕ) (d : LayerRule) → start ≤ j → j < i + 1 → (get_or rules j d).layer ≡ w0.layer
+  on_so_far j d ge below = elim (cases_eq j i) [
+    | inl e ↦ ap (λ (r : LayerRule). r.layer) (sym (same_entry j d e)) ∙ on_layer
+    | inr ne ↦ to.on j d ge (omega arith)
+  ]
+
+  -- the next rule of the layer has fired
+  pub one_fired : (s' : List ℕ) (w' : Work) → All (λ (r : LayerRule). IsRuleOn p r.layer r.rule) rules → FiresRule p (get_or rules i (record { layer = 0; rule = 0 })).rule s w s' w' → FiringTo p rules start (i + 1) s0 w0 s' w'
+  one_fired s' w' only f = record {
+    goes_on = goes_on_more p s0 w0 s w s' w' to.goes_on f.goes_on;
+    same = f.counters ∙ to.same;
+    given = rw to.goes_on.layer at (f.given (rw to.goes_on.layer to.given));
+    room = record { one_each = ap length f.counters ∙ to.room.one_each; variables = omega (arith, to.room.variables, f.room); sources = f.sources ∙ to.room.sources };
+    running = rw to.goes_on.layer at f.running;
+    counts = counts_seen p s s' w.stack.items w'.stack.items w0.counters f.seen to.counts;
+    from_start = omega (arith, to.from_start);
+    within = omega arith;
+    on = on_so_far;
+    fired = λ j d ge below none. elim (cases_eq j i) [
+      | inl e ↦ subst (λ (r : LayerRule). get_or s' (rule_at p r.rule).var 0 ≡ (rule_at p r.rule).new) (same_entry j d e) (f.fired here)
+      | inr ne ↦ (let before = to.fired j d ge (omega arith) none in
+          f.kept (rule_at p (get_or rules j d).rule).var (differs_true p s (rule_at p (get_or rules j d).rule).var (λ e. (only j d (omega arith)).can (sym before ∙ e))) ∙ before)
+    ];
+  }
     where
-      not_there : Contains rules (record { layer = layer; rule = k }) → ⊥
-      not_there there =
-          let is : (get_or rules there.0 (record { layer = layer; rule = k })).layer ≡ layer = ap (λ (r : LayerRule). r.layer) there.2 in
-          elim (cases_lt there.0 place) [
-            | inl before ↦ (let lt = stands.before there.0 (record { layer = layer; rule = k }) before in absurd (omega arith))
-            | inr behind ↦ none there.0 (record { layer = layer; rule = k }) behind there.1 is
-          ]
+      here : IsRuleOn p w.layer (get_or rules i (record { layer = 0; rule = 0 })).rule
+      here = subst (λ m. IsRuleOn p m (get_or rules i (record { layer = 0; rule = 0 })).rule) (on_layer ∙ sym to.goes_on.layer) (only i (record { layer = 0; rule = 0 }) lt)
 
-  -- where no rule is left, all layers that are left are idle
-  pub idle_in_the_end : length rules ≤ place → (layer : ℕ) → from ≤ layer → IsIdle p layer
-  idle_in_the_end past layer le = idle_without layer le (λ k d ge lt. absurd (omega arith))
+  -- the next rule of the layer has open conditions
+  pub one_waits : (get_or w0.counters (get_or rules i (record { layer = 0; rule = 0 })).rule 0 ≡ 0 → ⊥) → FiringTo p rules start (i + 1) s0 w0 s w
+  one_waits waits = record {
+    goes_on = to.goes_on;
+    same = to.same;
+    given = to.given;
+    room = to.room;
+    running = to.running;
+    counts = to.counts;
+    from_start = omega (arith, to.from_start);
+    within = omega arith;
+    on = on_so_far;
+    fired = λ j d ge below none. elim (cases_eq j i) [
+      | inl e ↦ absurd (waits (subst (λ (r : LayerRule). get_or w0.counters r.rule 0 ≡ 0) (sym (same_entry j d e)) none))
+      | inr ne ↦ to.fired j d ge (omega arith) none
+    ];
+  }
 
-  module _ (layer end : ℕ) (span : IsLayerSpan rules place layer end) where
-    no_entry : LayerRule
-    no_entry = record { layer = 0; rule = 0 }
+module _ (p : Parts) (rules : List LayerRule) (from place : ℕ) (rules_are : AreFirstRules p rules) (stands : LayerBeginsAt rules from place)
+    (s counters : List ℕ) (layered : IsLayered p) (counts : AreCounted p s counters) where
+  -- a rule that holds, on a layer that is left, is among the rules from the place on
+  there : (layer rule : ℕ) → from ≤ layer → AtDefault p layer s → IsRuleOn p layer rule → IsHolding p s rule → Stands rules place layer rule
+  there layer rule le default is hold = elim (rules_are.each layer rule is) [
+    | inr late ↦ absurd (late_waits p layer rule s layered is late default hold)
+    | inl found ↦ record {
+      at = found.0;
+      from_start = elim (cases_lt found.0 place) [
+        | inr behind ↦ behind
+        | inl before ↦ (let lt = stands.before found.0 (record { layer = layer; rule = rule }) before in
+            let its = ap (λ (r : LayerRule). r.layer) found.2 in absurd (omega arith))
+      ];
+      within = found.1;
+      is = found.2;
+    }
+  ]
 
-    -- the first rule is on the layer
-    first : (d : LayerRule) → (get_or rules place d).layer ≡ layer
-    first d = span.on place d (omega arith) span.some
+  -- where the rules that are left wait up to an index, and none behind it is on the layer, the layer is settled
+  pub settled_while_waiting : (end layer : ℕ) → AreWaiting counters rules place end → ((k : ℕ) (d : LayerRule) → end ≤ k → k < length rules → (get_or rules k d).layer ≢ layer)
+      → from ≤ layer → AtDefault p layer s → IsSettledAt p layer s
+  settled_while_waiting end layer waiting none le default = settled_when_set p layer s (forced_at_default p layer s default) (λ k is hold.
+      let w = there layer k le default is hold in
+      let d : LayerRule = record { layer = layer; rule = k } in
+      elim (cases_lt w.at end) [
+        | inr ge ↦ absurd (none w.at d ge w.within (ap (λ (r : LayerRule). r.layer) w.is))
+        | inl lt ↦ (let some = waiting w.at d w.from_start lt in
+            let same : (get_or rules w.at d).rule ≡ k = ap (λ (r : LayerRule). r.rule) w.is in
+            let closed : get_or counters k 0 ≡ 0 = counts.exact layer k is ∙ none_open_when_all_hold (λ v. get_or s v 0) (rule_at p k).conditions hold in
+            let closed' = ap (λ n. get_or counters n 0) same in
+            absurd (omega arith))
+      ])
 
-    -- the layer is left
-    pub from_on : from ≤ layer
-    from_on = let le = stands.behind place no_entry (omega arith) (omega (arith, span.some, span.within)) in let e = first no_entry in omega arith
+  -- the first rule that doesn't wait begins its layer
+  module _ (ready : ℕ) (ge : place ≤ ready) (within : ready < length rules) (waiting : AreWaiting counters rules place ready) (is_ready : IsReadyAt counters rules ready) where
+    first : (d : LayerRule) → layer_at rules ready ≡ (get_or rules ready d).layer
+    first d = ap (λ (r : LayerRule). r.layer) (get_or_default rules ready (record { layer = 0; rule = 0 }) d within)
 
-    -- the rules behind the place are on no lower layer
-    not_lower : (k : ℕ) (d : LayerRule) → place ≤ k → k < length rules → layer ≤ (get_or rules k d).layer
-    not_lower k d ge lt = let le = rules_are.ascending place k d ge lt in let e = first d in omega arith
+    -- its layer is left
+    pub from_on : from ≤ layer_at rules ready
+    from_on = stands.behind ready (record { layer = 0; rule = 0 }) ge within
 
-    -- those between are idle
-    pub idle_between : (below : ℕ) → from ≤ below → below < layer → IsIdle p below
-    idle_between below le lt = idle_without below le (λ k d ge within e. let not = not_lower k d ge within in absurd (omega arith))
+    -- the rules behind it are on no lower layer
+    not_lower : (k : ℕ) (d : LayerRule) → ready ≤ k → k < length rules → layer_at rules ready ≤ (get_or rules k d).layer
+    not_lower k d le lt = let up = rules_are.ascending ready k d le lt in let e = first d in omega arith
 
-    -- the rules of the span are those of the layer
-    pub rules_of_span : AreRulesOn p layer (take (end - place) (drop place rules))
-    rules_of_span = layer_group p rules place end layer rules_are
-        (λ k d lt. let before = stands.before k d lt in let le = from_on in omega arith)
-        span
+    -- those between are settled
+    pub settled_between : (below : ℕ) → from ≤ below → below < layer_at rules ready → AtDefault p below s → IsSettledAt p below s
+    settled_between below le lt default = settled_while_waiting ready below waiting (λ k d past inside e. let not = not_lower k d past inside in absurd (omega arith)) le default
 
-    -- behind the span the next layers are left
-    pub stands_behind : LayerBeginsAt rules (layer + 1) end
-    stands_behind = record {
+    -- from there on are the rules of the layer that don't wait
+    pub ready_from : AtDefault p (layer_at rules ready) s → AreReadyFrom p ready (layer_at rules ready) counters rules
+    ready_from default = record {
+      within = within;
+      first = is_ready;
+      only = rules_are.only;
+      each = λ rule is none.
+          (let layer = layer_at rules ready in
+          let w = there layer rule from_on default is (all_hold_when_none_open (λ v. get_or s v 0) (rule_at p rule).conditions (sym (counts.exact layer rule is) ∙ none)) in
+          let d : LayerRule = record { layer = layer; rule = rule } in
+          let same : (get_or rules w.at d).rule ≡ rule = ap (λ (r : LayerRule). r.rule) w.is in
+          let low : ready ≤ w.at = elim (cases_lt w.at ready) [
+            | inr le ↦ le
+            | inl less ↦ (let some = waiting w.at d w.from_start less in let closed = ap (λ n. get_or counters n 0) same in absurd (omega arith))
+          ] in
+          let its : ready + (w.at - ready) ≡ w.at = omega arith in
+          (w.at - ready, (let rest = length-drop ready rules in let lt = w.within in omega arith), get_or-drop ready rules (w.at - ready) d ∙ (ap (λ i. get_or rules i d) its ∙ w.is)));
+      ascending = rules_are.ascending;
+    }
+
+    -- behind the layer's rules the next layers are left
+    pub stands_behind : (end : ℕ) → IsLayerSpan rules ready (layer_at rules ready) end → LayerBeginsAt rules (layer_at rules ready + 1) end
+    stands_behind end span = record {
       within = span.within;
-      before = λ k d lt. elim (cases_lt k place) [
-        | inl early ↦ (let before = stands.before k d early in let le = from_on in omega arith)
+      before = λ k d lt. elim (cases_lt k ready) [
+        | inl early ↦ (let up = rules_are.ascending k ready d (omega arith) within in let e = first d in omega arith)
         | inr late ↦ (let e = span.on k d late lt in omega arith)
       ];
-      behind = λ k d ge lt. above k d ge lt;
+      behind = λ k d le lt. above k d le lt;
     }
       where
-        above : (k : ℕ) (d : LayerRule) → end ≤ k → k < length rules → layer + 1 ≤ (get_or rules k d).layer
-        above k d ge lt =
+        above : (k : ℕ) (d : LayerRule) → end ≤ k → k < length rules → layer_at rules ready + 1 ≤ (get_or rules k d).layer
+        above k d le lt =
             let some = span.some in
             let not = not_lower end d (omega arith) (omega arith) in
-            let other : (get_or rules end d).layer ≢ layer = span.last d (omega arith) in
-            let up = rules_are.ascending end k d ge lt in omega arith
+            let other : (get_or rules end d).layer ≢ layer_at rules ready = span.last d (omega arith) in
+            let up = rules_are.ascending end k d le lt in omega arith

@@ -4,11 +4,6 @@ use Rattle.sas_core.specs.declared.parts.Parts.{Parts}
 use Rattle.sas_core.specs.Variables.{IsState}
 use Rattle.sas_meaning.specs.Settled.{IsSettledAt}
 use Rattle.sas_meaning.specs.Forced.{SameOff}
-use Rattle.sas_axioms.specs.LayerRules.{IsRuleOn, IsLate}
-
--- all rules on the layer that can fire are late, so none does
-abbrev pub IsIdle : Parts → ℕ → Type 0
-IsIdle p layer = (rule : ℕ) → IsRuleOn p layer rule → IsLate p layer rule
 
 -- the layer was settled, and nothing else changed
 pub record SettlesLayer (p : Parts) (layer : ℕ) (s s' : List ℕ) : Type 0 where
@@ -16,8 +11,8 @@ pub record SettlesLayer (p : Parts) (layer : ℕ) (s s' : List ℕ) : Type 0 whe
   pub off : SameOff p layer s s'
   pub settled : IsSettledAt p layer s'
 
--- this layer, at least `from`, was settled, and no rule fires on the layers that were skipped
+-- this layer, at least `from`, was settled, and the layers that were skipped were settled before
 pub record SettlesNext (p : Parts) (from : ℕ) (s s' : List ℕ) (layer : ℕ) : Type 0 where
   pub from_on : from ≤ layer
-  pub idle : (below : ℕ) → from ≤ below → below < layer → IsIdle p below
+  pub skipped : (below : ℕ) → from ≤ below → below < layer → IsSettledAt p below s
   pub settles : SettlesLayer p layer s s'

@@ -1,5 +1,5 @@
 -- The rules that can fire, layer by layer.
-use Rattle.std.specs.Prelude.{◌≡◌, ◌⊎◌, ℕ, ◌<◌, ◌≤◌, List, [], ◌∷◌, length, All, Contains, slice_index_or}
+use Rattle.std.specs.Prelude.{◌≡◌, ◌⊎◌, ℕ, ◌<◌, ◌≤◌, List, [], length, All, Contains, drop, slice_index, slice_index_or}
 use Rattle.std.specs.List.Sorted.{IsNonDecreasingBy}
 use Rattle.sas_core.specs.declared.parts.Fact.{Fact}
 use Rattle.sas_core.specs.declared.parts.Parts.{Parts}
@@ -7,7 +7,6 @@ use Rattle.sas_core.specs.Grounded.{rule_at}
 use Rattle.sas_meaning.specs.Layers.{IsOnLayer, CanFire}
 use Rattle.sas_meaning.specs.Places.{places, can_give}
 use Rattle.sas_axioms.specs.declared.layer_rules.LayerRule.{LayerRule}
-use Rattle.sas_axioms.specs.declared.layer_rules.LayerSpan.{LayerSpan}
 
 -- the rule is on this layer and can fire
 pub record IsRuleOn (p : Parts) (layer rule : ℕ) : Type 0 where
@@ -34,8 +33,8 @@ pub record AreFirstRules (p : Parts) (rules : List LayerRule) : Type 0 where
       → Contains rules (record { layer = layer; rule = rule }) ⊎ IsLate p layer rule
   pub ascending : IsNonDecreasingBy (λ (r : LayerRule). r.layer) rules
 
--- the rules from index `start` up to but not including `end` are those of the layer; there is at
--- least one
+-- the rules from index `start` up to but not including `end` are on the layer; there is at least
+-- one, and the next isn't on the layer
 pub record IsLayerSpan (rules : List LayerRule) (start layer end : ℕ) : Type 0 where
   pub some : start < end
   pub within : end ≤ length rules
@@ -43,17 +42,30 @@ pub record IsLayerSpan (rules : List LayerRule) (start layer end : ℕ) : Type 0
       → (slice_index_or rules place d).layer ≡ layer
   pub last : (d : LayerRule) → end < length rules → (slice_index_or rules end d).layer ≡ layer → ⊥
 
--- the spans of the layers between two indexes, in order
-abbrev pub AreSpans : List LayerRule → ℕ → List LayerSpan → ℕ → Type 0
-AreSpans rules start [] end = start ≡ end
-AreSpans rules start (span ∷ spans) end =
-    IsLayerSpan rules start span.layer span.end × AreSpans rules span.end spans end
+-- the rule at each index from `start` up to but not including `end` has an open condition
+abbrev pub AreWaiting : List ℕ → List LayerRule → ℕ → ℕ → Type 0
+AreWaiting counters rules start end = (place : ℕ) (d : LayerRule) → start ≤ place → place < end
+    → 0 < slice_index counters (slice_index_or rules place d).rule
 
--- rules on one layer that can fire, among them all that aren't late
-pub record AreRulesOn (p : Parts) (layer : ℕ) (rules : List LayerRule) : Type 0 where
-  pub only : All (λ (r : LayerRule). IsRuleOn p layer r.rule) rules
-  pub each : (rule : ℕ) → IsRuleOn p layer rule
-      → Contains rules (record { layer = layer; rule = rule }) ⊎ IsLate p layer rule
+-- the layer of the rule at an index
+abbrev pub layer_at : List LayerRule → ℕ → ℕ
+layer_at rules place = (slice_index_or rules place (record { layer = 0; rule = 0 })).layer
+
+-- the rule at an index has no open conditions
+abbrev pub IsReadyAt : List ℕ → List LayerRule → ℕ → Type 0
+IsReadyAt counters rules place =
+    slice_index counters (slice_index_or rules place (record { layer = 0; rule = 0 })).rule ≡ 0
+
+-- rules that can fire, each with its layer, in ascending order of their layers; from index `start`
+-- on, there are all rules of this layer that have no open conditions, the first of them there
+pub record AreReadyFrom (p : Parts) (start layer : ℕ) (counters : List ℕ) (rules : List LayerRule)
+    : Type 0 where
+  pub within : start < length rules
+  pub first : IsReadyAt counters rules start
+  pub only : All (λ (r : LayerRule). IsRuleOn p r.layer r.rule) rules
+  pub each : (rule : ℕ) → IsRuleOn p layer rule → slice_index counters rule ≡ 0
+      → Contains (drop start rules) (record { layer = layer; rule = rule })
+  pub ascending : IsNonDecreasingBy (λ (r : LayerRule). r.layer) rules
 
 -- for each variable its rules that can fire, in order
 pub record AreRulesOf (p : Parts) (lists : List (List ℕ)) : Type 0 where

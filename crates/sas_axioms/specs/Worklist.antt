@@ -1,5 +1,5 @@
 -- How far a worklist has come on a layer, and what it needs.
-use Rattle.std.specs.Prelude.{◌≡◌, ℕ, ◌+◌, ◌*◌, ◌<◌, ◌≤◌, ◌==◌, if◌then◌else◌, IsTrue, List, [], length, slice_index, slice_index_or, vec_capacity, drop}
+use Rattle.std.specs.Prelude.{◌≡◌, ℕ, ◌+◌, ◌*◌, ◌<◌, ◌≤◌, ◌==◌, if◌then◌else◌, IsTrue, List, [], length, slice_index, slice_index_or, vec_capacity}
 use Rattle.sas_core.specs.declared.parts.Parts.{Parts}
 use Rattle.sas_core.specs.Grounded.{rule_at}
 use Rattle.sas_core.specs.Variables.{IsState}
@@ -11,7 +11,7 @@ use Rattle.sas_axioms.specs.declared.firing.LayerSettler.{LayerSettler}
 use Rattle.sas_axioms.specs.declared.firing.Work.{Work}
 use Rattle.sas_axioms.specs.declared.layer_rules.LayerRule.{LayerRule}
 use Rattle.sas_axioms.specs.declared.worklist.Worklist.{Worklist}
-use Rattle.sas_axioms.specs.LayerRules.{IsRuleOn, AreFirstRules, AreSpans, AreRulesOf}
+use Rattle.sas_axioms.specs.LayerRules.{IsRuleOn, AreFirstRules, AreRulesOf}
 use Rattle.sas_axioms.specs.Sources.{AreGiven, SameSourcesOff}
 use Rattle.sas_axioms.specs.Conditions.{AreCounted, IsCounted, open_conditions, occurrences}
 
@@ -91,7 +91,6 @@ pub record IsFiringReady (p : Parts) (f : LayerSettler) : Type 0 where
 pub record IsReadyFor (p : Parts) (w : Worklist) : Type 0 where
   pub variables : AreDerived p w.derived.items
   pub rules : AreFirstRules p w.rules.items
-  pub spans : AreSpans w.rules.items 0 w.spans.items (length w.rules.items)
   pub firing : IsFiringReady p w.firing
 
 -- the rules from index `place` on are those of `layer` and higher layers
@@ -105,7 +104,6 @@ pub record LayerBeginsAt (rules : List LayerRule) (layer place : ℕ) : Type 0 w
 -- the state
 pub record IsReadyFrom (p : Parts) (layer : ℕ) (s : List ℕ) (w : Worklist) : Type 0 where
   pub ready : IsReadyFor p w
-  pub stands : LayerBeginsAt w.rules.items layer w.start
-  pub left : AreSpans w.rules.items w.start (drop w.next w.spans.items) (length w.rules.items)
+  pub stands : LayerBeginsAt w.rules.items layer w.next
   pub counts : AreCounted p s w.firing.work.counters
   pub given : (below : ℕ) → below < layer → AreGiven p below s w.firing.work.sources

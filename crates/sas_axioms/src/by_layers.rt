@@ -10,9 +10,9 @@ pub trait ByLayers<T: Grounded> {
     ghost use Rattle.std.specs.Prelude.{◌≡◌, ◌+◌, ◌≤◌, ℕ, List, ⊤, IfSome, IfNone};
     ghost use Rattle.sas_core.specs.declared.parts.Parts.{Parts};
     ghost use Rattle.sas_core.specs.Variables.{IsState};
-    ghost use Rattle.sas_meaning.specs.Settled.{SameBasic, IsSettled};
+    ghost use Rattle.sas_meaning.specs.Settled.{SameBasic, IsSettled, IsSettledAt};
     ghost use Rattle.sas_meaning.specs.Forced.{AtDefault};
-    ghost use Rattle.sas_axioms.specs.ByLayers.{IsIdle, SettlesNext};
+    ghost use Rattle.sas_axioms.specs.ByLayers.{SettlesNext};
 
     /// The evaluator can settle states of this task.
     ghost ready: { Self → Parts → Type 0 };
@@ -32,8 +32,8 @@ pub trait ByLayers<T: Grounded> {
         ensures basic { SameBasic layered.now state.old state.new }
         ensures default { (layer : ℕ) → AtDefault layered.now layer state.new };
 
-    /// Settles one of the remaining layers and returns it. It may skip layers on which no rule can fire. Returns `None` if no rule can fire
-    /// on any remaining layer.
+    /// Settles one of the remaining layers and returns it. It may skip layers that are settled already. Returns `None` if all remaining
+    /// layers are.
     fn settle_next(&mut self, layered: &Layered<T>, from: u64, state: &mut State) -> Option<u32>
         requires stands { stands self.old layered.now from state.old }
         requires state { IsState layered.now.variables state.old }
@@ -46,7 +46,8 @@ pub trait ByLayers<T: Grounded> {
         ensures follows { IfNone result
             ((IsSettled layered.now state.new) → follows self.new layered.now state.new) }
         ensures same { IfNone result (state.new ≡ state.old) }
-        ensures idle { IfNone result ((layer : ℕ) → from ≤ layer → IsIdle layered.now layer) };
+        ensures settled { IfNone result ((layer : ℕ) → from ≤ layer
+            → IsSettledAt layered.now layer state.new) };
 }
 
 /// Settles the state, layer by layer.

@@ -1,5 +1,5 @@
 // Settles one layer by counters: each rule counts its open conditions, and fires when none is left.
-ghost use Rattle.std.specs.Prelude.{◌≡◌, ℕ, ◌<◌, [], ◌∷◌, ◌++◌, List, IfOk, OnOk, slice_index};
+ghost use Rattle.std.specs.Prelude.{◌≡◌, ℕ, ◌<◌, ◌≤◌, [], ◌∷◌, ◌++◌, List, length, All, IfOk, OnOk, IfSome, IfNone, IsTrue, IsFalse, slice_index};
 ghost use Rattle.sas_core.specs.Grounded.{rule_at};
 ghost use Rattle.sas_core.specs.Variables.{IsState};
 ghost use Rattle.sas_meaning.specs.States.{AllHold};
@@ -8,7 +8,8 @@ ghost use Rattle.sas_meaning.specs.Following.{HaveGone};
 ghost use Rattle.sas_meaning.specs.Settled.{SameBasic};
 ghost use Rattle.sas_meaning.specs.ChangedVariables.{StillCovers};
 ghost use Rattle.sas_axioms.specs.ByLayers.{SettlesLayer};
-ghost use Rattle.sas_axioms.specs.LayerRules.{IsRuleOn, AreRulesOn};
+ghost use Rattle.sas_axioms.specs.declared.layer_rules.LayerRule.{LayerRule};
+ghost use Rattle.sas_axioms.specs.LayerRules.{IsRuleOn, IsLayerSpan, AreReadyFrom, AreWaiting, IsReadyAt, layer_at};
 ghost use Rattle.sas_axioms.specs.Conditions.{AreCounted};
 ghost use Rattle.sas_axioms.specs.Agenda.{IsEmpty};
 ghost use Rattle.sas_axioms.specs.Sources.{AreGiven, SameSourcesOff};
@@ -122,35 +123,57 @@ impl LayerSettler {
         self.work.counters = Items::from_vec(counters);
     }
 
-    /// Settles a layer. All its variables must have their defaults. `rules` are its rules that can fire; those that never fire first may
-    /// be left out.
+    /// Returns the index of the first rule from index `start` on that has no open conditions.
+    pub fn next_ready(&self, rules: &[LayerRule], start: usize) -> Option<usize>
+        requires { All (λ (r : LayerRule). r.rule < length self.now.work.counters) rules.now }
+        ensures some { IfSome result (λ ready. (start ≤ ready) × (ready < length rules.now)
+            × AreWaiting self.now.work.counters rules.now start ready
+            × IsReadyAt self.now.work.counters rules.now ready) }
+        ensures none { IfNone result
+            (AreWaiting self.now.work.counters rules.now start (length rules.now)) }
+    {
+        let counters = self.work.counters.as_slice();
+        for index in start..rules.len() {
+            if counters[rules[index].rule as usize] == 0 {
+                return Some(index);
+            }
+        }
+        None
+    }
+
+    /// Settles the layer of the rule at index `start`, which is its first rule without open conditions. All variables of the layer must
+    /// have their defaults. Returns the index of the first rule of a higher layer.
     pub fn settle_layer<T: Grounded>(
         &mut self,
         layered: &Layered<T>,
-        layer: u32,
         rules: &[LayerRule],
+        start: usize,
         state: &mut State,
-    )
+    ) -> usize
         requires prepared { IsFiringReady layered.now self.old }
         requires counts { AreCounted layered.now state.old self.old.work.counters }
-        requires rules { AreRulesOn layered.now layer rules.now }
+        requires rules { AreReadyFrom layered.now start (layer_at rules.now start)
+            self.old.work.counters rules.now }
         requires state { IsState layered.now.variables state.old }
-        requires default { AtDefault layered.now layer state.old }
+        requires default { AtDefault layered.now (layer_at rules.now start) state.old }
         ensures prepared { IsFiringReady layered.now self.new }
-        ensures settles { SettlesLayer layered.now layer state.old state.new }
+        ensures settles { SettlesLayer layered.now (layer_at rules.now start) state.old state.new }
         ensures counts { AreCounted layered.now state.new self.new.work.counters }
-        ensures given { AreGiven layered.now layer state.new self.new.work.sources }
-        ensures sources { SameSourcesOff layered.now layer self.old.work.sources
+        ensures given { AreGiven layered.now (layer_at rules.now start) state.new
             self.new.work.sources }
+        ensures sources { SameSourcesOff layered.now (layer_at rules.now start)
+            self.old.work.sources self.new.work.sources }
+        ensures end { IsLayerSpan rules.now start (layer_at rules.now start) result }
     {
-        self.work.layer = layer;
+        self.work.layer = rules[start].layer;
         let indexed = IndexedRules {
             layered,
             waiting: &self.counted.index,
             setting: &self.rules_of,
         };
-        fire_ready(&indexed, rules, &mut self.work, state);
+        let end = fire_ready(&indexed, rules, start, &mut self.work, state);
         empty_stack(&indexed, &mut self.work, state);
+        end
     }
 
     /// Updates the state, which must be settled except that the facts `gone` may have become false. The derived variables that it sets are
@@ -207,45 +230,48 @@ impl LayerSettler {
     }
 }
 
-/// Fires the rules of the layer that have no open conditions. All variables of the layer must have their defaults, so that none of the
-/// rules that are left out has.
+/// Fires the rules of the layer that have no open conditions. The first of them is at index `start`. Returns the index after the last rule
+/// of the layer.
 fn fire_ready<T: Grounded>(
     indexed: &IndexedRules<'_, '_, T>,
     rules: &[LayerRule],
+    start: usize,
     work: &mut Work,
     state: &mut State,
-)
-    requires rules { AreRulesOn indexed.now work.old.layer rules.now }
+) -> usize
+    requires layer { work.old.layer ≡ layer_at rules.now start }
+    requires rules { AreReadyFrom indexed.now start work.old.layer work.old.counters rules.now }
     requires room { WorkHasRoom indexed.now work.old }
     requires running { IsRunning indexed.now work.old.layer state.old work.old.stack.items }
     requires empty { work.old.stack.items ≡ [] }
     requires counts { AreCounted indexed.now state.old work.old.counters }
     requires given { AreGiven indexed.now work.old.layer state.old work.old.sources }
-    requires default { AtDefault indexed.now work.old.layer state.old }
     ensures at_work { IsAtWork indexed.now state.new work.new.stack.items work.new }
     ensures goes_on { WorkGoesOn indexed.now state.old work.old state.new work.new }
+    ensures end { IsLayerSpan rules.now start work.old.layer result }
 {
-    let layered = indexed.layered;
-    for entry in rules {
-        if work.counters.as_slice()[entry.rule as usize] == 0 {
-            fire(layered, entry.rule, work, state);
+    fire(indexed.layered, rules[start].rule, work, state);
+    let mut next = start + 1;
+    while next < rules.len() && rules[next].layer == work.layer {
+        let rule = rules[next].rule;
+        if work.counters.as_slice()[rule as usize] == 0 {
+            fire(indexed.layered, rule, work, state);
         }
+        next += 1;
     }
+    next
 }
 
-/// Sets the variable of the rule to its new value, unless the variable is on another layer. If this changes the variable, pushes it on the
-/// stack.
+/// Sets the variable of the rule, which is on the layer, to its new value. If this changes the variable, pushes it on the stack.
 fn fire<T: Grounded>(layered: &Layered<T>, rule: u32, work: &mut Work, state: &mut State)
-    requires rule { (layer : ℕ) × IsRuleOn layered.now layer rule }
+    requires rule { IsRuleOn layered.now work.old.layer rule }
     requires room { WorkHasRoom layered.now work.old }
     requires running { IsRunning layered.now work.old.layer state.old work.old.stack.items }
-    requires hold { IsRuleOn layered.now work.old.layer rule
-        → AllHold (slice_index state.old) (rule_at layered.now rule).conditions }
+    requires hold { AllHold (slice_index state.old) (rule_at layered.now rule).conditions }
     ensures { FiresRule layered.now rule state.old work.old state.new work.new }
 {
-    let task = layered.task();
-    let change = task.rule_change(rule);
-    if state.value(change.var) != change.new && task.layer(change.var) == Some(work.layer) {
+    let change = layered.task().rule_change(rule);
+    if state.value(change.var) != change.new {
         state.set(Fact {
             var: change.var,
             value: change.new,
@@ -289,9 +315,20 @@ fn release<T: Grounded>(
     for condition in indexed.waiting.get(var as usize) {
         if let Some(count) = count_after(*condition, moved, &work.counters) {
             work.counters.set(condition.rule as usize, count);
-            if count == 0 {
+            if is_ready(indexed.layered, work.layer, condition.rule, count) {
                 fire(indexed.layered, condition.rule, work, state);
             }
         }
     }
+}
+
+/// Returns whether a rule that can fire is on the layer and has no open conditions. `count` is the number of its open conditions.
+fn is_ready<T: Grounded>(layered: &Layered<T>, layer: u32, rule: u32, count: u32) -> bool
+    requires { (its : ℕ) × IsRuleOn layered.now its rule }
+    ensures none { IsTrue result → count ≡ 0 }
+    ensures on { IsTrue result → IsRuleOn layered.now layer rule }
+    ensures no { IsFalse result → count ≡ 0 → IsRuleOn layered.now layer rule → ⊥ }
+{
+    let task = layered.task();
+    count == 0 && task.layer(task.rule_change(rule).var) == Some(layer)
 }

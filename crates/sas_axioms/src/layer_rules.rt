@@ -1,6 +1,6 @@
 // The rules that can fire, layer by layer.
 ghost use Rattle.std.specs.Prelude.{◌<◌, ℕ, length, IfOk, IfSome, IfNone, IsTrue};
-ghost use Rattle.sas_axioms.specs.LayerRules.{IsRuleOn, IsLate, AreFirstRules, AreSpans, AreRulesOf};
+ghost use Rattle.sas_axioms.specs.LayerRules.{IsRuleOn, IsLate, AreFirstRules, AreRulesOf};
 
 use sas_core::Grounded;
 use sas_flat::{Entry, Lists};
@@ -85,26 +85,4 @@ pub fn firing_layer<T: Grounded>(layered: &Layered<T>, rule: u32) -> Option<u32>
         return None;
     }
     task.layer(change.var)
-}
-
-/// A layer in a list of rules, and the index after its last rule.
-#[derive(Clone, Copy, Debug, PartialEq, Eq)]
-pub struct LayerSpan {
-    pub layer: u32,
-    pub end: usize,
-}
-
-/// Returns the layers of the rules, from the lowest to the highest.
-pub fn spans_of(alloc: Global, rules: &[LayerRule]) -> Result<Vec<LayerSpan>, AllocError>
-    ensures { IfOk result (λ spans. AreSpans rules.now 0 spans.items (length rules.now)) }
-{
-    let mut spans = Vec::new(alloc);
-    for index in 0..rules.len() {
-        let layer = rules[index].layer;
-        let end = index + 1;
-        if end == rules.len() || rules[end].layer != layer {
-            spans.push(LayerSpan { layer, end })?;
-        }
-    }
-    Ok(spans)
 }

@@ -8,7 +8,7 @@ ghost use Rattle.sas_axioms.specs.Worklist.{IsReadyFor};
 
 use crate::by_layers::{ByLayers, settle_by_layers};
 use crate::firing::LayerSettler;
-use crate::layer_rules::{LayerRule, LayerSpan, first_rules, spans_of};
+use crate::layer_rules::{LayerRule, first_rules};
 use sas_core::{Fact, Grounded};
 use sas_meaning::{ChangedVariables, Layered, Settle, State, derived_variables};
 use std::alloc::{AllocError, Global};
@@ -21,12 +21,8 @@ pub struct Worklist {
     derived: Vec<u32>,
     /// The rules that can fire, without those that never fire first on their layer, in ascending order of their layers.
     rules: Vec<LayerRule>,
-    /// The layers in `rules`, in ascending order.
-    spans: Vec<LayerSpan>,
-    /// The index of the next layer in `spans`.
+    /// The index of the first rule in `rules` whose layer isn't settled yet.
     next: usize,
-    /// The index of the first rule of the next layer in `rules`.
-    start: usize,
     /// The evaluator of single layers.
     firing: LayerSettler,
 }
@@ -36,14 +32,11 @@ impl Drop for Worklist {
         let Worklist {
             derived,
             rules,
-            spans,
             next: _,
-            start: _,
             firing,
         } = self;
         drop(derived);
         drop(rules);
-        drop(spans);
         drop(firing);
     }
 }
@@ -54,7 +47,6 @@ impl Worklist {
         ensures { IfOk result (λ w. IsReadyFor layered.now w) }
     {
         let rules = first_rules(alloc, layered)?;
-        let spans = spans_of(alloc, rules.as_slice())?;
         let derived = derived_variables(alloc, layered)?;
         // Settling a state from scratch goes through the derived variables and the rules, mostly in order. An update jumps between them, so
         // it may process half as many.
@@ -62,9 +54,7 @@ impl Worklist {
         Ok(Worklist {
             derived,
             rules,
-            spans,
             next: 0,
-            start: 0,
             firing: LayerSettler::new(alloc, layered, share)?,
         })
     }
@@ -115,17 +105,14 @@ impl<T: Grounded> ByLayers<T> for Worklist {
         reset_derived(layered, self.derived.as_slice(), state);
         self.firing.begin(layered, state);
         self.next = 0;
-        self.start = 0;
     }
 
     fn settle_next(&mut self, layered: &Layered<T>, _from: u64, state: &mut State) -> Option<u32> {
         let rules = self.rules.as_slice();
-        let span = self.spans.as_slice().get(self.next)?;
-        self.firing
-            .settle_layer(layered, span.layer, &rules[self.start..span.end], state);
-        self.next += 1;
-        self.start = span.end;
-        Some(span.layer)
+        let ready = self.firing.next_ready(rules, self.next)?;
+        let layer = rules[ready].layer;
+        self.next = self.firing.settle_layer(layered, rules, ready, state);
+        Some(layer)
     }
 }
 

@@ -24,7 +24,7 @@ loop-layer-preserved g c =
       stands = stands;
       state = next.settles.state;
       basic = λ v b. inv.basic v b ∙ basic_off p layer s s' layered off v b;
-      below = settled_to_next p c.loop-layer.from layer s s' layered next inv.below inv.above;
+      below = settled_to_next p c.loop-layer.from layer s s' layered next inv.below;
       above = λ m le. default_off p layer s s' layered off m (omega arith) (inv.above m (let k = next.from_on in omega arith));
       bound = bound;
     }
@@ -36,11 +36,11 @@ returns-clause-settles g c =
     rw same record {
       state = inv.state;
       basic = inv.basic;
-      settled = settled_in_the_end c.args.layered.now c.loop-layer.from c.loop-layer.state c.task.ensures.layered inv.below inv.above c.in_default.ensures.idle;
+      settled = settled_in_the_end c.args.layered.now c.loop-layer.from c.loop-layer.state inv.below (rw same at c.in_default.ensures.settled);
     }
 
 pub returns-clause-follows : goal.returns-clause-follows
 returns-clause-follows g c =
     let inv = c.loop-layer.invariant in
     let same = c.in_default.ensures.same in
-    c.in_default.ensures.follows (rw same (settled_in_the_end c.args.layered.now c.loop-layer.from c.loop-layer.state c.task.ensures.layered inv.below inv.above c.in_default.ensures.idle))
+    c.in_default.ensures.follows (rw same (settled_in_the_end c.args.layered.now c.loop-layer.from c.loop-layer.state inv.below (rw same at c.in_default.ensures.settled)))

@@ -1,15 +1,13 @@
 -- The rules so far that have no open conditions have fired.
-use Rattle.sas_axioms.proofs.Imports.{◌≡◌, ℕ, ◌<◌, get_or, rule_at, LayerRule, value_seen, IsRunning, AreCountedBy, WorkHasRoom, WorkGoesOn, AreGiven}
+use Rattle.sas_axioms.proofs.Imports.{◌-◌, ◌<◌, length}
+use Rattle.sas_axioms.proofs.Standing.{FiringTo}
 use Rattle.sas_axioms.proofs.firing.fire_ready.Given as goal
 
-abbrev pub invariant-loop-entry : goal.invariant-loop-entry
-invariant-loop-entry g l = record {
-  goes_on : WorkGoesOn l.indexed l.fn.state l.fn.work l.state l.work;
-  same : l.work.counters ≡ l.fn.work.counters;
-  given : AreGiven l.indexed l.fn.work.layer l.state l.work.sources;
-  room : WorkHasRoom l.indexed l.work;
-  running : IsRunning l.indexed l.fn.work.layer l.state l.work.stack.items;
-  counts : AreCountedBy l.indexed (value_seen l.indexed l.state l.work.stack.items) l.fn.work.counters;
-  fired : (j : ℕ) (d : LayerRule) → j < l.entry-index → get_or l.fn.work.counters (get_or l.rules j d).rule 0 ≡ 0
-      → get_or l.state (rule_at l.indexed (get_or l.rules j d).rule).var 0 ≡ (rule_at l.indexed (get_or l.rules j d).rule).new;
+abbrev pub invariant-loop-next : goal.invariant-loop-next
+invariant-loop-next g l = record {
+  some : l.start < l.next;
+  to : FiringTo l.indexed l.rules l.start l.next l.fn.state l.fn.work l.state l.work;
 }
+
+abbrev pub decreases-loop-next : goal.decreases-loop-next
+decreases-loop-next g l = length l.rules - l.next

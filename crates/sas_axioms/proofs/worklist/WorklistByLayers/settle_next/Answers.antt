@@ -1,82 +1,92 @@
--- The next layer on which a rule can fire.
-use Rattle.sas_axioms.proofs.Imports.{rules, ◌≡◌, ℕ, ◌+◌, ◌≤◌, ◌<◌, length, get_or, drop, subst, arith, LayerSpan, SettlesLayer, IsLayerSpan, AreSpans, IsIdle, IsSettled, IsFollowed}
+-- The next layer on which a rule holds.
+use Rattle.sas_axioms.proofs.Imports.{rules, ℕ, ◌≤◌, ◌<◌, length, arith, SettlesLayer, IsLayerSpan, AreWaiting, IsReadyAt, layer_at, IsSettledAt, IsSettled, IsFollowed}
 use Rattle.sas_axioms.proofs.AllCounted.{given_to_next, followed_in_the_end}
-use Rattle.sas_axioms.proofs.Spans.{next_span, no_span_left}
-use Rattle.sas_axioms.proofs.Standing.{idle_in_the_end, from_on, idle_between, rules_of_span, stands_behind}
+use Rattle.sas_axioms.proofs.Standing.{settled_while_waiting, settled_between, from_on, ready_from, stands_behind}
 use Rattle.sas_axioms.proofs.worklist.WorklistByLayers.settle_next.Goals as goal
 use Rattle.sas_axioms.proofs.worklist.WorklistByLayers.settle_next.Given.{Over}
-use Rattle.sas_axioms.proofs.worklist.WorklistByLayers.settle_next.Goals.{In_ok-span}
+use Rattle.sas_axioms.proofs.worklist.WorklistByLayers.settle_next.Goals.{In_ok-ready}
 
--- the span that is next, and those behind it
-both : (g : Over) (c : In_ok-span g) → IsLayerSpan c.args.self.now.rules.items c.args.self.now.start c.in_ok-span.span.now.layer c.in_ok-span.span.now.end
-    × AreSpans c.args.self.now.rules.items c.in_ok-span.span.now.end (drop (c.args.self.now.next + 1) c.args.self.now.spans.items) (length c.args.self.now.rules.items)
-both g c =
-    let all = c.args.self.now.rules.items in
-    let spans = c.args.self.now.spans.items in
-    let next = c.args.self.now.next in
-    let d : LayerSpan = record { layer = 0; end = 0 } in
-    let within : next < length spans = search rules in
-    let is : get_or spans next d ≡ c.in_ok-span.span.now = search rules in
-    subst (λ (s : LayerSpan). IsLayerSpan all c.args.self.now.start s.layer s.end × AreSpans all s.end (drop (next + 1) spans) (length all)) is
-    (next_span all spans c.args.self.now.start next (length all) d within c.requires.stands.left)
+pub next_ready-requires : goal.next_ready-requires
+next_ready-requires g c = rw c.as_slice-rules.ensures.value (λ k d lt.
+    let on = c.requires.stands.ready.rules.only k d lt in
+    omega (arith, on.exists, c.requires.stands.ready.firing.room.one_each))
 
-span : (g : Over) (c : In_ok-span g) → IsLayerSpan c.args.self.now.rules.items c.args.self.now.start c.in_ok-span.span.now.layer c.in_ok-span.span.now.end
-span g c = (both g c).0
-
-pub returns-in_err-span-clause-idle : goal.returns-in_err-span-clause-idle
-returns-in_err-span-clause-idle g c =
-    let all = c.args.self.now.rules.items in
-    let past : length c.args.self.now.spans.items ≤ c.args.self.now.next = search rules in
-    let done = no_span_left all c.args.self.now.spans.items c.args.self.now.start c.args.self.now.next (length all) past c.requires.stands.left in
-    let idle : (m : ℕ) → c.args._from ≤ m → IsIdle c.args.layered.now m =
-    idle_in_the_end c.args.layered.now all c.args._from c.args.self.now.start c.requires.stands.ready.rules c.requires.stands.stands (omega (arith, done)) in
+pub returns-in_err-ready-clause-settled : goal.returns-in_err-ready-clause-settled
+returns-in_err-ready-clause-settled g c =
+    let p = c.args.layered.now in
+    let w = c.args.self.now in
+    let stands = c.requires.stands in
+    let all = w.rules.items in
+    let waiting : AreWaiting w.firing.work.counters all w.next (length all) = rw c.as_slice-rules.ensures.value at c.in_err-ready.ensures.none in
+    let settled : (m : ℕ) → c.args._from ≤ m → IsSettledAt p m c.args.state.now = λ m le.
+    settled_while_waiting p all c.args._from w.next stands.ready.rules stands.stands c.args.state.now w.firing.work.counters stands.ready.firing.counted.layered stands.counts
+    (length all) m waiting (λ k d past within e. absurd (omega arith)) le (c.requires.default m le) in
     search rules
 
-pub settle_layer-requires-clause-rules : goal.settle_layer-requires-clause-rules
-settle_layer-requires-clause-rules g c =
-    let some = (goal.at.settle_layer-requires-clause-rules g c).In_ok-span in
-    rw c.as_slice-rules.ensures.value
-    (rules_of_span c.args.layered.now c.args.self.now.rules.items c.args._from c.args.self.now.start c.requires.stands.ready.rules c.requires.stands.stands c.in_ok-span.span.now.layer c.in_ok-span.span.now.end (span g some))
-
-pub settle_layer-requires-clause-default : goal.settle_layer-requires-clause-default
-settle_layer-requires-clause-default g c =
-    let some = (goal.at.settle_layer-requires-clause-default g c).In_ok-span in
-    (c.requires.default c.in_ok-span.span.now.layer (from_on c.args.layered.now c.args.self.now.rules.items c.args._from c.args.self.now.start c.requires.stands.ready.rules c.requires.stands.stands c.in_ok-span.span.now.layer c.in_ok-span.span.now.end (span g some)))
-
-pub returns-clause-stands : goal.returns-clause-stands
-returns-clause-stands g c =
-    let some = (goal.at.returns-clause-stands g c).In_ok-span in
-    let ready = c.requires.stands.ready in
-    let layer = c.in_ok-span.span.now.layer in
-    let settles : SettlesLayer c.args.layered.now layer c.args.state.now c.settle_layer.new.state = c.settle_layer.ensures.settles in
-    record {
-      ready = record {
-        variables = ready.variables;
-        rules = ready.rules;
-        spans = ready.spans;
-        firing = c.settle_layer.ensures.prepared;
-      };
-      stands = stands_behind c.args.layered.now c.args.self.now.rules.items c.args._from c.args.self.now.start ready.rules c.requires.stands.stands layer c.in_ok-span.span.now.end (span g some);
-      left = (both g some).1;
-      given = given_to_next c.args.layered.now layer c.args.state.now c.settle_layer.new.state c.args.self.now.firing.work.sources c.settle_layer.new.self.work.sources
-          ready.firing.counted.layered settles.off c.settle_layer.ensures.sources c.settle_layer.ensures.given c.requires.stands.given c.requires.default;
-      counts = c.settle_layer.ensures.counts;
-    }
-
-pub returns-clause-settles : goal.returns-clause-settles
-returns-clause-settles g c =
-    let some = (goal.at.returns-clause-settles g c).In_ok-span in
-    let all = c.args.self.now.rules.items in
-    let layer = c.in_ok-span.span.now.layer in
-    record {
-      from_on = from_on c.args.layered.now all c.args._from c.args.self.now.start c.requires.stands.ready.rules c.requires.stands.stands layer c.in_ok-span.span.now.end (span g some);
-      idle = idle_between c.args.layered.now all c.args._from c.args.self.now.start c.requires.stands.ready.rules c.requires.stands.stands layer c.in_ok-span.span.now.end (span g some);
-      settles = c.settle_layer.ensures.settles;
-    }
-
-pub returns-in_err-span-clause-follows : goal.returns-in_err-span-clause-follows
-returns-in_err-span-clause-follows g c =
+pub returns-in_err-ready-clause-follows : goal.returns-in_err-ready-clause-follows
+returns-in_err-ready-clause-follows g c =
     let follows : IsSettled c.args.layered.now c.args.state.now → IsFollowed c.args.layered.now c.args.state.now c.args.self.now.firing.work =
     followed_in_the_end c.args.layered.now c.args._from c.args.state.now c.args.self.now.firing.work c.requires.stands.ready.firing.counted.layered c.requires.state c.requires.stands.ready.firing.room.sources
     c.requires.stands.counts c.requires.stands.given c.requires.default in
     search rules
+
+waiting : (g : Over) (c : In_ok-ready g) → AreWaiting c.args.self.now.firing.work.counters c.args.self.now.rules.items c.args.self.now.next c.in_ok-ready.ready
+waiting g c = rw c.as_slice-rules.ensures.value at c.in_ok-ready.ensures.some.2
+
+is_ready : (g : Over) (c : In_ok-ready g) → IsReadyAt c.args.self.now.firing.work.counters c.args.self.now.rules.items c.in_ok-ready.ready
+is_ready g c = rw c.as_slice-rules.ensures.value at c.in_ok-ready.ensures.some.3
+
+within : (g : Over) (c : In_ok-ready g) → c.in_ok-ready.ready < length c.args.self.now.rules.items
+within g c = rw c.as_slice-rules.ensures.value at c.in_ok-ready.ensures.some.1
+
+left : (g : Over) (c : In_ok-ready g) → c.args._from ≤ layer_at c.args.self.now.rules.items c.in_ok-ready.ready
+left g c =
+    let stands = c.requires.stands in
+    let w = c.args.self.now in
+    from_on c.args.layered.now w.rules.items c.args._from w.next stands.ready.rules stands.stands c.args.state.now w.firing.work.counters stands.ready.firing.counted.layered stands.counts
+    c.in_ok-ready.ready c.in_ok-ready.ensures.some.0 (within g c) (waiting g c) (is_ready g c)
+
+pub settle_layer-self-requires-clause-rules : goal.settle_layer-self-requires-clause-rules
+settle_layer-self-requires-clause-rules g c =
+    let at = (goal.at.settle_layer-self-requires-clause-rules g c).In_ok-ready in
+    let stands = c.requires.stands in
+    let w = c.args.self.now in
+    rw c.as_slice-rules.ensures.value
+    (ready_from c.args.layered.now w.rules.items c.args._from w.next stands.ready.rules stands.stands c.args.state.now w.firing.work.counters stands.ready.firing.counted.layered stands.counts
+    c.in_ok-ready.ready c.in_ok-ready.ensures.some.0 (within g at) (waiting g at) (is_ready g at) (c.requires.default (layer_at w.rules.items c.in_ok-ready.ready) (left g at)))
+
+pub settle_layer-self-requires-clause-default : goal.settle_layer-self-requires-clause-default
+settle_layer-self-requires-clause-default g c =
+    let at = (goal.at.settle_layer-self-requires-clause-default g c).In_ok-ready in
+    rw c.as_slice-rules.ensures.value (c.requires.default (layer_at c.args.self.now.rules.items c.in_ok-ready.ready) (left g at))
+
+pub returns-clause-stands : goal.returns-clause-stands
+returns-clause-stands g c =
+    let at = (goal.at.returns-clause-stands g c).In_ok-ready in
+    let p = c.args.layered.now in
+    let w = c.args.self.now in
+    let stands = c.requires.stands in
+    let layer = layer_at w.rules.items c.in_ok-ready.ready in
+    let settles : SettlesLayer p layer c.args.state.now c.settle_layer-self.new.state = rw c.as_slice-rules.ensures.value at c.settle_layer-self.ensures.settles in
+    let span : IsLayerSpan w.rules.items c.in_ok-ready.ready layer c.settle_layer-self.result = rw c.as_slice-rules.ensures.value at c.settle_layer-self.ensures.end in
+    rw c.as_slice-rules.ensures.value record {
+      ready = record { variables = stands.ready.variables; rules = stands.ready.rules; firing = c.settle_layer-self.ensures.prepared };
+      stands = stands_behind p w.rules.items c.args._from w.next stands.ready.rules stands.stands c.args.state.now w.firing.work.counters stands.ready.firing.counted.layered stands.counts
+          c.in_ok-ready.ready c.in_ok-ready.ensures.some.0 (within g at) (waiting g at) (is_ready g at) c.settle_layer-self.result span;
+      given = given_to_next p layer c.args.state.now c.settle_layer-self.new.state w.firing.work.sources c.settle_layer-self.new.self.work.sources
+          stands.ready.firing.counted.layered settles.off (rw c.as_slice-rules.ensures.value at c.settle_layer-self.ensures.sources) (rw c.as_slice-rules.ensures.value at c.settle_layer-self.ensures.given) stands.given c.requires.default;
+      counts = c.settle_layer-self.ensures.counts;
+    }
+
+pub returns-clause-settles : goal.returns-clause-settles
+returns-clause-settles g c =
+    let at = (goal.at.returns-clause-settles g c).In_ok-ready in
+    let p = c.args.layered.now in
+    let w = c.args.self.now in
+    let stands = c.requires.stands in
+    rw c.as_slice-rules.ensures.value record {
+      from_on = left g at;
+      skipped = λ below le lt. settled_between p w.rules.items c.args._from w.next stands.ready.rules stands.stands c.args.state.now w.firing.work.counters stands.ready.firing.counted.layered stands.counts
+          c.in_ok-ready.ready c.in_ok-ready.ensures.some.0 (within g at) (waiting g at) (is_ready g at) below le lt (c.requires.default below le);
+      settles = rw c.as_slice-rules.ensures.value at c.settle_layer-self.ensures.settles;
+    }
