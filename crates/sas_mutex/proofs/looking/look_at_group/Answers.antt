@@ -48,8 +48,7 @@ returns-then-keeps_by_notes-clause-looked g c =
     let f = c.args.firing.now in
     let after = c.keeps_by_more.new.family in
     subst (λ (family : Family). Looked f.task f.operator (IsPair f.effect c.args.group) family after c.keeps_by_more.result) c.keeps_by_basis.ensures.same
-    (looked_pair f.effect c.args.group c.keeps_by_more.ensures.grown
-    (room g (goal.at.returns-then-keeps_by_notes-clause-looked g c).After-as_slice-2)
+    (looked_pair f.effect c.args.group c.keeps_by_more.ensures.grown c.keeps_by_more.ensures.room
     (λ _. subst (λ (kept : List Bool). EffectKeepsGroup f kept c.args.group) c.as_slice-2.ensures (c.keeps_by_notes.ensures.is.0 c.if-keeps_by_notes.true))
     c.keeps_by_more.ensures.basis)
 
@@ -71,7 +70,7 @@ removed g c =
     let f = c.args.firing.now in
     let turn = c.take_away.ensures in
     let before = (goal.at.After-take_away g c).After-as_slice-2 in
-    looked_removed f.task f.operator f.effect c.args.group c.keeps_by_basis.new.family c.take_away.new.self turn.kept turn.fallen turn.basis turn.supports turn.room
+    looked_removed f.task f.operator f.effect c.args.group c.keeps_by_basis.new.family c.take_away.new.self turn.kept turn.fallen turn.basis turn.supports turn.excluding turn.room
     (room g before) (here g before)
     (subst (λ (s : EffectPlace). s.operator < length s.task.operators) c.firing.view_is c.firing.invariant.2)
     (subst (λ (s : EffectPlace). s.effect < length (operator_of s).effects) c.firing.view_is c.firing.invariant.3)
