@@ -24,7 +24,7 @@ pub use Rattle.sas_core.specs.declared.parts.Fact.{Fact}
 pub use Rattle.sas_core.specs.declared.parts.Operator.{Operator}
 pub use Rattle.sas_core.specs.declared.parts.Parts.{Parts}
 pub use Rattle.sas_groups.proofs.Effects.{keeps_from_effects, effect_of_keeps}
-pub use Rattle.sas_groups.proofs.Entering.{group_fact_exists}
+pub use Rattle.sas_groups.proofs.Entering.{group_fact_exists, own_fact_exists}
 pub use Rattle.sas_groups.proofs.Existing.{variable_below, groups_below}
 pub use Rattle.sas_groups.proofs.GreatestFamily.{group_of_larger, keeps_more, clash_more, outside_is_broken}
 pub use Rattle.sas_groups.proofs.Iff.{iff_yes, iff_no, iff_from, iff_other, iff_not}
@@ -53,7 +53,7 @@ pub use Rattle.sas_groups.specs.declared.notes.Notes.{Notes}
 pub use Rattle.sas_groups.specs.declared.verdict.Verdict.{Verdict}
 pub use Rattle.sas_groups.specs.declared.verdict.Verdict.TheVariants.{Derived, Initial, Broken, Exclusive}
 pub use Rattle.sas_meaning.specs.Steps.{preconditions, old_fact}
-pub use Rattle.sas_mutex.specs.Basis.{BasisGrows, Excludes, HasGrown, IsBasis, IsOfNone, SetsNone}
+pub use Rattle.sas_mutex.specs.Basis.{AreNotedWith, BasisGrows, Excludes, HasGrown, IsBasis, IsOfNone, SetsNone}
 pub use Rattle.sas_mutex.specs.ByNotes.{IsNotedAt, ShareOne, AreKnown, IsMet, RemovesByNotes, SomeRemoves, IsNotedFor, known_at, IsUnknownAt, IsGoneAt, IsDecidedByFirst, NeverFires, NotBothAt, BothClashAt, SetsBeside, IsApartAt, IsSingleOn, IsSingleOnFirst, IsUnknown, ClashesAt, SetsOtherValue, EffectKeepsGroupWithItself, EffectKeepsGroup, AreGoneAt}
 pub use Rattle.sas_mutex.specs.Effects.{IsKept, KeepsAt, KeepsWithItself, IsUnconditional}
 pub use Rattle.sas_mutex.specs.Falling.{count, IsAtRest, AreCandidates, newly, Falls, FamilyHasRoom, RestsOn, IsWithin}

@@ -1,5 +1,5 @@
 -- Growing the basis and emptying it.
-use Rattle.sas_mutex.proofs.Imports.{◌≡◌, ◌⊎◌, ℕ, ◌+◌, ◌<◌, ◌≤◌, Bool, true, false, List, [], length, set, refl, sym, ◌∙◌, ap, subst, inl, inr, vec_capacity, Vec, cases_eq, cases_lt, true≢false, get_or-set_same, get_or-set_other, get_or_past, get_or, All-nil, All-contains, All, Contains, Contains-get_or, Parts, family_of, Excluding, Family, IsBasis, IsOfNone, Excludes, HasGrown, count, Falls, FamilyHasRoom}
+use Rattle.sas_mutex.proofs.Imports.{◌≡◌, ℕ, ◌+◌, ◌<◌, ◌≤◌, Bool, true, false, List, [], length, set, refl, sym, ◌∙◌, ap, subst, inl, inr, vec_capacity, Vec, cases_eq, cases_lt, true≢false, get_or-set_same, get_or-set_other, get_or_past, get_or, All-nil, All-contains, All, Contains-get_or, Parts, family_of, Excluding, Family, AreNotedWith, IsBasis, IsOfNone, Excludes, HasGrown, count, Falls, FamilyHasRoom}
 use Rattle.sas_mutex.proofs.FallingGroups.{none_fell}
 
 -- a place at which a list is true is one of its places
@@ -53,17 +53,21 @@ pub grown_room : (p : Parts) (before after : Family) → HasGrown before after �
 grown_room p before after grown excluding room =
     same_room p before after grown.kept grown.fallen (grown.basis (length p.groups) room.basis) excluding room
 
+-- the same facts are noted as excluding others
+pub same_excluding : (p : Parts) (before after : Family) → after.excluding ≡ before.excluding → FamilyHasRoom p before → All (Excludes p before.kept) after.excluding
+same_excluding p before after same room = subst (All (Excludes p before.kept)) (sym same) room.excluding
+
+-- the basis has grown, and the same facts are noted as excluding others
+pub basis_room : (p : Parts) (before after : Family) → HasGrown before after → after.excluding ≡ before.excluding → FamilyHasRoom p before → FamilyHasRoom p after
+basis_room p before after grown same room = grown_room p before after grown (same_excluding p before after same room) room
+
 -- one more is noted
 pub more_excluding : (p : Parts) (kept : List Bool) (before after : List Excluding) (found : Excluding) → All (Excludes p kept) before → Excludes p kept found
-    → ((e : Excluding) → Contains after e → Contains before e ⊎ (found ≡ e)) → All (Excludes p kept) after
+    → AreNotedWith found before after → All (Excludes p kept) after
 more_excluding p kept before after found all its either k d lt = elim (either (get_or after k d) (Contains-get_or after k d lt)) [
   | inl there ↦ All-contains (Excludes p kept) before (get_or after k d) all there
   | inr is ↦ subst (Excludes p kept) is its
 ]
-
--- the same facts are noted as excluding others
-pub same_excluding : (p : Parts) (before after : Family) → after.excluding ≡ before.excluding → FamilyHasRoom p before → All (Excludes p before.kept) after.excluding
-same_excluding p before after same room = subst (All (Excludes p before.kept)) (sym same) room.excluding
 
 pub grown_falls : (p : Parts) (before after : Family) → HasGrown before after → Falls p before after
 grown_falls p before after grown = same_falls p before after grown.kept grown.fallen

@@ -1,6 +1,6 @@
 -- The basis: the groups that are assumed besides a group itself. What an effect preserves under
 -- this assumption it preserves whichever other groups are removed.
-use Rattle.std.specs.Prelude.{◌≡◌, ◌≢◌, ℕ, ◌<◌, Bool, IsTrue, IsFalse, List, length, Contains, All}
+use Rattle.std.specs.Prelude.{◌≡◌, ◌≢◌, ◌⊎◌, ℕ, ◌<◌, Bool, IsTrue, IsFalse, List, length, Contains, All}
 use Rattle.sas_core.specs.declared.parts.Parts.{Parts}
 use Rattle.sas_core.specs.declared.parts.Fact.{Fact}
 use Rattle.sas_core.specs.Grounded.{operator_at, effect_at, group_at}
@@ -21,6 +21,11 @@ SetsNone p kept operator effect = (place : ℕ) → IsIn p (family_of kept) plac
 abbrev pub Excludes : Parts → List Bool → Excluding → Type 0
 Excludes p kept excluding = (f : Fact) → Contains (group_at p excluding.group) f
     → f.var ≢ excluding.var → Contradict (IsKept p kept) excluding.fact f
+
+-- each one after was there before, or is this one
+abbrev pub AreNotedWith : Excluding → List Excluding → List Excluding → Type 0
+AreNotedWith found before after =
+    (excluding : Excluding) → Contains after excluding → Contains before excluding ⊎ (found ≡ excluding)
 
 -- the family without groups, as a list with an entry for each group
 pub record IsOfNone (groups : ℕ) (none : List Bool) : Type 0 where

@@ -1,9 +1,8 @@
 // The family: the groups that may still be preserved jointly.
-ghost use Rattle.std.specs.Prelude.{◌≡◌, ◌⊎◌, ◌≤◌, ◌+◌, ◌++◌, [], ◌∷◌, false, ℕ, ◌<◌, length, IsTrue, All, Contains, slice_set, vec_capacity};
+ghost use Rattle.std.specs.Prelude.{◌≡◌, ◌≤◌, ◌+◌, ◌++◌, [], ◌∷◌, false, ℕ, ◌<◌, length, IsTrue, All, slice_set, vec_capacity};
 ghost use Rattle.sas_groups.specs.Kept.{family_of};
 ghost use Rattle.sas_mutex.specs.Falling.{count};
-ghost use Rattle.sas_mutex.specs.declared.family.Excluding.{Excluding};
-ghost use Rattle.sas_mutex.specs.Basis.{IsBasis, IsBasisKept, HasGrown, IsOfNone, IsWithout};
+ghost use Rattle.sas_mutex.specs.Basis.{AreNotedWith, IsBasis, IsBasisKept, HasGrown, IsOfNone, IsWithout};
 
 use sas_core::{Fact, Items};
 use sas_groups::MOST_GROUPS;
@@ -65,6 +64,16 @@ fn take_out(list: &mut Items<bool>, groups: &[u32])
     }
 }
 
+/// Appends one to those that are noted. If they are too many, these are removed before.
+fn note(noted: &mut Items<Excluding>, found: Excluding)
+    ensures { AreNotedWith found noted.old noted.new }
+{
+    if noted.len() >= MOST_EXCLUDING {
+        noted.clear();
+    }
+    let _ = noted.push(found);
+}
+
 impl Family {
     /// Returns whether the group is in the family.
     #[inline(always)]
@@ -115,16 +124,12 @@ impl Family {
         self.basis.set(group as usize, true);
     }
 
-    /// Notes that a fact excludes others. If too many such facts are noted, they are removed before.
+    /// Notes that a fact excludes others.
     pub fn note_excluding(&mut self, found: Excluding)
         ensures grown { HasGrown self.old self.new }
-        ensures excluding { (e : Excluding) → Contains self.new.excluding e
-            → Contains self.old.excluding e ⊎ (found ≡ e) }
+        ensures excluding { AreNotedWith found self.old.excluding self.new.excluding }
     {
-        if self.excluding.len() >= MOST_EXCLUDING {
-            self.excluding.clear();
-        }
-        let _ = self.excluding.push(found);
+        note(&mut self.excluding, found);
     }
 
     /// Removes all groups from the basis.

@@ -1,5 +1,5 @@
 -- Different facts of a group of the family contradict each other.
-use Rattle.sas_mutex.proofs.Imports.{◌≢◌, Fact, IsKept, arith, common_steps}
+use Rattle.sas_mutex.proofs.Imports.{◌≢◌, IsKept, arith, common_steps}
 use Rattle.sas_mutex.proofs.KnownFacts.{shares_contradicts, contradict_turned}
 use Rattle.sas_mutex.proofs.effects.FiringEffect.excludes.Goals as goal
 

@@ -3,5 +3,5 @@ use Rattle.sas_mutex.proofs.Imports.{◌≢◌, ℕ, ◌<◌, get_or, Fact, Cont
 use Rattle.sas_mutex.proofs.effects.FiringEffect.excluding.Given as goal
 
 abbrev pub invariant-loop-other : goal.invariant-loop-other
-invariant-loop-other g l = (k : ℕ) (d : Fact) → k < l.other-index → (get_or l.others k d).var ≢ l.self.change.var
-    → Contradict (IsKept l.self.task l.kept) l.fact (get_or l.others k d)
+invariant-loop-other g l = (k : ℕ) (d : Fact) → k < l.other-index → (get_or l.other-items k d).var ≢ l.self-inside.change.var
+    → Contradict (IsKept l.self.task l.kept) l.fact (get_or l.other-items k d)

@@ -1,5 +1,5 @@
 -- No effect sets another fact of the group, and the fact set apart excludes the others.
-use Rattle.sas_mutex.proofs.Imports.{◌≡◌, ◌≢◌, ℕ, Some, sym, ap, subst, ◌∙◌, arith, common_steps, Change, EffectPlace, effect_of, AreGoneAt}
+use Rattle.sas_mutex.proofs.Imports.{◌≡◌, Some, ap, subst, ◌∙◌, arith, common_steps, Change, EffectPlace, AreGoneAt}
 use Rattle.sas_mutex.proofs.FromNotes.{IsFiring, excluded_gone}
 use Rattle.sas_mutex.proofs.effects.FiringEffect.keeps_by.Goals as goal
 
