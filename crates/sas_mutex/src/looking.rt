@@ -216,6 +216,7 @@ fn look_at_group<T: Grounded>(
 }
 
 /// Returns true only if the effect preserves the group since a fact excludes its other facts, as was found before.
+#[inline(never)]
 fn keeps_by_excluding<T: Grounded>(
     firing: &FiringEffect<'_, '_, T>,
     group: u32,
