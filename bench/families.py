@@ -4,8 +4,9 @@
     bench/families.py ./sas FOLDER [--only TEXT] [--scale F] [--at-once N]
 
 A family is tasks of one shape in any size, each with one thing in great number that might make a cost grow as a square; a plan
-grows as its task does, unless each step goes through the whole task. The inputs are made in FOLDER if they aren't there, some 35 MB. Growth is the instructions a byte at the
-second size over those at the first. Near 1 is linear; the second size is four times the first, so a square shows as nearly 4.
+grows as its task does, unless each step goes through the whole task. The inputs are made in FOLDER if they aren't there, some
+35 MB. Growth is the instructions a byte at the second size over those at the first. Near 1 is linear; the second size is four
+times the first, so a square shows as nearly 4.
 The exit status is 1 if one is above 1.15, or an answer isn't right. N families are counted side by side (as many as there are
 processors), which changes no count. It needs valgrind.
 """
@@ -19,7 +20,7 @@ import machine
 from answers import digest, expected_digest
 from cases import files_of
 from count import LINEAR, answer_word, counted, size_of
-from groups import Chained, Effects, Relying, Repeated, Resting, Shared, Spoiled, Ungrouped
+from groups import Chained, Effects, Excluded, Relying, Repeated, Resting, Shared, Single, Spoiled, Ungrouped
 from idle import Below, Layers, Ruled, Turned, Unruled
 from make import made_input
 from names import Names
@@ -45,6 +46,8 @@ FAMILIES = [
     Family("groups that share a fact and fall one after another", "mutex", Chained, 500),
     Family("groups that fall, operators that rest on another", "mutex", Resting, 1000),
     Family("operators that rely on a group for many others", "mutex", Relying, 2000),
+    Family("groups of one fact", "mutex", Single, 2000),
+    Family("operators that rely on a pair for each fact", "mutex", Excluded, 1000),
     Family("effects beside a group", "mutex", Effects, 5000),
     Family("effects and no group", "mutex", Ungrouped, 5000),
     Family("names that end alike", "plan", Names, 10000, 1),
