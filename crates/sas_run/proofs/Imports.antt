@@ -89,5 +89,6 @@ pub use Rattle.sas_run.specs.declared.progress.Progress.{Progress}
 pub use Rattle.sas_run.specs.declared.runner.Choice.{Choice}
 pub use Rattle.sas_run.specs.declared.runner.Choice.TheVariants.{Unknown, Blocked, Found}
 pub use Rattle.sas_run.specs.declared.step_names.StepNames.{StepNames}
+pub use Rattle.sas_run.specs.declared.step_operators.StepOperators.{StepOperators}
 pub use Rattle.sas_run.specs.declared.stepper.Stepper.{Stepper}
 pub use Rattle.sas_run.specs.declared.steps.StepFault.{StepFault}

@@ -33,5 +33,5 @@ pub use names::{NamedTask, Names};
 pub use other_senses::other_senses_laws;
 pub use plan_check::{PlanFault, Valid, check_once};
 pub use runner::{Choice, Runner};
-pub use step_operators::{PlanOperators, StepOperators, count_nameless};
+pub use step_operators::{PlanOperators, StepOperators};
 pub use steps::StepFault;

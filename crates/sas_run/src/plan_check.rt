@@ -34,9 +34,9 @@ pub struct Valid {
 pub enum PlanFault {
     /// Out of memory.
     Memory,
-    /// No operator has the step's name.
+    /// No operator has the step's name or number.
     NoOperator { step: usize },
-    /// Operators have the step's name, but none of them is applicable.
+    /// Operators have the step's name, but none of them is applicable. Or the operator with the step's number isn't.
     NotApplicable { step: usize },
     /// Two effects of the step's operator fire and set one variable to different values.
     Conflict { step: usize, operator: u32 },
@@ -124,7 +124,7 @@ pub fn check_once<E: Settle<T> + Drop, T: Grounded, P: Stepwise>(
     let Ok(mut stepper) = stepper_for(alloc, layered, evaluator) else {
         return Err(PlanFault::Memory);
     };
-    let operators = StepOperators::new(alloc, layered, plan)?;
+    let operators = StepOperators::new(alloc, layered, plan, false)?;
     check_found(alloc, layered, &mut stepper, plan, operators.found())
 }
 

@@ -1,10 +1,10 @@
 // The operators whose names occur in one plan.
-ghost use Rattle.std.specs.Prelude.{◌≡◌, IfOk};
+ghost use Rattle.std.specs.Prelude.{◌≡◌, IfOk, IsTrue};
 ghost use Rattle.sas_run.specs.Chains.{AreStepOperators};
 ghost use Rattle.sas_run.specs.Nameless.{nameless_steps};
 
 use crate::chains::Chains;
-use crate::looking_up::first_operators;
+use crate::looking_up::{count_nameless, first_operators};
 use crate::names::{NamedTask, Names};
 use crate::step_names::StepNames;
 use sas_core::{Grounded, Stepwise};
@@ -16,11 +16,17 @@ pub struct StepOperators {
     pub firsts: Vec<u32>,
     /// The next operator of the same name, for each operator of one of these names.
     pub next: Vec<Option<u32>>,
+    /// How many of the plan's steps name no operator, if they were counted.
+    pub nameless: usize,
 }
 
 impl Drop for StepOperators {
     fn drop(self) {
-        let StepOperators { firsts, next } = self;
+        let StepOperators {
+            firsts,
+            next,
+            nameless: _,
+        } = self;
         drop(firsts);
         drop(next);
     }
@@ -37,17 +43,20 @@ pub struct PlanOperators<'f> {
 
 impl StepOperators {
     /// Finds the operators whose names occur in the plan. For a long plan (`is_long`), a table of all operators' names is faster than
-    /// one of the steps' names.
+    /// one of the steps' names. `counting` is whether to count the steps that name no operator: if not, the look-up stops at the first one.
     pub fn new<T: Grounded, P: Stepwise>(
         alloc: Global,
         task: &T,
         plan: &P,
+        counting: bool,
     ) -> Result<StepOperators, AllocError>
-        ensures { IfOk result (λ o. AreStepOperators (T.says task.now) (P.says plan.now).steps
-            o.firsts.items o.next.items) }
+        ensures found { IfOk result (λ o. AreStepOperators (T.says task.now)
+            (P.says plan.now).steps o.firsts.items o.next.items) }
+        ensures nameless { IfOk result (λ o. IsTrue counting
+            → o.nameless ≡ nameless_steps (T.says task.now) (P.says plan.now).steps) }
     {
         if is_long(task, plan) {
-            StepOperators::by_operator_names(alloc, task, plan)
+            StepOperators::by_operator_names(alloc, task, plan, counting)
         } else {
             StepOperators::by_step_names(alloc, task, plan)
         }
@@ -59,15 +68,20 @@ impl StepOperators {
         task: &T,
         plan: &P,
     ) -> Result<StepOperators, AllocError>
-        ensures { IfOk result (λ o. AreStepOperators (T.says task.now) (P.says plan.now).steps
-            o.firsts.items o.next.items) }
+        ensures found { IfOk result (λ o. AreStepOperators (T.says task.now)
+            (P.says plan.now).steps o.firsts.items o.next.items) }
+        ensures nameless { IfOk result (λ o.
+            o.nameless ≡ nameless_steps (T.says task.now) (P.says plan.now).steps) }
     {
         let names = StepNames::new(alloc, plan)?;
         let chains = Chains::new(alloc, task, plan, &names)?;
-        let firsts = chains.firsts(alloc, names.of_steps())?;
+        let numbers = names.of_steps();
+        let firsts = chains.firsts(alloc, numbers)?;
+        let nameless = chains.count_nameless(numbers, firsts.len());
         Ok(StepOperators {
             firsts,
             next: chains.into_next(),
+            nameless,
         })
     }
 
@@ -76,9 +90,12 @@ impl StepOperators {
         alloc: Global,
         task: &T,
         plan: &P,
+        counting: bool,
     ) -> Result<StepOperators, AllocError>
-        ensures { IfOk result (λ o. AreStepOperators (T.says task.now) (P.says plan.now).steps
-            o.firsts.items o.next.items) }
+        ensures found { IfOk result (λ o. AreStepOperators (T.says task.now)
+            (P.says plan.now).steps o.firsts.items o.next.items) }
+        ensures nameless { IfOk result (λ o. IsTrue counting
+            → o.nameless ≡ nameless_steps (T.says task.now) (P.says plan.now).steps) }
     {
         let names = Names::new(alloc, task)?;
         let named = NamedTask {
@@ -86,9 +103,15 @@ impl StepOperators {
             names: &names,
         };
         let firsts = first_operators(alloc, &named, plan)?;
+        let nameless = if counting {
+            count_nameless(&named, plan, firsts.as_slice())
+        } else {
+            0
+        };
         Ok(StepOperators {
             firsts,
             next: names.into_next(),
+            nameless,
         })
     }
 
@@ -115,18 +138,4 @@ impl StepOperators {
 /// no longer than making the steps.
 fn is_long<T: Grounded, P: Stepwise>(task: &T, plan: &P) -> bool {
     plan.steps() >= task.operators() as usize / 2
-}
-
-/// Returns how many of the plan's steps name no operator.
-pub fn count_nameless<T: Grounded, P: Stepwise>(
-    alloc: Global,
-    task: &T,
-    plan: &P,
-) -> Result<usize, AllocError>
-    ensures { IfOk result (λ count.
-        count ≡ nameless_steps (T.says task.now) (P.says plan.now).steps) }
-{
-    let names = StepNames::new(alloc, plan)?;
-    let chains = Chains::new(alloc, task, plan, &names)?;
-    Ok(chains.count_nameless(names.of_steps()))
 }
