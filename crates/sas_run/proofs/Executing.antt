@@ -125,6 +125,7 @@ module _ {E : Type 0} {Ready : E → Parts → Type 0} {Follows : E → Parts �
         follows = follows;
         operators = executing.operators;
         nameless = executing.nameless;
+        long = executing.long;
         room = executing.room;
         run = executing.run;
         executes = step_along executing.run executing.executes;
@@ -159,6 +160,7 @@ module _ {E : Type 0} {Ready : E → Parts → Type 0} {Follows : E → Parts �
       follows = follows;
       operators = executing.operators;
       nameless = executing.nameless;
+      long = executing.long;
       room = room;
       run = goes_back.run;
       executes = goes_back.executes;

@@ -11,6 +11,7 @@ use Rattle.sas_run.specs.declared.plan_check.PlanFault.{PlanFault}
 use Rattle.sas_run.specs.declared.progress.Progress.{Progress}
 use Rattle.sas_run.specs.declared.step_operators.StepOperators.{StepOperators}
 use Rattle.sas_run.specs.declared.stepper.Stepper.{Stepper}
+use Rattle.sas_run.specs.LongChains.{AreLongChains}
 use Rattle.sas_run.specs.Nameless.{nameless_steps}
 use Rattle.sas_run.specs.Plans.{IsChosen}
 use Rattle.sas_run.specs.Runs.{Run, state_at, IsRunOf, RunEndsWith}
@@ -92,6 +93,7 @@ pub record IsExecuting {E : Type 0} (Ready : E → Parts → Type 0)
   pub follows : Follows stepper.evaluator p progress.state
   pub operators : AreStepOperators p plan.steps found.firsts.items found.next.items
   pub nameless : found.nameless ≡ nameless_steps p plan.steps
+  pub long : AreLongChains p found.long
   pub room : length plan.steps ≤ vec_capacity progress.operators
   pub run : Run
   pub executes : Executes run (executed_of p plan stepper progress made)

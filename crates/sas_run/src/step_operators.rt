@@ -1,13 +1,19 @@
 // The operators whose names occur in one plan.
-ghost use Rattle.std.specs.Prelude.{◌≡◌, IfOk, IsTrue};
-ghost use Rattle.sas_run.specs.Chains.{AreStepOperators};
+ghost use Rattle.std.specs.Prelude.{◌≡◌, ◌<◌, length, IfOk, IsTrue};
+ghost use Rattle.sas_core.specs.Variables.{IsState};
+ghost use Rattle.sas_run.specs.Chains.{AreStepOperators, IsChain};
+ghost use Rattle.sas_run.specs.LongChains.{AreLongChains};
 ghost use Rattle.sas_run.specs.Nameless.{nameless_steps};
+ghost use Rattle.sas_run.specs.Running.{IsFirstChosen};
 
 use crate::chains::Chains;
+use crate::long_chains::LongChains;
 use crate::looking_up::{count_nameless, first_operators};
 use crate::names::{NamedTask, Names};
+use crate::runner::first_applicable;
 use crate::step_names::StepNames;
 use sas_core::{Grounded, Stepwise};
+use sas_meaning::{Layered, State};
 use std::alloc::{AllocError, Global};
 
 /// The operators whose names occur in one plan.
@@ -18,6 +24,8 @@ pub struct StepOperators {
     pub next: Vec<Option<u32>>,
     /// How many of the plan's steps name no operator, if they were counted.
     pub nameless: usize,
+    /// The long chains of operators of one name.
+    pub long: LongChains,
 }
 
 impl Drop for StepOperators {
@@ -26,9 +34,11 @@ impl Drop for StepOperators {
             firsts,
             next,
             nameless: _,
+            long,
         } = self;
         drop(firsts);
         drop(next);
+        drop(long);
     }
 }
 
@@ -39,6 +49,30 @@ pub struct PlanOperators<'f> {
     pub firsts: &'f [u32],
     /// The next operator of the same name, for each operator of one of these names.
     pub nexts: &'f [Option<u32>],
+    /// The long chains of operators of one name.
+    pub long: &'f LongChains,
+}
+
+impl<'f> PlanOperators<'f> {
+    /// Returns the first applicable operator, among this one and the later ones of the same name.
+    #[inline(always)]
+    pub fn first_applicable<T: Grounded>(
+        &self,
+        task: &Layered<T>,
+        state: &State,
+        first: u32,
+    ) -> Option<u32>
+        requires chain { IsChain task.now first self.now.nexts.now }
+        requires long { AreLongChains task.now self.now.long.now }
+        requires first { first < length task.now.operators }
+        requires state { IsState task.now.variables state.now }
+        ensures { IsFirstChosen task.now state.now first result }
+    {
+        match self.long.get(first) {
+            Some(chain) => chain.first_applicable(task, state),
+            None => first_applicable(task, self.nexts, state, first),
+        }
+    }
 }
 
 impl StepOperators {
@@ -46,20 +80,23 @@ impl StepOperators {
     /// one of the steps' names. `counting` is whether to count the steps that name no operator: if not, the look-up stops at the first one.
     pub fn new<T: Grounded, P: Stepwise>(
         alloc: Global,
-        task: &T,
+        task: &Layered<T>,
         plan: &P,
         counting: bool,
     ) -> Result<StepOperators, AllocError>
-        ensures found { IfOk result (λ o. AreStepOperators (T.says task.now)
-            (P.says plan.now).steps o.firsts.items o.next.items) }
+        ensures found { IfOk result (λ o. AreStepOperators task.now (P.says plan.now).steps
+            o.firsts.items o.next.items) }
         ensures nameless { IfOk result (λ o. IsTrue counting
-            → o.nameless ≡ nameless_steps (T.says task.now) (P.says plan.now).steps) }
+            → o.nameless ≡ nameless_steps task.now (P.says plan.now).steps) }
+        ensures long { IfOk result (λ o. AreLongChains task.now o.long) }
     {
-        if is_long(task, plan) {
-            StepOperators::by_operator_names(alloc, task, plan, counting)
+        let mut found = if is_long(task, plan) {
+            StepOperators::by_operator_names(alloc, task, plan, counting)?
         } else {
-            StepOperators::by_step_names(alloc, task, plan)
-        }
+            StepOperators::by_step_names(alloc, task, plan)?
+        };
+        found.long = LongChains::new(alloc, task, found.firsts.as_slice(), found.next.as_slice())?;
+        Ok(found)
     }
 
     /// Looks up the names of the operators among those of the plan's steps.
@@ -82,6 +119,7 @@ impl StepOperators {
             firsts,
             next: chains.into_next(),
             nameless,
+            long: LongChains::none(alloc),
         })
     }
 
@@ -112,17 +150,20 @@ impl StepOperators {
             firsts,
             next: names.into_next(),
             nameless,
+            long: LongChains::none(alloc),
         })
     }
 
-    /// Returns both lists, borrowed.
+    /// Returns the lists and the long chains, borrowed.
     pub fn found(&self) -> PlanOperators<'_>
         ensures firsts { result.firsts.now ≡ self.now.firsts.items }
         ensures nexts { result.nexts.now ≡ self.now.next.items }
+        ensures long { result.long.now ≡ self.now.long }
     {
         PlanOperators {
             firsts: self.firsts.as_slice(),
             nexts: self.next.as_slice(),
+            long: &self.long,
         }
     }
 

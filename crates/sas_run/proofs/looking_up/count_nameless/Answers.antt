@@ -14,7 +14,7 @@ loop-step-preserved g c =
     let i = c.loop-step.step in
     let within : i < length steps = omega (arith, c.loop-step-test.true, c.steps-step-end.ensures) in
     let low : IsNextNamed p (get_or steps i []) 0 c.first.result = subst (λ name. IsNextNamed p name 0 c.first.result) c.step.ensures
-        (subst (λ (q : Parts). IsNextNamed q c.step.result.now 0 c.first.result) c.named.view_is c.first.ensures) in
+    (subst (λ (q : Parts). IsNextNamed q c.step.result.now 0 c.first.result) c.named.view_is c.first.ensures) in
     let is = sym (nameless_is p (get_or steps i []) c.first.result low) in
     elim c.if-is_none.branch [
       | then-is_none w ↦ w.count-is ∙ (ap (λ n. n + 1) c.loop-step.invariant ∙ sym (count_by_more_yes (is_nameless p) steps i [] within (is ∙ ap not (c.is_none.ensures ∙ ap not w.if-is_none.true))))

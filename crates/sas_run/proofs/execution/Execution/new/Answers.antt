@@ -13,6 +13,7 @@ invariant_of-result g c =
       follows = c.in_ok-progress.ensures.follows;
       operators = c.in_ok-found.ensures.found;
       nameless = c.in_ok-found.ensures.nameless refl;
+      long = c.in_ok-found.ensures.long;
       room = rw c.steps.ensures at c.in_ok-progress.ensures.room;
       run = still progress.state;
       executes = executes_none (executed_of c.args.layered.now (g.P.Stepwise.says c.args.plan.now) c.new-2.new.stepper progress 0)
