@@ -1,5 +1,8 @@
-"""Operators whose names have different fronts, and end in the same eight bytes: the factor of the hasher by which `plan` finds
-names. A name given to this hasher at once has the same hash as all others of these, and is compared with each of them.
+"""Names that make operators hard to find.
+
+- Names: they have different fronts, and end in the same eight bytes: the factor of the hasher by which `plan` finds names. A name given
+  to this hasher at once has the same hash as all others of these, and is compared with each of them.
+- Alike: all operators have one name, and in each state one of them is applicable.
 """
 from sas_text import both
 
@@ -43,3 +46,19 @@ class Names:
     def plan(self, steps):
         """Yields the steps of a plan: so many, by one operator after the other."""
         return (name_of(step % self.objects) for step in range(steps))
+
+
+class Alike(Names):
+    """A task of so many places in a ring, and an operator of one name from each place to the next."""
+
+    NAME = "go"
+
+    def variables(self):
+        return [(-1, ["Atom at(%d)" % place for place in range(self.objects)])]
+
+    def operators(self):
+        return ((self.NAME, [], [(0, place, (place + 1) % self.objects)]) for place in range(self.objects))
+
+    def plan(self, steps):
+        """Yields the steps of a plan: so many, round the ring."""
+        return (self.NAME for _ in range(steps))

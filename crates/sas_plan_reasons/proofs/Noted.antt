@@ -1,6 +1,6 @@
 -- What is noted of a run, step by step.
 use Rattle.std.proofs.lemmas.Grind.{common_steps}
-use Rattle.sas_plan_reasons.proofs.Imports.{◌≡◌, ℕ, ◌+◌, ◌<◌, List, length, get_or, Option, Some, None, sym, ◌∙◌, ap, subst, inl, inr, arith, cases_eq, same_lists, get_or_default, Parts, operator_at, PlanParts, Executed, next_name, next_operator, Executes, IsLaterIfAny, Run, state_at, last_state, StepsSucceed, RunEndsWith, as_many, executed_fits, name_is, IsSince, MayMean, Changes, OtherOperator, PlanHistory, RunNotes, HavePlaces, AreFirstChanges, NotesChanges, AddsOther, NotesStep, IsOtherIfAny, HaveSince, Retraces, first_steps, AreNotes}
+use Rattle.sas_plan_reasons.proofs.Imports.{◌≡◌, ℕ, ◌+◌, ◌<◌, List, length, get_or, Option, Some, None, sym, ◌∙◌, ap, subst, inl, inr, arith, cases_eq, same_lists, get_or_default, Parts, operator_at, PlanParts, Executed, next_name, next_operator, Executes, IsLaterIfAny, Run, state_at, last_state, StepsSucceed, RunEndsWith, nameless_steps, as_many, executed_fits, name_is, IsSince, MayMean, Changes, OtherOperator, PlanHistory, RunNotes, HavePlaces, AreFirstChanges, NotesChanges, AddsOther, NotesStep, IsOtherIfAny, HaveSince, Retraces, first_steps, AreNotes}
 use Rattle.sas_plan_reasons.proofs.LongerRuns.{first_many, first_goes, first_last, first_more, first_all, none_since, one_more, since_changed, since_unchanged, may_mean_longer, still_none, may_mean_now}
 
 -- before the first step
@@ -102,11 +102,12 @@ module _ (run : Run) (e : Executed) (notes : RunNotes) (are : AreNotes run e not
 
 -- what was noted of all steps, up to the fault
 pub retraced : (p : Parts) (plan : PlanParts) (run : Run) (e : Executed) (notes : RunNotes) (noted : PlanHistory) → e.task ≡ p → e.made ≡ length e.operators → AreNotes run e notes
-    → RunEndsWith p plan run (Some noted.fault) → noted.operators.items ≡ e.operators → noted.last ≡ e.state → noted.since.items ≡ notes.changes.since.items → noted.other ≡ notes.other
+    → RunEndsWith p plan run (Some noted.fault) → noted.nameless ≡ nameless_steps p plan.steps → noted.operators.items ≡ e.operators → noted.last ≡ e.state → noted.since.items ≡ notes.changes.since.items → noted.other ≡ notes.other
     → Retraces p plan noted run
-retraced p plan run e notes noted task all are ends operators last since other = record {
+retraced p plan run e notes noted task all are ends nameless operators last since other = record {
   through = through';
   ends = ends;
+  nameless = nameless;
   operators = operators ∙ sym are.executes.operators;
   last = last ∙ (are.executes.state ∙ ap (state_at run) made);
   since = subst (HaveSince p run) (sym since) (subst (λ q. HaveSince q run notes.changes.since.items) task

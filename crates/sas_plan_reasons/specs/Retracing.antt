@@ -3,6 +3,7 @@ use Rattle.std.specs.Prelude.{◌≡◌, ℕ, ◌+◌, ◌<◌, List, length, ta
 use Rattle.sas_core.specs.declared.parts.Parts.{Parts}
 use Rattle.sas_core.specs.PlanParts.{PlanParts}
 use Rattle.sas_run.specs.Executions.{Executed, Executes}
+use Rattle.sas_run.specs.Nameless.{nameless_steps}
 use Rattle.sas_run.specs.Runs.{Run, last_state, StepsSucceed, RunEndsWith}
 use Rattle.sas_plan_reasons.specs.Cause.{IsSince}
 use Rattle.sas_plan_reasons.specs.MayMean.{IsOther, MayMean}
@@ -26,6 +27,7 @@ pub record Retraces (p : Parts) (plan : PlanParts) (history : PlanHistory) (run 
     : Type 0 where
   pub through : StepsSucceed p run
   pub ends : RunEndsWith p plan run (Some history.fault)
+  pub nameless : history.nameless ≡ nameless_steps p plan.steps
   pub operators : history.operators.items ≡ run.operators
   pub last : history.last ≡ last_state run
   pub since : HaveSince p run history.since.items

@@ -1,5 +1,5 @@
 // Why a plan isn't valid.
-ghost use Rattle.std.specs.Prelude.{◌≡◌, ◌<◌, ◌-◌, ◌∷◌, ◌++◌, ℕ, length, All, IfOk, OnOk};
+ghost use Rattle.std.specs.Prelude.{◌≡◌, ◌<◌, ◌≤◌, ◌-◌, ◌∷◌, ◌++◌, ℕ, length, All, IfOk, OnOk};
 ghost use Rattle.std.specs.List.{count_by};
 ghost use Rattle.sas_core.specs.declared.parts.Fact.{Fact};
 ghost use Rattle.sas_core.specs.Grounded.{operator_at};
@@ -7,6 +7,8 @@ ghost use Rattle.sas_core.specs.Variables.{IsState};
 ghost use Rattle.sas_meaning.specs.Steps.{Agree};
 ghost use Rattle.sas_plan_reasons.specs.Cause.{fails};
 ghost use Rattle.sas_plan_reasons.specs.Lines.{LineThen};
+ghost use Rattle.sas_core.specs.Stepwise.{step_at};
+ghost use Rattle.sas_run.specs.Nameless.{nameless_steps};
 ghost use Rattle.sas_run.specs.Runs.{Run};
 ghost use Rattle.sas_plan_reasons.specs.WhyPlan.{nameless_lines, AreFailedPreconditionLines, AreOperatorLines, AreConflictLines};
 ghost use Rattle.sas_plan_reasons.specs.WhyPlan.{AreGoalLines, AreFaultLines, IsWhy, cost_hint, cost_lines, cost_lines_sum};
@@ -22,7 +24,7 @@ use sas_answers::Line;
 use sas_core::{Fact, Grounded, Items, Stepwise};
 use sas_flat::FlatTask;
 use sas_meaning::{Layered, Preconditions, State};
-use sas_run::{PlanFault, count_nameless};
+use sas_run::PlanFault;
 use std::alloc::{AllocError, Global};
 
 /// Returns why the plan isn't valid: the lines of reasons that follow its verdict.
@@ -62,7 +64,7 @@ fn lines_of_fault<P: Stepwise>(
     let _ = layered.task();
     match history.fault {
         PlanFault::Memory => unreachable!(),
-        PlanFault::NoOperator { step } => unknown(alloc, layered, plan, plan.step(step - 1), step),
+        PlanFault::NoOperator { step } => unknown(alloc, layered, plan, history, step),
         PlanFault::NotApplicable { step } => {
             blocked(alloc, layered, history, plan.step(step - 1), step)
         }
@@ -82,19 +84,23 @@ fn unknown<T: Grounded, P: Stepwise>(
     alloc: Global,
     task: &Layered<T>,
     plan: &P,
-    name: &[u8],
+    history: &PlanHistory,
     step: usize,
 ) -> Result<Items<Line>, AllocError>
+    requires step { 0 < step }
+    requires exists { step ≤ length (P.says plan.now).steps }
+    requires nameless { history.now.nameless ≡ nameless_steps task.now (P.says plan.now).steps }
     ensures { IfOk result (λ lines. ReportsOnce lines (λ its.
-        its ≡ nameless_lines task.now (P.says plan.now) step name.now)) }
+        its ≡ nameless_lines task.now (P.says plan.now) step
+        (step_at (P.says plan.now) (step - 1)))) }
 {
     let first = Line::Step { step };
     let all = Line::NamelessSteps {
-        count: count_nameless(alloc, task, plan)?,
+        count: history.nameless,
         steps: plan.steps(),
     };
     let mut lines = Items::new(alloc);
-    match like(task, name) {
+    match like(task, plan.step(step - 1)) {
         Some(operator) => {
             lines.extend_from_slice(&[first, Line::SimilarOperator { operator }, all])?
         }

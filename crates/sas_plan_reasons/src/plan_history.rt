@@ -14,6 +14,8 @@ pub struct OtherOperator {
 pub struct PlanHistory {
     /// Why the plan isn't valid.
     pub fault: PlanFault,
+    /// How many of its steps name no operator.
+    pub nameless: usize,
     /// The operators of the steps that go through.
     pub operators: Vec<u32>,
     /// The state to which these steps lead.

@@ -32,6 +32,7 @@ pub fn retrace<E: Settle<T> + Drop, T: Grounded, P: Stepwise>(
     ensures retraced { IfOk result (IsRetraced execution.entry.task execution.entry.plan) }
     ensures fault { IfOk result (λ history. history.fault ≡ fault) }
 {
+    let nameless = execution.nameless();
     let mut notes = RunNotes {
         changes: Changes::new(alloc, execution.state())?,
         other: None,
@@ -42,6 +43,7 @@ pub fn retrace<E: Settle<T> + Drop, T: Grounded, P: Stepwise>(
     let RunNotes { changes, other } = notes;
     Ok(PlanHistory {
         fault,
+        nameless,
         operators,
         last,
         since: changes.since,

@@ -1,6 +1,6 @@
 -- An execution advances along its run.
 use Rattle.std.proofs.lemmas.Grind.{common_steps}
-use Rattle.sas_run.proofs.Imports.{◌≡◌, ℕ, ◌+◌, ◌<◌, ◌≤◌, List, [], length, get_or, Option, None, Result, Ok, Err, refl, sym, ◌∙◌, ap, subst, inl, inr, arith, rules, IsTrue, vec_capacity, IsOk, cases_lt, get_or-take, get_or_default, length-take, Parts, operator_at, PlanParts, IsState, IsLayered, IsInitial, Step, step_is_one, IsChain, HaveChains, IsNamed, AreFirsts, IsNextNamed, PlanFault, Progress, Stepper, StepFault, Executed, next_name, next_operator, Executes, IsFound, Advances, executed_of, IsExecuting, MakesStep, Steps, IsPrepared, ListsChanges, Run, state_at, IsEnding}
+use Rattle.sas_run.proofs.Imports.{◌≡◌, ℕ, ◌+◌, ◌<◌, ◌≤◌, List, [], length, get_or, Option, None, Result, Ok, Err, refl, sym, ◌∙◌, ap, subst, inl, inr, arith, rules, IsTrue, vec_capacity, IsOk, cases_lt, get_or-take, get_or_default, length-take, Parts, operator_at, PlanParts, IsState, IsLayered, IsInitial, Step, step_is_one, IsChain, HaveChains, IsNamed, AreFirsts, IsNextNamed, PlanFault, Progress, StepOperators, Stepper, StepFault, Executed, next_name, next_operator, Executes, IsFound, Advances, executed_of, IsExecuting, MakesStep, Steps, IsPrepared, ListsChanges, Run, state_at, IsEnding}
 use Rattle.sas_run.proofs.NextStates.{fault_is_conflict}
 use Rattle.sas_run.proofs.Runs.{still, still_goes, state_fits, first_state, run_goes}
 
@@ -80,8 +80,8 @@ makes_step p s operator s' (Ok _) next step steps = search rules
 makes_step p s operator s' (Err fault) next step steps = absurd (fault_is_conflict s (operator_at p operator) fault step.applicable steps.0 step.agree)
 
 module _ {E : Type 0} {Ready : E → Parts → Type 0} {Follows : E → Parts → List ℕ → Type 0} {p : Parts} {plan : PlanParts} {stepper : Stepper E}
-    {found : List ℕ} {nexts : List (Option ℕ)} {progress : Progress} {made : ℕ}
-    (executing : IsExecuting Ready Follows p plan stepper found nexts progress made) (layered : IsLayered p) where
+    {found : StepOperators} {progress : Progress} {made : ℕ}
+    (executing : IsExecuting Ready Follows p plan stepper found progress made) (layered : IsLayered p) where
   abbrev e : Executed
   e = executed_of p plan stepper progress made
 
@@ -93,8 +93,8 @@ module _ {E : Type 0} {Ready : E → Parts → Type 0} {Follows : E → Parts �
     pub step_goes : MakesStep p progress.state (next_name e) operator (state_at executing.run (made + 1))
     step_goes = rw is_next (next_goes executing.run e executing.executes left layered)
 
-    pub step_chain : IsChain p operator nexts
-    step_chain = rw is_next (chain_next executing.run e executing.executes left layered found nexts executing.operators.firsts executing.operators.chains)
+    pub step_chain : IsChain p operator found.next.items
+    step_chain = rw is_next (chain_next executing.run e executing.executes left layered found.firsts.items found.next.items executing.operators.firsts executing.operators.chains)
 
     -- it was made
     module _ (stepper' : Stepper E) (state : List ℕ) (step : Step p progress.state (operator_at p operator) state)
@@ -118,12 +118,14 @@ module _ {E : Type 0} {Ready : E → Parts → Type 0} {Follows : E → Parts �
       step_along run executes = goes_along run e executes left layered operator (executed_of p plan stepper' after (made + 1)) step_advances
 
       pub goes_ahead : IsPrepared Ready p stepper' → IsTrue stepper'.deleted.noted → Follows stepper'.evaluator p state
-          → IsExecuting Ready Follows p plan stepper' found nexts after (made + 1)
+          → IsExecuting Ready Follows p plan stepper' found after (made + 1)
       goes_ahead prepared noted follows = record {
         prepared = prepared;
         noted = noted;
         follows = follows;
         operators = executing.operators;
+        nameless = executing.nameless;
+        long = executing.long;
         room = executing.room;
         run = executing.run;
         executes = step_along executing.run executing.executes;
@@ -151,12 +153,14 @@ module _ {E : Type 0} {Ready : E → Parts → Type 0} {Follows : E → Parts �
         }
 
     pub goes_anew : IsPrepared Ready p stepper' → IsTrue stepper'.deleted.noted → Follows stepper'.evaluator p progress'.state → length plan.steps ≤ vec_capacity progress'.operators
-        → IsExecuting Ready Follows p plan stepper' found nexts progress' made
+        → IsExecuting Ready Follows p plan stepper' found progress' made
     goes_anew prepared noted follows room = record {
       prepared = prepared;
       noted = noted;
       follows = follows;
       operators = executing.operators;
+      nameless = executing.nameless;
+      long = executing.long;
       room = room;
       run = goes_back.run;
       executes = goes_back.executes;

@@ -5,6 +5,8 @@ mod NameShapes
 mod StepNumbers
 mod ChainsFrom
 mod FoundSteps
+mod Grouping
+mod Collecting
 mod LikelyOperators
 pub mod Determined
 mod OtherSenses
@@ -17,6 +19,7 @@ pub mod Giving
 pub mod Deleted
 pub mod PlainSteps
 pub mod NamedAlike
+pub mod LongSearch
 pub mod Going
 pub mod PlanStates
 pub mod GoingByNumbers

@@ -1,5 +1,5 @@
 -- The steps of a plan were made, by names or by numbers.
-use Rattle.sas_run.proofs.Imports.{◌≡◌, ℕ, ◌+◌, ◌<◌, ◌≤◌, List, [], length, take, get_or, Option, None, Some, refl, sym, ◌∙◌, ap, subst, arith, take_all, length-take-le, get_or-take, same_lists, get_or_default, Parts, operator_at, PlanParts, PlanFault, NoOperator, IsNamed, IsNextNamed, IsChosen, LeadsTo, AreFirsts, IsChoice, StepFailsBy, IsFinalVerdict, IsEnding, GoesThrough, IsValidByNumbers, IsNumberChoice, Makes, EndsSteps, IsStuck, IsMissed}
+use Rattle.sas_run.proofs.Imports.{◌≡◌, ℕ, ◌+◌, ◌<◌, ◌≤◌, List, [], length, take, get_or, Option, None, Some, refl, sym, ◌∙◌, subst, arith, take_all, length-take-le, get_or-take, same_lists, get_or_default, Parts, operator_at, PlanParts, PlanFault, NoOperator, IsChosen, LeadsTo, AreFirsts, IsChoice, StepFailsBy, IsFinalVerdict, IsEnding, GoesThrough, IsValidByNumbers, IsNumberChoice, Makes, EndsSteps, IsStuck, IsMissed}
 use Rattle.sas_run.proofs.Endings.{stops_there, judged_there}
 use Rattle.sas_run.proofs.GoingByNumbers.{goes_front, leads_by_numbers}
 

@@ -1,5 +1,5 @@
 -- A plan by names is one by numbers. By numbers, too, a plan of a layered task is valid or has exactly one fault.
-use Rattle.sas_run.proofs.Imports.{◌≡◌, ℕ, zero, suc, ◌+◌, ◌<◌, ◌≤◌, ◌⊎◌, List, [], ◌∷◌, ◌++◌, length, take, get_or, get_or-take, length-take-le, take_more, slice_index, Option, None, Some, refl, sym, ◌∙◌, ap, subst, inl, inr, arith, cases_eq, cases_lt, take_all, same_Some, none-some, Parts, operator_at, PlanParts, IsState, WellRanged, IsLayered, initial_exists, Step, Agree, PlanFault, Memory, NoOperator, NotApplicable, Conflict, GoalMissed, CostDiffers, IsValid, ValidByNumbers, SomeVerdictByNumbers, NumbersHaveNoFault, FaultByNumbersIsOne, AreChosen, cost_of_all, StepFailsBy, IsFinalVerdict, GoesThrough, IsValidByNumbers, IsNumberChoice, IsStuck, IsFaultByNumbers}
+use Rattle.sas_run.proofs.Imports.{◌≡◌, ℕ, zero, suc, ◌+◌, ◌<◌, ◌≤◌, ◌⊎◌, List, length, take, get_or, get_or-take, length-take-le, take_more, slice_index, Option, None, Some, refl, sym, subst, inl, inr, arith, cases_eq, cases_lt, take_all, same_Some, none-some, Parts, operator_at, IsState, WellRanged, IsLayered, initial_exists, Step, Agree, PlanFault, Memory, NoOperator, NotApplicable, Conflict, GoalMissed, CostDiffers, IsValid, ValidByNumbers, SomeVerdictByNumbers, NumbersHaveNoFault, FaultByNumbersIsOne, AreChosen, cost_of_all, StepFailsBy, IsFinalVerdict, GoesThrough, IsValidByNumbers, IsNumberChoice, IsStuck, IsFaultByNumbers}
 use Rattle.sas_run.proofs.GoingByNumbers.{leads_by_numbers, leads_on_numbers, leads_as_many, leads_chosen, goes_none, goes_one_more, goes_one_way, goes_on}
 use Rattle.sas_run.proofs.PlanVerdicts.{judged_one}
 use Rattle.sas_run.proofs.Choosing.{applicable_or_not, hold_or_missed}

@@ -9,7 +9,10 @@ use Rattle.sas_meaning.specs.Steps.{Step}
 use Rattle.sas_run.specs.Chains.{AreStepOperators}
 use Rattle.sas_run.specs.declared.plan_check.PlanFault.{PlanFault}
 use Rattle.sas_run.specs.declared.progress.Progress.{Progress}
+use Rattle.sas_run.specs.declared.step_operators.StepOperators.{StepOperators}
 use Rattle.sas_run.specs.declared.stepper.Stepper.{Stepper}
+use Rattle.sas_run.specs.LongChains.{AreLongChains}
+use Rattle.sas_run.specs.Nameless.{nameless_steps}
 use Rattle.sas_run.specs.Plans.{IsChosen}
 use Rattle.sas_run.specs.Runs.{Run, state_at, IsRunOf, RunEndsWith}
 use Rattle.sas_run.specs.Stepping.{IsPrepared, ListsChanges}
@@ -84,11 +87,13 @@ executed_of p plan stepper progress made = record {
 -- the invariant of an execution: everything that the next steps need is known
 pub record IsExecuting {E : Type 0} (Ready : E → Parts → Type 0)
     (Follows : E → Parts → List ℕ → Type 0) (p : Parts) (plan : PlanParts) (stepper : Stepper E)
-    (found : List ℕ) (nexts : List (Option ℕ)) (progress : Progress) (made : ℕ) : Type 0 where
+    (found : StepOperators) (progress : Progress) (made : ℕ) : Type 0 where
   pub prepared : IsPrepared Ready p stepper
   pub noted : IsTrue stepper.deleted.noted
   pub follows : Follows stepper.evaluator p progress.state
-  pub operators : AreStepOperators p plan.steps found nexts
+  pub operators : AreStepOperators p plan.steps found.firsts.items found.next.items
+  pub nameless : found.nameless ≡ nameless_steps p plan.steps
+  pub long : AreLongChains p found.long
   pub room : length plan.steps ≤ vec_capacity progress.operators
   pub run : Run
   pub executes : Executes run (executed_of p plan stepper progress made)

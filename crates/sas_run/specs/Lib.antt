@@ -8,6 +8,8 @@ pub mod NameTable
 pub mod Shapes
 pub mod StepNames
 pub mod Chains
+pub mod Groups
+pub mod LongChains
 pub mod Plans
 pub mod ByNumbers
 pub mod Verdicts

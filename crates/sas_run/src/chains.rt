@@ -1,5 +1,5 @@
 // The operators whose names occur in a plan.
-ghost use Rattle.std.specs.Prelude.{◌≡◌, ◌<◌, length, All, IfOk, None, slice_index_or};
+ghost use Rattle.std.specs.Prelude.{◌≡◌, ◌<◌, ◌≤◌, length, take, All, IfOk, None, slice_index_or};
 ghost use Rattle.std.specs.List.{count_by};
 ghost use Rattle.sas_run.specs.Chains.{AreChains, AreFound, has_none};
 ghost use Rattle.sas_run.specs.StepNames.{AreStepNames};
@@ -64,14 +64,16 @@ impl Chains {
         Ok(firsts)
     }
 
-    /// Returns how many of these are numbers of names that no operator has.
-    pub fn count_nameless(&self, numbers: &[usize]) -> usize
-        requires { All (λ number. number < length self.now.first.items) numbers.now }
+    /// Returns how many of these are numbers of names that no operator has. The first `found` of them are numbers of others.
+    pub fn count_nameless(&self, numbers: &[usize], found: usize) -> usize
+        requires numbers { All (λ number. number < length self.now.first.items) numbers.now }
+        requires found { count_by (has_none self.now.first.items) (take found numbers.now) ≡ 0 }
+        requires within { found ≤ length numbers.now }
         ensures { result ≡ count_by (has_none self.now.first.items) numbers.now }
     {
         let mut count = 0;
-        for number in numbers {
-            if self.first[*number].is_none() {
+        for step in found..numbers.len() {
+            if self.first[numbers[step]].is_none() {
                 count += 1;
             }
         }

@@ -4,7 +4,7 @@ ghost use Rattle.sas_core.specs.Grounded.{operator_at};
 ghost use Rattle.sas_run.specs.Choosers.{AreLowest, IsNumberChoice};
 ghost use Rattle.sas_run.specs.Running.{IsChoice};
 
-use crate::runner::{Choice, first_applicable, is_applicable};
+use crate::runner::{Choice, is_applicable};
 use crate::step_operators::PlanOperators;
 use sas_core::Grounded;
 use sas_meaning::{Layered, State};
@@ -41,7 +41,7 @@ pub trait Chooser<T: Grounded> {
 
 /// By name: a step means the lowest applicable operator of its name.
 impl<'f, T: Grounded> Chooser<T> for PlanOperators<'f> {
-    ghost ready = { λ found p. AreLowest p found.firsts.now found.nexts.now };
+    ghost ready = { λ found p. AreLowest p found.firsts.now found.nexts.now found.long.now };
 
     ghost count = { λ found. length found.firsts.now };
 
@@ -55,7 +55,7 @@ impl<'f, T: Grounded> Chooser<T> for PlanOperators<'f> {
     #[inline(always)]
     fn choose(&self, task: &Layered<T>, state: &State, step: usize) -> Choice {
         let first = self.firsts[step];
-        match first_applicable(task, self.nexts, state, first) {
+        match self.first_applicable(task, state, first) {
             Some(operator) => Choice::Found(operator),
             None => Choice::Blocked,
         }

@@ -1,6 +1,7 @@
 // Executions of plans.
 ghost use Rattle.std.specs.Prelude.{◌≡◌, ◌<◌, [], length, IfOk};
 ghost use Rattle.sas_core.specs.Variables.{IsState};
+ghost use Rattle.sas_run.specs.Nameless.{nameless_steps};
 ghost use Rattle.sas_run.specs.Running.{IsLaterIfAny};
 ghost use Rattle.sas_run.specs.Runs.{Run};
 ghost use Rattle.sas_run.specs.Executions.{IsNew, Executes, IsFound, Advances, next_operator};
@@ -51,7 +52,7 @@ impl<'t, 'p, E: Settle<T> + Drop, T: Grounded, P: Stepwise> Model for Execution<
     ghost view = { λ e. executed_of e.layered.now (P.says e.plan.now) e.stepper e.progress e.made };
 
     ghost invariant = { λ e. IsExecuting E.ready E.follows e.layered.now (P.says e.plan.now)
-        e.stepper e.found.firsts.items e.found.next.items e.progress e.made };
+        e.stepper e.found e.progress e.made };
 }
 
 impl<'t, 'p, E: Settle<T> + Drop, T: Grounded, P: Stepwise> Execution<'t, 'p, E, T, P> {
@@ -69,7 +70,7 @@ impl<'t, 'p, E: Settle<T> + Drop, T: Grounded, P: Stepwise> Execution<'t, 'p, E,
         let Ok(mut stepper) = stepper_listing(alloc, layered, evaluator) else {
             return Err(AllocError);
         };
-        let found = StepOperators::new(alloc, layered, plan)?;
+        let found = StepOperators::new(alloc, layered, plan, true)?;
         let progress = Progress::new(alloc, layered, &mut stepper, plan.steps())?;
         Ok(Execution {
             layered,
@@ -93,6 +94,13 @@ impl<'t, 'p, E: Settle<T> + Drop, T: Grounded, P: Stepwise> Execution<'t, 'p, E,
         ensures { result.now ≡ self.now.operators }
     {
         self.progress.operators.as_slice()
+    }
+
+    /// Returns how many of the plan's steps name no operator.
+    pub fn nameless(&self) -> usize
+        ensures { result ≡ nameless_steps self.now.task self.now.plan.steps }
+    {
+        self.found.nameless
     }
 
     /// Returns the current state: the one after the steps made so far.

@@ -1,7 +1,8 @@
 // Looks up the names of a plan's steps among the operators of a task.
-ghost use Rattle.std.specs.Prelude.{IfOk};
+ghost use Rattle.std.specs.Prelude.{◌≡◌, IfOk};
 ghost use Rattle.sas_run.specs.Names.{AreFirsts};
 ghost use Rattle.sas_run.specs.Likely.{AreLikely};
+ghost use Rattle.sas_run.specs.Nameless.{nameless_steps};
 
 use crate::names::NamedTask;
 use sas_core::{Grounded, Stepwise};
@@ -54,4 +55,22 @@ fn confirm_all<T: Grounded, P: Stepwise>(named: &NamedTask<'_, T>, plan: &P, lik
             }
         }
     }
+}
+
+/// Returns how many of the plan's steps name no operator. `firsts` has the operators of the steps before the first such step.
+pub fn count_nameless<T: Grounded, P: Stepwise>(
+    named: &NamedTask<'_, T>,
+    plan: &P,
+    firsts: &[u32],
+) -> usize
+    requires { AreFirsts named.now (P.says plan.now).steps firsts.now }
+    ensures { result ≡ nameless_steps named.now (P.says plan.now).steps }
+{
+    let mut count = 0;
+    for step in firsts.len()..plan.steps() {
+        if named.names.first(named.task, plan.step(step)).is_none() {
+            count += 1;
+        }
+    }
+    count
 }

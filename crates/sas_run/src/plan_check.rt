@@ -7,6 +7,7 @@ ghost use Rattle.sas_meaning.specs.Steps.{Step};
 ghost use Rattle.sas_run.specs.ByNumbers.{IsValidByNumbers};
 ghost use Rattle.sas_run.specs.Chains.{AreStepOperators};
 ghost use Rattle.sas_run.specs.Choosers.{Makes, EndsSteps};
+ghost use Rattle.sas_run.specs.LongChains.{AreLongChains};
 ghost use Rattle.sas_run.specs.NumberFaults.{IsNumberFaultOrMemory};
 ghost use Rattle.sas_run.specs.Running.{IsSolution, IsFaultOrMemory, StepFailsBy};
 ghost use Rattle.sas_run.specs.Runs.{IsEnding};
@@ -14,6 +15,7 @@ ghost use Rattle.sas_run.specs.Stepping.{Follows, IsPrepared};
 
 use crate::choosers::{Chooser, NumberedPlan};
 use crate::loaded_task::LoadedTask;
+use crate::long_chains::LongChains;
 use crate::progress::{Progress, judge_last};
 use crate::runner::{Choice, Runner};
 use crate::stepper::{Stepper, go_on_from, stepper_for};
@@ -34,9 +36,9 @@ pub struct Valid {
 pub enum PlanFault {
     /// Out of memory.
     Memory,
-    /// No operator has the step's name.
+    /// No operator has the step's name or number.
     NoOperator { step: usize },
-    /// Operators have the step's name, but none of them is applicable.
+    /// Operators have the step's name, but none of them is applicable. Or the operator with the step's number isn't.
     NotApplicable { step: usize },
     /// Two effects of the step's operator fire and set one variable to different values.
     Conflict { step: usize, operator: u32 },
@@ -72,6 +74,7 @@ impl<'a, E: Settle<T> + Drop, T: Grounded> Runner<'a, E, T> {
         let found = PlanOperators {
             firsts: firsts.as_slice(),
             nexts: self.names.next(),
+            long: &LongChains::none(alloc),
         };
         check_found(alloc, self.layered, &mut self.stepper, plan, found)
     }
@@ -92,6 +95,7 @@ impl<E: Settle<T> + Drop, T: Grounded + Drop> LoadedTask<E, T> {
         let found = PlanOperators {
             firsts: firsts.as_slice(),
             nexts: self.names.next(),
+            long: &LongChains::none(alloc),
         };
         check_found(alloc, &self.layered, &mut self.stepper, plan, found)
     }
@@ -124,7 +128,7 @@ pub fn check_once<E: Settle<T> + Drop, T: Grounded, P: Stepwise>(
     let Ok(mut stepper) = stepper_for(alloc, layered, evaluator) else {
         return Err(PlanFault::Memory);
     };
-    let operators = StepOperators::new(alloc, layered, plan)?;
+    let operators = StepOperators::new(alloc, layered, plan, false)?;
     check_found(alloc, layered, &mut stepper, plan, operators.found())
 }
 
@@ -140,6 +144,7 @@ fn check_found<E: Settle<T> + Drop, T: Grounded, P: Stepwise>(
     requires prepared { IsPrepared E.ready layered.now stepper.old }
     requires found { AreStepOperators layered.now (P.says plan.now).steps
         found.firsts.now found.nexts.now }
+    requires long { AreLongChains layered.now found.long.now }
     ensures prepared { IsPrepared E.ready layered.now stepper.new }
     ensures valid { IfOk result (IsSolution layered.now (P.says plan.now)) }
     ensures fault { IfErr result (IsFaultOrMemory layered.now (P.says plan.now)) }
@@ -168,6 +173,7 @@ pub fn find_fault<E: Settle<T> + Drop, T: Grounded, P: Stepwise>(
     requires follows { Follows E.follows layered.now stepper.old progress.old.state }
     requires found { AreStepOperators layered.now (P.says plan.now).steps
         found.firsts.now found.nexts.now }
+    requires long { AreLongChains layered.now found.long.now }
     requires initial { IsInitial layered.now progress.old.state }
     requires room { length (P.says plan.now).steps ≤ vec_capacity progress.old.operators }
     requires empty { progress.old.operators.items ≡ [] }

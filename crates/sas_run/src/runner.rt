@@ -17,14 +17,14 @@ use sas_meaning::{Layered, Settle, State};
 use std::alloc::{AllocError, Global};
 use std::marker::Model;
 
-/// The operator that a name means in a state.
+/// The operator that a step means in a state, by its name or by its number.
 #[derive(Clone, Copy, Debug, PartialEq, Eq)]
 pub enum Choice {
-    /// No operator has the name.
+    /// No operator has the name or the number.
     Unknown,
-    /// Operators have the name, but none of them is applicable.
+    /// Operators have the name, but none of them is applicable. Or the operator with the number isn't.
     Blocked,
-    /// The lowest-numbered applicable operator of this name.
+    /// The lowest-numbered applicable operator of the name, or the operator with the number, which is applicable.
     Found(u32),
 }
 

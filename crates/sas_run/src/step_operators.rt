@@ -1,13 +1,19 @@
 // The operators whose names occur in one plan.
-ghost use Rattle.std.specs.Prelude.{◌≡◌, IfOk};
-ghost use Rattle.sas_run.specs.Chains.{AreStepOperators};
+ghost use Rattle.std.specs.Prelude.{◌≡◌, ◌<◌, length, IfOk, IsTrue};
+ghost use Rattle.sas_core.specs.Variables.{IsState};
+ghost use Rattle.sas_run.specs.Chains.{AreStepOperators, IsChain};
+ghost use Rattle.sas_run.specs.LongChains.{AreLongChains};
 ghost use Rattle.sas_run.specs.Nameless.{nameless_steps};
+ghost use Rattle.sas_run.specs.Running.{IsFirstChosen};
 
 use crate::chains::Chains;
-use crate::looking_up::first_operators;
+use crate::long_chains::LongChains;
+use crate::looking_up::{count_nameless, first_operators};
 use crate::names::{NamedTask, Names};
+use crate::runner::first_applicable;
 use crate::step_names::StepNames;
 use sas_core::{Grounded, Stepwise};
+use sas_meaning::{Layered, State};
 use std::alloc::{AllocError, Global};
 
 /// The operators whose names occur in one plan.
@@ -16,13 +22,23 @@ pub struct StepOperators {
     pub firsts: Vec<u32>,
     /// The next operator of the same name, for each operator of one of these names.
     pub next: Vec<Option<u32>>,
+    /// How many of the plan's steps name no operator, if they were counted.
+    pub nameless: usize,
+    /// The long chains of operators of one name.
+    pub long: LongChains,
 }
 
 impl Drop for StepOperators {
     fn drop(self) {
-        let StepOperators { firsts, next } = self;
+        let StepOperators {
+            firsts,
+            next,
+            nameless: _,
+            long,
+        } = self;
         drop(firsts);
         drop(next);
+        drop(long);
     }
 }
 
@@ -33,24 +49,54 @@ pub struct PlanOperators<'f> {
     pub firsts: &'f [u32],
     /// The next operator of the same name, for each operator of one of these names.
     pub nexts: &'f [Option<u32>],
+    /// The long chains of operators of one name.
+    pub long: &'f LongChains,
+}
+
+impl<'f> PlanOperators<'f> {
+    /// Returns the first applicable operator, among this one and the later ones of the same name.
+    #[inline(always)]
+    pub fn first_applicable<T: Grounded>(
+        &self,
+        task: &Layered<T>,
+        state: &State,
+        first: u32,
+    ) -> Option<u32>
+        requires chain { IsChain task.now first self.now.nexts.now }
+        requires long { AreLongChains task.now self.now.long.now }
+        requires first { first < length task.now.operators }
+        requires state { IsState task.now.variables state.now }
+        ensures { IsFirstChosen task.now state.now first result }
+    {
+        match self.long.get(first) {
+            Some(chain) => chain.first_applicable(task, state),
+            None => first_applicable(task, self.nexts, state, first),
+        }
+    }
 }
 
 impl StepOperators {
     /// Finds the operators whose names occur in the plan. For a long plan (`is_long`), a table of all operators' names is faster than
-    /// one of the steps' names.
+    /// one of the steps' names. `counting` is whether to count the steps that name no operator: if not, the look-up stops at the first one.
     pub fn new<T: Grounded, P: Stepwise>(
         alloc: Global,
-        task: &T,
+        task: &Layered<T>,
         plan: &P,
+        counting: bool,
     ) -> Result<StepOperators, AllocError>
-        ensures { IfOk result (λ o. AreStepOperators (T.says task.now) (P.says plan.now).steps
+        ensures found { IfOk result (λ o. AreStepOperators task.now (P.says plan.now).steps
             o.firsts.items o.next.items) }
+        ensures nameless { IfOk result (λ o. IsTrue counting
+            → o.nameless ≡ nameless_steps task.now (P.says plan.now).steps) }
+        ensures long { IfOk result (λ o. AreLongChains task.now o.long) }
     {
-        if is_long(task, plan) {
-            StepOperators::by_operator_names(alloc, task, plan)
+        let mut found = if is_long(task, plan) {
+            StepOperators::by_operator_names(alloc, task, plan, counting)?
         } else {
-            StepOperators::by_step_names(alloc, task, plan)
-        }
+            StepOperators::by_step_names(alloc, task, plan)?
+        };
+        found.long = LongChains::new(alloc, task, found.firsts.as_slice(), found.next.as_slice())?;
+        Ok(found)
     }
 
     /// Looks up the names of the operators among those of the plan's steps.
@@ -59,15 +105,21 @@ impl StepOperators {
         task: &T,
         plan: &P,
     ) -> Result<StepOperators, AllocError>
-        ensures { IfOk result (λ o. AreStepOperators (T.says task.now) (P.says plan.now).steps
-            o.firsts.items o.next.items) }
+        ensures found { IfOk result (λ o. AreStepOperators (T.says task.now)
+            (P.says plan.now).steps o.firsts.items o.next.items) }
+        ensures nameless { IfOk result (λ o.
+            o.nameless ≡ nameless_steps (T.says task.now) (P.says plan.now).steps) }
     {
         let names = StepNames::new(alloc, plan)?;
         let chains = Chains::new(alloc, task, plan, &names)?;
-        let firsts = chains.firsts(alloc, names.of_steps())?;
+        let numbers = names.of_steps();
+        let firsts = chains.firsts(alloc, numbers)?;
+        let nameless = chains.count_nameless(numbers, firsts.len());
         Ok(StepOperators {
             firsts,
             next: chains.into_next(),
+            nameless,
+            long: LongChains::none(alloc),
         })
     }
 
@@ -76,9 +128,12 @@ impl StepOperators {
         alloc: Global,
         task: &T,
         plan: &P,
+        counting: bool,
     ) -> Result<StepOperators, AllocError>
-        ensures { IfOk result (λ o. AreStepOperators (T.says task.now) (P.says plan.now).steps
-            o.firsts.items o.next.items) }
+        ensures found { IfOk result (λ o. AreStepOperators (T.says task.now)
+            (P.says plan.now).steps o.firsts.items o.next.items) }
+        ensures nameless { IfOk result (λ o. IsTrue counting
+            → o.nameless ≡ nameless_steps (T.says task.now) (P.says plan.now).steps) }
     {
         let names = Names::new(alloc, task)?;
         let named = NamedTask {
@@ -86,20 +141,29 @@ impl StepOperators {
             names: &names,
         };
         let firsts = first_operators(alloc, &named, plan)?;
+        let nameless = if counting {
+            count_nameless(&named, plan, firsts.as_slice())
+        } else {
+            0
+        };
         Ok(StepOperators {
             firsts,
             next: names.into_next(),
+            nameless,
+            long: LongChains::none(alloc),
         })
     }
 
-    /// Returns both lists, borrowed.
+    /// Returns the lists and the long chains, borrowed.
     pub fn found(&self) -> PlanOperators<'_>
         ensures firsts { result.firsts.now ≡ self.now.firsts.items }
         ensures nexts { result.nexts.now ≡ self.now.next.items }
+        ensures long { result.long.now ≡ self.now.long }
     {
         PlanOperators {
             firsts: self.firsts.as_slice(),
             nexts: self.next.as_slice(),
+            long: &self.long,
         }
     }
 
@@ -115,18 +179,4 @@ impl StepOperators {
 /// no longer than making the steps.
 fn is_long<T: Grounded, P: Stepwise>(task: &T, plan: &P) -> bool {
     plan.steps() >= task.operators() as usize / 2
-}
-
-/// Returns how many of the plan's steps name no operator.
-pub fn count_nameless<T: Grounded, P: Stepwise>(
-    alloc: Global,
-    task: &T,
-    plan: &P,
-) -> Result<usize, AllocError>
-    ensures { IfOk result (λ count.
-        count ≡ nameless_steps (T.says task.now) (P.says plan.now).steps) }
-{
-    let names = StepNames::new(alloc, plan)?;
-    let chains = Chains::new(alloc, task, plan, &names)?;
-    Ok(chains.count_nameless(names.of_steps()))
 }

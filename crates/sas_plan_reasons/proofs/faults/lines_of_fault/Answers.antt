@@ -1,5 +1,5 @@
 -- What each fault gives is known of the run.
-use Rattle.sas_plan_reasons.proofs.Imports.{◌≡◌, ℕ, List, Some, sym, ◌∙◌, subst, IfOk-weaker, operator_at, Agree, PlanFault, RunEndsWith, Step, LineThen, nameless_lines, AreOperatorLines, AreConflictLines, AreFaultLines, operators_exist, ReportsOnce}
+use Rattle.sas_plan_reasons.proofs.Imports.{◌≡◌, ℕ, List, Some, sym, ◌∙◌, subst, IfOk-weaker, operator_at, Agree, PlanFault, RunEndsWith, Step, LineThen, AreOperatorLines, AreConflictLines, AreFaultLines, operators_exist, ReportsOnce}
 use Rattle.sas_plan_reasons.proofs.Behind.{behind, conflict_clashes, last_is, operators_are, operators_as_many}
 use Rattle.sas_plan_reasons.proofs.Faulty.{costs_reported}
 use Rattle.sas_plan_reasons.proofs.faults.lines_of_fault.Goals as goal
@@ -23,15 +23,16 @@ conflicting-requires-clause-disagree g c = λ agree.
     conflict_clashes p plan run c.in-Conflict.step c.in-Conflict.operator c.task.ensures.layered r.through e.1 e.0
     (subst (λ (s : List ℕ). Agree s (operator_at p c.in-Conflict.operator).effects) r.last agree)
 
+pub unknown-requires-clause-nameless : goal.unknown-requires-clause-nameless
+unknown-requires-clause-nameless g c = c.requires.1.nameless
+
 pub costs-requires : goal.costs-requires
 costs-requires g c =
     let r = c.requires.1 in
     rw (c.as_slice.ensures.value, r.operators) (operators_exist _ _ r.through)
 
 pub returns-in-NoOperator : goal.returns-in-NoOperator
-returns-in-NoOperator g c = rw c.in-NoOperator.is (IfOk-weaker c.unknown.result _ _
-    (λ lines reported run r. subst (λ (name : List ℕ). ReportsOnce lines (λ its. its ≡ nameless_lines c.args.layered.now (g.P.Stepwise.says c.args.plan.now) c.in-NoOperator.step name)) c.step.ensures reported)
-    c.unknown.ensures)
+returns-in-NoOperator g c = rw c.in-NoOperator.is (IfOk-weaker c.unknown.result _ _ (λ lines reported run r. reported) c.unknown.ensures)
 
 pub returns-in-NotApplicable : goal.returns-in-NotApplicable
 returns-in-NotApplicable g c =

@@ -1,5 +1,5 @@
 -- One more step succeeds or fails.
-use Rattle.sas_run.proofs.Imports.{◌≡◌, ◌+◌, [], ◌∷◌, ◌∙◌, length, length-append, subst, sym, arith, Found, Makes}
+use Rattle.sas_run.proofs.Imports.{[], ◌∷◌, ◌∙◌, length-append, arith}
 use Rattle.sas_run.proofs.GoingByNumbers.{makes_one_more}
 use Rattle.sas_run.proofs.plan_check.make_steps.Goals as goal
 

@@ -2,5 +2,5 @@
 use Rattle.sas_run.proofs.Imports.{◌≡◌, take, count_by, has_none}
 use Rattle.sas_run.proofs.chains.Chains.count_nameless.Given as goal
 
-abbrev pub invariant-loop-number : goal.invariant-loop-number
-invariant-loop-number l = l.count ≡ count_by (has_none l.self.first.items) (take l.number-index l.numbers)
+abbrev pub invariant-loop-step : goal.invariant-loop-step
+invariant-loop-step l = l.count ≡ count_by (has_none l.self.first.items) (take l.step l.numbers)

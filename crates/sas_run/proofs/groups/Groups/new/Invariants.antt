@@ -1,0 +1,13 @@
+-- The items from this one on are grouped.
+use Rattle.sas_run.proofs.Imports.{◌≤◌, length}
+use Rattle.sas_run.proofs.Grouping.{AreGroupsFrom}
+use Rattle.sas_run.proofs.groups.Groups.new.Given as goal
+
+abbrev pub invariant-loop-item : goal.invariant-loop-item
+invariant-loop-item l = record {
+  within : l.item ≤ length l.values;
+  are : AreGroupsFrom l.values l.item l.groups;
+}
+
+abbrev pub decreases-loop-item : goal.decreases-loop-item
+decreases-loop-item l = l.item
