@@ -1,5 +1,5 @@
 -- Items that are grouped by their values, from the last item to the first.
-use Rattle.sas_run.proofs.Imports.{◌≡◌, ◌≢◌, ◌⊎◌, ℕ, ◌+◌, ◌<◌, ◌≤◌, List, length, get_or, slice_set, Option, None, Some, refl, sym, ap, subst, ◌∙◌, inl, inr, arith, eq-or-lt_of_le, cases_eq, none-some, same_Some, get_or-set_same, get_or-set_other, length-set, unwrap_or, nat_cmp, Vec, Groups, first_of, IsFirstFrom, AreGroups}
+use Rattle.sas_run.proofs.Imports.{◌≡◌, ◌≢◌, ◌⊎◌, ℕ, ◌+◌, ◌<◌, ◌≤◌, List, length, get_or, slice_set, Option, None, Some, refl, sym, ap, subst, ◌∙◌, inl, inr, arith, eq-or-lt_of_le, cases_eq, none-some, same_Some, get_or-set_same, get_or-set_other, length-set, unwrap_or, nat_cmp, Vec, ValueGroups, first_with, IsFirstFrom, AreValueGroups}
 use Rattle.std.specs.BTreeMap as tree
 
 -- whether two optional values are the same
@@ -13,9 +13,9 @@ same_or_not (Some a) (Some b) = elim (cases_eq a b) [
 ]
 
 -- the items from number `from` on are grouped
-pub record AreGroupsFrom (values : List (Option ℕ)) (from : ℕ) (groups : Groups) : Type 0 where
+pub record AreValueGroupsFrom (values : List (Option ℕ)) (from : ℕ) (groups : ValueGroups) : Type 0 where
   pub one_each : length groups.next.items ≡ length values
-  pub first : (value : Option ℕ) → IsFirstFrom values from value (first_of groups value)
+  pub first : (value : Option ℕ) → IsFirstFrom values from value (first_with groups value)
   pub next : (item : ℕ) → from ≤ item → item < length values
       → IsFirstFrom values (item + 1) (get_or values item None) (get_or groups.next.items item 0)
 
@@ -29,15 +29,15 @@ none_left values value item end = record {
 }
 
 -- the first items depend on the number of all alone
-first_same : (a b : Groups) → a.first ≡ b.first → a.valueless ≡ b.valueless → length a.next.items ≡ length b.next.items → (value : Option ℕ) → first_of a value ≡ first_of b value
+first_same : (a b : ValueGroups) → a.first ≡ b.first → a.valueless ≡ b.valueless → length a.next.items ≡ length b.next.items → (value : Option ℕ) → first_with a value ≡ first_with b value
 first_same a b first valueless many None = valueless
 first_same a b first valueless many (Some value) =
     ap (λ map. unwrap_or (tree.get nat_cmp map value) (length a.next.items)) first ∙ ap (λ n. unwrap_or (tree.get nat_cmp b.first value) n) many
 
-module _ (values : List (Option ℕ)) (item : ℕ) (old put new : Groups) (had : ℕ) (within : item < length values)
-    (are : AreGroupsFrom values (item + 1) old) (is_had : had ≡ first_of old (get_or values item None))
-    (put_here : first_of put (get_or values item None) ≡ item)
-    (put_others : (other : Option ℕ) → other ≢ get_or values item None → first_of put other ≡ first_of old other)
+module _ (values : List (Option ℕ)) (item : ℕ) (old put new : ValueGroups) (had : ℕ) (within : item < length values)
+    (are : AreValueGroupsFrom values (item + 1) old) (is_had : had ≡ first_with old (get_or values item None))
+    (put_here : first_with put (get_or values item None) ≡ item)
+    (put_others : (other : Option ℕ) → other ≢ get_or values item None → first_with put other ≡ first_with old other)
     (same_next : put.next ≡ old.next) (same_first : new.first ≡ put.first) (same_valueless : new.valueless ≡ put.valueless)
     (set_next : new.next.items ≡ slice_set put.next.items item had) where
   next : new.next.items ≡ slice_set old.next.items item had
@@ -46,15 +46,15 @@ module _ (values : List (Option ℕ)) (item : ℕ) (old put new : Groups) (had :
   many : length new.next.items ≡ length put.next.items
   many = ap length set_next ∙ length-set put.next.items item had
 
-  here : first_of new (get_or values item None) ≡ item
+  here : first_with new (get_or values item None) ≡ item
   here = first_same new put same_first same_valueless many (get_or values item None) ∙ put_here
 
-  others : (other : Option ℕ) → other ≢ get_or values item None → first_of new other ≡ first_of old other
+  others : (other : Option ℕ) → other ≢ get_or values item None → first_with new other ≡ first_with old other
   others other apart = first_same new put same_first same_valueless many other ∙ put_others other apart
 
-  first : (value : Option ℕ) → IsFirstFrom values item value (first_of new value)
+  first : (value : Option ℕ) → IsFirstFrom values item value (first_with new value)
   first value = elim (same_or_not value (get_or values item None)) [
-    | inl same ↦ subst (IsFirstFrom values item value) (sym (ap (first_of new) same ∙ here)) (record {
+    | inl same ↦ subst (IsFirstFrom values item value) (sym (ap (first_with new) same ∙ here)) (record {
       from_on = omega arith;
       within = omega arith;
       has = λ lt. sym same;
@@ -86,13 +86,13 @@ module _ (values : List (Option ℕ)) (item : ℕ) (old put new : Groups) (had :
   ]
 
   -- one item more
-  pub AreGroupsFrom-step : AreGroupsFrom values item new
-  AreGroupsFrom-step = record {
+  pub AreValueGroupsFrom-step : AreValueGroupsFrom values item new
+  AreValueGroupsFrom-step = record {
     one_each = ap length next ∙ (length-set old.next.items item had ∙ are.one_each);
     first = first;
     next = λ k from_on lt. subst (λ (its : List ℕ). IsFirstFrom values (k + 1) (get_or values k None) (get_or its k 0)) (sym next) (next_of k from_on lt);
   }
 
 -- all items
-pub all_grouped : (values : List (Option ℕ)) (groups : Groups) → AreGroupsFrom values 0 groups → AreGroups values groups
+pub all_grouped : (values : List (Option ℕ)) (groups : ValueGroups) → AreValueGroupsFrom values 0 groups → AreValueGroups values groups
 all_grouped values groups are = record { one_each = are.one_each; first = are.first; next = λ item lt. are.next item (omega arith) lt }

@@ -63,7 +63,7 @@ pub use Rattle.sas_run.specs.Deletions.{DeletedHasRoom, NotesOn}
 pub use Rattle.sas_run.specs.Executions.{Executed, next_name, next_operator, Executes, IsFound, Advances, executed_of, IsExecuting}
 pub use Rattle.sas_run.specs.Given.{given_to, Replaces, value_after, NothingGiven, IsGiven, IsGivenTo, GivesValue, GivesOther}
 pub use Rattle.sas_run.specs.Laws.{AreChosen, ValidByNumbers, SomeVerdictByNumbers, NumbersHaveNoFault, FaultByNumbersIsOne, LeadsToReachable, LastIsReachable, SomeVerdict, ValidHasNoFault, ValidIsOne, FaultIsOne, SomeRun, OneRun}
-pub use Rattle.sas_run.specs.Groups.{first_of, IsFirstFrom, AreGroups}
+pub use Rattle.sas_run.specs.ValueGroups.{first_with, IsFirstFrom, AreValueGroups}
 pub use Rattle.sas_run.specs.Likely.{IsLikely, AreLikely}
 unfoldable pub use Rattle.sas_run.specs.NameDigest.{digest_of}
 pub use Rattle.sas_run.specs.LongChains.{RequiresValue, HaveValues, IsLongChain, AreAll, NoneAmong, IsFirstAmong, AreLongChains}
@@ -83,7 +83,7 @@ pub use Rattle.sas_run.specs.Stepping.{IsPrepared, ListsChanges, Follows, HasFac
 pub use Rattle.sas_run.specs.Verdicts.{IsFirstMissed, ComesTo, IsFaultOf}
 pub use Rattle.sas_run.specs.declared.chains.Chains.{Chains}
 pub use Rattle.sas_run.specs.declared.deletions.DeletedFacts.{DeletedFacts}
-pub use Rattle.sas_run.specs.declared.groups.Groups.{Groups}
+pub use Rattle.sas_run.specs.declared.value_groups.ValueGroups.{ValueGroups}
 pub use Rattle.sas_run.specs.declared.long_chains.LongChain.{LongChain}
 pub use Rattle.sas_run.specs.declared.long_chains.LongChains.{LongChains}
 pub use Rattle.sas_run.specs.declared.name_table.NameTable.{NameTable}

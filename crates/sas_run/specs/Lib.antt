@@ -8,7 +8,7 @@ pub mod NameTable
 pub mod Shapes
 pub mod StepNames
 pub mod Chains
-pub mod Groups
+pub mod ValueGroups
 pub mod LongChains
 pub mod Plans
 pub mod ByNumbers

@@ -8,7 +8,7 @@ use Rattle.sas_core.specs.Grounded.{operator_at}
 use Rattle.sas_meaning.specs.Steps.{preconditions}
 use Rattle.sas_run.specs.declared.long_chains.LongChain.{LongChain}
 use Rattle.sas_run.specs.declared.long_chains.LongChains.{LongChains}
-use Rattle.sas_run.specs.Groups.{AreGroups}
+use Rattle.sas_run.specs.ValueGroups.{AreValueGroups}
 use Rattle.sas_run.specs.Named.{IsNamed}
 use Rattle.sas_run.specs.Plans.{IsApplicable}
 
@@ -30,7 +30,7 @@ pub record IsLongChain (p : Parts) (chain : LongChain) : Type 0 where
   pub exist : All (λ operator. operator < length p.operators) chain.operators.items
   pub values : List (Option ℕ)
   pub have : HaveValues p chain.operators.items chain.var values
-  pub groups : AreGroups values chain.groups
+  pub groups : AreValueGroups values chain.groups
 
 -- all operators with the name of `first`, from it on, ascending
 pub record AreAll (p : Parts) (first : ℕ) (operators : List ℕ) : Type 0 where

@@ -6,7 +6,6 @@ mod choosers;
 mod deletions;
 mod digest;
 mod execution;
-mod groups;
 mod laws;
 mod loaded_task;
 mod long_chains;
@@ -24,6 +23,7 @@ mod step_names;
 mod step_operators;
 mod stepper;
 mod steps;
+mod value_groups;
 
 pub use chains::next_in;
 pub use choosers::{Chooser, NumberedPlan};

@@ -9,8 +9,8 @@ ghost use Rattle.sas_run.specs.Chains.{IsChain, HaveChains};
 ghost use Rattle.sas_run.specs.LongChains.{AreAll, AreLongChains, HaveValues, IsFirstAmong, IsLongChain, RequiresValue};
 
 use crate::chains::next_in;
-use crate::groups::Groups;
 use crate::runner::is_applicable;
+use crate::value_groups::ValueGroups;
 use sas_core::{Fact, Grounded};
 use sas_meaning::{Layered, Preconditions, State};
 use std::alloc::{AllocError, Global};
@@ -24,7 +24,7 @@ const SHORT: usize = 8;
 pub struct LongChain {
     var: u32,
     operators: Vec<u32>,
-    groups: Groups,
+    groups: ValueGroups,
 }
 
 impl LongChain {
@@ -41,7 +41,7 @@ impl LongChain {
     {
         let var = splitting_variable(alloc, layered, operators.as_slice())?;
         let values = required_values(alloc, layered, operators.as_slice(), var)?;
-        let groups = Groups::new(alloc, values.as_slice())?;
+        let groups = ValueGroups::new(alloc, values.as_slice())?;
         Ok(LongChain {
             var,
             operators,

@@ -1,13 +1,13 @@
 -- No operator before the two items, of their values, is applicable.
-use Rattle.sas_run.proofs.Imports.{◌-◌, ◌+◌, ℕ, List, length, Option, None, Some, slice_index, AreGroups}
+use Rattle.sas_run.proofs.Imports.{◌-◌, ◌+◌, ℕ, List, length, Option, None, Some, slice_index, AreValueGroups}
 use Rattle.sas_run.proofs.LongSearch.{SearchedAt}
 use Rattle.sas_run.proofs.long_chains.LongChain.first_applicable.Given as goal
 
 abbrev pub invariant-loop-item : goal.invariant-loop-item
 invariant-loop-item g l = record {
-  same : (values : List (Option ℕ)) → AreGroups values l.self.groups
+  same : (values : List (Option ℕ)) → AreValueGroups values l.self.groups
       → SearchedAt l.task l.state l.self.operators.items values (Some (slice_index l.state l.self.var)) l.same;
-  free : (values : List (Option ℕ)) → AreGroups values l.self.groups
+  free : (values : List (Option ℕ)) → AreValueGroups values l.self.groups
       → SearchedAt l.task l.state l.self.operators.items values None l.free;
 }
 

@@ -1,7 +1,7 @@
 -- One item more is grouped.
 use Rattle.sas_run.proofs.Imports.{◌≡◌, ◌+◌, ◌-◌, ◌<◌, length, refl, subst, arith}
-use Rattle.sas_run.proofs.Grouping.{AreGroupsFrom, AreGroupsFrom-step}
-use Rattle.sas_run.proofs.groups.Groups.new.Goals as goal
+use Rattle.sas_run.proofs.Grouping.{AreValueGroupsFrom, AreValueGroupsFrom-step}
+use Rattle.sas_run.proofs.value_groups.ValueGroups.new.Goals as goal
 
 pub loop-item-preserved : goal.loop-item-preserved
 loop-item-preserved c =
@@ -11,7 +11,7 @@ loop-item-preserved c =
     let back : l.item ≡ i + 1 = omega (arith, c.loop-item-test.true) in
     record {
       within = omega (arith, l.invariant.within);
-      are = AreGroupsFrom-step c.args.values.now i l.groups c.put.new.self _ c.in_ok-groups.field-0 within
-          (subst (λ n. AreGroupsFrom c.args.values.now n l.groups) back l.invariant.are)
+      are = AreValueGroupsFrom-step c.args.values.now i l.groups c.put.new.self _ c.in_ok-groups.field-0 within
+          (subst (λ n. AreValueGroupsFrom c.args.values.now n l.groups) back l.invariant.are)
           c.in_ok-groups.ensures.had c.in_ok-groups.ensures.here c.in_ok-groups.ensures.others c.put.ensures.next refl refl refl;
     }

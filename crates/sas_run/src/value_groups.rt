@@ -1,13 +1,13 @@
 // Items with an optional value each, in groups of one value.
 ghost use Rattle.std.specs.Prelude.{◌≡◌, ◌≢◌, ◌<◌, ℕ, Option, IfOk, OnOk, length, slice_index};
-ghost use Rattle.sas_run.specs.Groups.{AreGroups, first_of};
+ghost use Rattle.sas_run.specs.ValueGroups.{AreValueGroups, first_with};
 
 use std::alloc::{AllocError, Global};
 use std::collections::BTreeMap;
 
 /// Items with an optional value each, in groups of one value, each group in the order of its items. Items are counted from 0.
 #[derive(Drop)]
-pub struct Groups {
+pub struct ValueGroups {
     /// For each value, the first item with it.
     first: BTreeMap<u32, usize>,
     /// The first item without a value, or the number of items if each has one.
@@ -16,14 +16,14 @@ pub struct Groups {
     next: Vec<usize>,
 }
 
-impl Groups {
+impl ValueGroups {
     /// Groups items with these values. Visits them from last to first, so the first item of a value is stored last.
-    pub fn new(alloc: Global, values: &[Option<u32>]) -> Result<Groups, AllocError>
-        ensures { IfOk result (AreGroups values.now) }
+    pub fn new(alloc: Global, values: &[Option<u32>]) -> Result<ValueGroups, AllocError>
+        ensures { IfOk result (AreValueGroups values.now) }
     {
         let count = values.len();
         let next = vec![in alloc; count; count]?;
-        let mut groups = Groups {
+        let mut groups = ValueGroups {
             first: BTreeMap::new(alloc),
             valueless: count,
             next,
@@ -38,10 +38,10 @@ impl Groups {
 
     /// Makes the item the first one of this value. Returns the one that was it.
     fn put(&mut self, value: Option<u32>, item: usize) -> Result<usize, AllocError>
-        ensures had { IfOk result (λ had. had ≡ first_of self.old value) }
-        ensures here { OnOk result (first_of self.new value ≡ item) }
+        ensures had { IfOk result (λ had. had ≡ first_with self.old value) }
+        ensures here { OnOk result (first_with self.new value ≡ item) }
         ensures others { OnOk result ((other : Option ℕ) → other ≢ value
-            → first_of self.new other ≡ first_of self.old other) }
+            → first_with self.new other ≡ first_with self.old other) }
         ensures next { self.new.next ≡ self.old.next }
     {
         let Some(value) = value else {
@@ -57,7 +57,7 @@ impl Groups {
 
     /// Returns the first item of this value, or the number of items if none has it.
     pub fn first(&self, value: Option<u32>) -> usize
-        ensures { result ≡ first_of self.now value }
+        ensures { result ≡ first_with self.now value }
     {
         let Some(value) = value else {
             return self.valueless;
