@@ -291,17 +291,17 @@ pub record Releasing (t : Parts) (moved : ValueChange) (waiting : List RuleCondi
   pub fired : HaveFired t w0.layer s w.counters
   pub seen : (v : ℕ) → value_seen t s w.stack.items v ≡ value_seen t s0 w0.stack.items v
 
--- the counter of a rule is set, and isn't zero, or the rule is on another layer
+-- the counter of a rule is set, and the rule doesn't have to fire
 pub released_on : (t : Parts) (moved : ValueChange) (waiting : List RuleCondition) (i : ℕ) (s0 : List ℕ) (w0 : Work) (s : List ℕ) (w : Work) (counters : List ℕ) (k n : ℕ)
-    → Releasing t moved waiting i s0 w0 s w → CountersSoFar moved waiting (i + 1) w0.counters counters → k < length w.counters → counters ≡ set w.counters k n → (n ≡ 0 → IsRuleOn t w0.layer k → ⊥)
+    → Releasing t moved waiting i s0 w0 s w → CountersSoFar moved waiting (i + 1) w0.counters counters → k < length w.counters → counters ≡ set w.counters k n → (n ≡ 0 → IsRuleOn t w0.layer k → get_or s (rule_at t k).var 0 ≡ (rule_at t k).new)
     → Releasing t moved waiting (i + 1) s0 w0 s (record { layer = w.layer; counters = counters; stack = w.stack; sources = w.sources; agenda = w.agenda })
-released_on t moved waiting i s0 w0 s w counters k n so_far next within is some = record {
+released_on t moved waiting i s0 w0 s w counters k n so_far next within is here = record {
   counters = next;
   goes_on = record { layer = so_far.goes_on.layer; off = so_far.goes_on.off; sources = so_far.goes_on.sources; left = so_far.goes_on.left };
   room = record { one_each = ap length is ∙ (length-set w.counters k n ∙ so_far.room.one_each); variables = so_far.room.variables; sources = so_far.room.sources };
   running = so_far.running;
   given = so_far.given;
-  fired = rw is (fired_set t w0.layer s w.counters k n within (λ none on. absurd (some none on)) so_far.fired);
+  fired = rw is (fired_set t w0.layer s w.counters k n within here so_far.fired);
   seen = so_far.seen;
 }
 

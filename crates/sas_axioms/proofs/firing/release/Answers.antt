@@ -3,7 +3,7 @@ use Rattle.sas_axioms.proofs.Imports.{◌+◌, ◌<◌, length, get_or, refl, ap
 use Rattle.sas_axioms.proofs.Counters.{goes_on_still, popped_running, top_within, can_release, ready_so_far, released_on, released_fired, at_work_again}
 use Rattle.sas_axioms.proofs.CountingEntries.{CanRecount, CountersSoFar, no_entry, counters_before, counters_passed, counters_set, its_count, can_count}
 use Rattle.sas_axioms.proofs.firing.release.Goals as goal
-use Rattle.sas_axioms.proofs.firing.release.Goals.{in-Some+then-is_ready, in-Some+else-is_ready, in_default}
+use Rattle.sas_axioms.proofs.firing.release.Goals.{in-Some+then-has_to_fire, in-Some+else-has_to_fire, in_default}
 
 pub initial_value-requires : goal.initial_value-requires
 initial_value-requires g c =
@@ -44,8 +44,8 @@ set-requires g c =
     let of_rule : All (IsOfRule c.args.indexed.now) c.get-condition-items.result.now = rw c.get-condition-items.ensures ((rw c.indexed.view_is at c.indexed.invariant).full.only c.args.var) in
     omega (arith, (of_rule c.loop-condition.condition-index no_entry c.loop-condition-test.true).1.exists, c.loop-condition.invariant.room.one_each)
 
-pub is_ready-requires : goal.is_ready-requires
-is_ready-requires g c =
+pub has_to_fire-requires-clause-rule : goal.has_to_fire-requires-clause-rule
+has_to_fire-requires-clause-rule g c =
     let of_rule : All (IsOfRule c.args.indexed.now) c.get-condition-items.result.now = rw c.get-condition-items.ensures ((rw c.indexed.view_is at c.indexed.invariant).full.only c.args.var) in
     rw c.indexed.view_is (of_rule c.loop-condition.condition-index no_entry c.loop-condition-test.true)
 
@@ -65,7 +65,7 @@ fire-requires-clause-hold g c =
     counters_set moved ws i w0.counters work.counters lt inv.counters c.in-Some.count c.set.new.self exists c.set.ensures c.in-Some.ensures.some in
     rw c.indexed.view_is (ready_so_far p c.indexed.inside.waiting.now c.args.var c.args.state.now w0 (rw c.indexed.view_is at c.indexed.invariant).layered (rw c.indexed.view_is at c.indexed.invariant).full c.requires i c.loop-condition.state work c.set.new.self (get_or ws i no_entry).rule
     (rw (c.get-condition-items.ensures, (rw c.indexed.view_is at c.initial_value.ensures), c.value.ensures) at inv) (rw (c.get-condition-items.ensures, (rw c.indexed.view_is at c.initial_value.ensures), c.value.ensures) at next)
-    (rw (c.indexed.view_is, inv.goes_on.layer) at c.is_ready.ensures.on c.if-is_ready.true) (its_count moved ws i w0.counters work.counters lt inv.counters c.in-Some.count c.set.new.self exists c.set.ensures ∙ c.is_ready.ensures.none c.if-is_ready.true))
+    (rw (c.indexed.view_is, inv.goes_on.layer) at c.has_to_fire.ensures.on c.if-has_to_fire.true) (its_count moved ws i w0.counters work.counters lt inv.counters c.in-Some.count c.set.new.self exists c.set.ensures ∙ c.has_to_fire.ensures.none c.if-has_to_fire.true))
 
 pub loop-condition-preserved : goal.loop-condition-preserved
 loop-condition-preserved g c =
@@ -84,14 +84,14 @@ loop-condition-preserved g c =
     let exists : rule < length w0.counters = omega (arith, (of_rule i no_entry lt).1.exists, c.requires.room.one_each) in
     let within : rule < length work.counters = omega (arith, exists, inv.counters.one_each) in
     elim c.match-count_after.branch [
-      | in-Some+then-is_ready w ↦ rw (w.work-is, w.state-is)
+      | in-Some+then-has_to_fire w ↦ rw (w.work-is, w.state-is)
           (released_fired p moved ws i s0 w0 s work w.set.new.self rule w.in-Some.count w.fire.new.state w.fire.new.work inv
           (counters_set moved ws i w0.counters work.counters lt inv.counters w.in-Some.count w.set.new.self exists w.set.ensures w.in-Some.ensures.some)
           within w.set.ensures (rw c.indexed.view_is at w.fire.ensures))
-      | in-Some+else-is_ready w ↦ rw (w.work-is, w.state-is)
+      | in-Some+else-has_to_fire w ↦ rw (w.work-is, w.state-is)
           (released_on p moved ws i s0 w0 s work w.set.new.self rule w.in-Some.count inv
           (counters_set moved ws i w0.counters work.counters lt inv.counters w.in-Some.count w.set.new.self exists w.set.ensures w.in-Some.ensures.some)
-          within w.set.ensures (rw (c.indexed.view_is, inv.goes_on.layer) at w.is_ready.ensures.no w.if-is_ready.false))
+          within w.set.ensures (rw (c.indexed.view_is, inv.goes_on.layer) at w.has_to_fire.ensures.no w.if-has_to_fire.false))
       | in_default w ↦ rw (w.work-is, w.state-is) record {
         counters = counters_passed moved ws i w0.counters work.counters lt inv.counters w.in_default.ensures.none;
         goes_on = inv.goes_on;
