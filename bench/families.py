@@ -19,7 +19,7 @@ import machine
 from answers import digest, expected_digest
 from cases import files_of
 from count import LINEAR, answer_word, counted, size_of
-from groups import Chained, Effects, Relying, Repeated, Resting, Shared, Spoiled, Ungrouped
+from groups import Chained, Effects, Excluded, Relying, Repeated, Resting, Shared, Single, Spoiled, Ungrouped
 from idle import Below, Layers, Unruled
 from make import made_input
 from names import Names
@@ -43,6 +43,8 @@ FAMILIES = [
     Family("groups that share a fact and fall one after another", "mutex", Chained, 500),
     Family("groups that fall, operators that rest on another", "mutex", Resting, 1000),
     Family("operators that rely on a group for many others", "mutex", Relying, 2000),
+    Family("groups of one fact", "mutex", Single, 2000),
+    Family("operators that rely on a pair for each fact", "mutex", Excluded, 1000),
     Family("effects beside a group", "mutex", Effects, 5000),
     Family("effects and no group", "mutex", Ungrouped, 5000),
     Family("names that end alike", "plan", Names, 10000, 1),

@@ -7,6 +7,8 @@ each of another:
     Chained     the same, and each group falls as the next one has fallen
     Resting     groups that share facts and fall one after another, and operators that rest on a group that stays
     Relying     operators that set a fact of 100 groups, which they keep by one more group that they share
+    Single      groups of one and the same fact, and operators that set it
+    Excluded    a large group, each of whose facts is in a pair with the fact that all operators require
     Effects     effects of one operator that set no fact of a group, beside one group or none
 
 A task of n objects has n of these, and at most 2 n operators. Only the groups of Relying are as many in each task, since each of its
@@ -153,6 +155,34 @@ class Relying(Grouped):
 
     def operators(self):
         return [("go %d" % place, [self.required(place)], [(0, -1, HOLDS)]) for place in range(self.objects)]
+
+
+class Single(Grouped):
+    """Each group has fact 0 and no other, and each operator sets it."""
+
+    def groups(self):
+        return [[(0, HOLDS)] for _ in range(self.objects)]
+
+    def initial(self):
+        return [NOT]
+
+    def operators(self):
+        return [("go %d" % place, [], [(0, -1, HOLDS)]) for place in range(self.objects)]
+
+
+class Excluded(Grouped):
+    """Each operator requires fact 0 and sets fact 1, which is in the first group. Each of the others there is in a group with fact 0, too,
+    so that none of them holds when an operator is applied."""
+
+    def groups(self):
+        own = [(2 + place, HOLDS) for place in range(self.objects)]
+        return [[(1, HOLDS), *own]] + [[(0, HOLDS), fact] for fact in own]
+
+    def initial(self):
+        return [HOLDS] + [NOT] * (1 + self.objects)
+
+    def operators(self):
+        return [("go %d" % place, [(0, HOLDS)], [(1, -1, HOLDS)]) for place in range(self.objects)]
 
 
 class Effects(Grouped):
