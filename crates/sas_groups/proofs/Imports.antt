@@ -5,7 +5,7 @@ pub use Rattle.std.proofs.Math.ListN.{get_or-eq_default}
 pub use Rattle.std.proofs.lemmas.Bool.{cases_Bool, cases_eq, cases_lt, eq-eqb, eqb-true, cases_order, false≢true, eqb-false, both_ways, true≢false}
 pub use Rattle.std.proofs.lemmas.Grind.{common_steps}
 pub use Rattle.std.proofs.lemmas.List.{get_or_default, get_or_append_left, get_or-append_right, length-append, get_or-map, length-map, get_or_push, get_or-replicate, length-replicate, length_push, ext_get_or, get_or-set_same, get_or-set_other, length-set, take_more, take_all, take-append-drop, drop_all, take-append-le, drop-append-le, append-nil}
-pub use Rattle.std.proofs.lemmas.List.Elements.{Contains-append_left, Contains-push, All-contains, Contains-get_or, Contains-append_right, Contains-append_cases, All-nil, All-cons, All-append, All-from_get_or, All-push}
+pub use Rattle.std.proofs.lemmas.List.Elements.{Contains-append_left, Contains-push, Contains-push_cases, All-contains, Contains-get_or, Contains-append_right, Contains-append_cases, All-nil, All-cons, All-append, All-from_get_or, All-push}
 pub use Rattle.std.proofs.lemmas.List.Filters.{dedup_is}
 pub use Rattle.std.proofs.lemmas.List.Kept.{Contains-dedup, Contains-from_dedup, IsStrictlySortedBy-dedup}
 pub use Rattle.std.proofs.lemmas.List.Sorted.{Contains-permutation, IsPermutation-sym, length_permutation, searched}
@@ -50,8 +50,8 @@ pub use Rattle.sas_groups.specs.Clashes.{Keeps, IsRemoved, sets, Clash, Contradi
 pub use Rattle.sas_groups.specs.Distinct.{facts_at, AreOwnLists, AreDistinct, IsBelow}
 pub use Rattle.sas_groups.specs.Families.{MayBeExclusive, IsIn, IsGroupOf, IsGroupOfOr, AllKeep, IsKeptJointly, IsGreatest, IsOnBasic}
 pub use Rattle.sas_groups.specs.Groups.{IsExclusiveIn}
-pub use Rattle.sas_groups.specs.ByFact.{facts_below, fact_number, entries_of, AreFirstNumbers, AreByFact, HasFact, under}
-pub use Rattle.sas_groups.specs.Index.{IsIndexOf, groups_of}
+pub use Rattle.sas_groups.specs.ByFact.{facts_below, fact_number, entries_of, AreFirstNumbers, AreByFact, HasFact, HasFactBeside, AreLarger, AreLargerOfEach, under}
+pub use Rattle.sas_groups.specs.Index.{IsIndexOf, groups_of, larger_groups_of}
 pub use Rattle.sas_groups.specs.Joint.{verdict_at, AreJointVerdicts, AreInvariants}
 pub use Rattle.sas_groups.specs.Kept.{family_of}
 pub use Rattle.sas_groups.specs.Laws.{FamiliesUnite, GreatestIsOne, GreatestHasAlone, OutsideIsBroken, JointlyKeptIsInvariant, ExclusiveAloneIsInvariant, ExclusiveJointlyIsInvariant, GreatestExists, JointVerdictIsOne, SomeJointVerdict}

@@ -6,6 +6,7 @@ pub mod RunLengths
 pub mod ByVariable
 pub mod Existing
 pub mod NotesOfFacts
+pub mod Larger
 pub mod Invariance
 mod StateVerdicts
 pub mod GreatestFamily

@@ -4,7 +4,7 @@ ghost use Rattle.std.specs.List.Sorted.{IsNonDecreasing};
 ghost use Rattle.sas_groups.specs.Distinct.{facts_at};
 ghost use Rattle.sas_groups.specs.ByFact.{under, fact_number, AreLow, AreFirstNumbers, facts_below};
 
-use crate::by_fact::groups_by_fact;
+use crate::by_fact::{groups_by_fact, larger_of_each};
 use crate::by_variable::effects_by_variable;
 use crate::distinct::{facts_of, own_lists};
 use crate::runs::runs_of_groups;
@@ -23,6 +23,8 @@ pub struct Index {
     pub firsts: Vec<usize>,
     /// For each fact, by its number, the groups that contain it.
     pub groups: Lists<u32>,
+    /// The same without the groups of one fact, or `None` if there are none. No operator can break such a group.
+    pub larger: Option<Lists<u32>>,
     /// For each group, its facts in ascending order without duplicates. The list is empty or missing if the list in the task already is in
     /// that form.
     pub own_facts: Lists<Fact>,
@@ -39,12 +41,14 @@ impl Drop for Index {
         let Index {
             firsts,
             groups,
+            larger,
             own_facts,
             runs,
             effects,
         } = self;
         drop(firsts);
         drop(groups);
+        drop(larger);
         drop(own_facts);
         drop(runs);
         drop(effects);
@@ -63,11 +67,13 @@ impl Index {
         let facts = number_facts(task, &mut firsts)?;
         let own_facts = own_lists(alloc, task)?;
         let groups = groups_by_fact(alloc, task, &own_facts, firsts.as_slice(), facts)?;
+        let larger = larger_of_each(alloc, task, &own_facts, &groups)?;
         let effects = effects_by_variable(alloc, task)?;
         let runs = runs_of_groups(alloc, task, &own_facts)?;
         Ok(Index {
             firsts,
             groups,
+            larger,
             own_facts,
             runs,
             effects,
@@ -80,6 +86,18 @@ impl Index {
         ensures { result.now ≡ spec.groups_of self.now fact }
     {
         under(&self.groups, self.number_of(fact))
+    }
+
+    /// Returns the groups that contain the fact and another one.
+    #[inline(always)]
+    pub fn larger_groups_of(&self, fact: Fact) -> &[u32]
+        ensures { result.now ≡ spec.larger_groups_of self.now fact }
+    {
+        let lists = match &self.larger {
+            Some(larger) => larger,
+            None => &self.groups,
+        };
+        under(lists, self.number_of(fact))
     }
 
     /// Returns the facts of the group without duplicates.

@@ -1,5 +1,5 @@
 -- What the notes of facts that don't clash imply for another fact.
-use Rattle.sas_mutex.proofs.Imports.{◌≡◌, ◌≢◌, ◌⊎◌, ℕ, ◌<◌, Bool, [], length, get_or, List, ◌∷◌, ◌++◌, None, Some, subst, refl, sym, ap, ◌∙◌, inl, inr, append-nil, All, Any, Contains, cases_eq, get_or_default, Contains-append_left, Contains-append_right, Contains-append_cases, Contains-push, Contains-push_cases, Contains-get_or, Change, Fact, Effect, change_of, Operator, Parts, effect_at, group_at, FactExists, EffectKeeps, AreGone, Marks, IsKept, EffectPlace, operator_of, effect_of, IsNotedAt, ShareOne, AreKnown, IsMet, RemovesByNotes, SomeRemoves, IsNotedFor, known_at, preconditions, Contradict, Clash, IsRemoved, IsIn, known, Index, Notes, IsGone, clash_more, group_of_larger, family_of, IsIndexOf, HasFact, groups_of, value_note, group_note, IsOfGroupBeside, HasOtherValue, HasNotedGroup, ShareKept, SharesApart, WellRanged, variable_below, a_note, apart_or_not, one_or_two, value_note_shows, no_value_note_shows, no_note_shows, some_note_shows, shared_turned, no_effect}
+use Rattle.sas_mutex.proofs.Imports.{◌≡◌, ◌≢◌, ◌⊎◌, ℕ, ◌<◌, Bool, [], length, get_or, List, ◌∷◌, ◌++◌, None, Some, subst, refl, sym, ap, ◌∙◌, inl, inr, append-nil, All, Any, Contains, cases_eq, get_or_default, Contains-append_left, Contains-append_right, Contains-append_cases, Contains-push, Contains-push_cases, Contains-get_or, Change, Fact, Effect, change_of, Operator, Parts, effect_at, group_at, FactExists, EffectKeeps, AreGone, Marks, IsKept, EffectPlace, operator_of, effect_of, IsNotedAt, ShareOne, AreKnown, IsMet, RemovesByNotes, SomeRemoves, IsNotedFor, known_at, preconditions, Contradict, Clash, IsRemoved, IsIn, known, Index, Notes, IsGone, clash_more, group_of_larger, family_of, IsIndexOf, HasFact, groups_of, value_note, group_note, IsOfGroupBeside, HasOtherValue, HasNotedGroup, ShareKept, SharesApart, Excluding, Excludes, AreGoneAt, WellRanged, variable_below, a_note, apart_or_not, one_or_two, value_note_shows, no_value_note_shows, no_note_shows, some_note_shows, shared_turned, no_effect}
 use Rattle.sas_mutex.proofs.TaskFacts.{known_at_exist, conditions_exist}
 use Rattle.sas_mutex.proofs.KnownFacts.{contradict_turned, not_itself, shares_contradicts, contradicts_shares, share_one, share_kept}
 
@@ -290,3 +290,17 @@ known_one_is_all p kept o place e h in_family known_h among gone f in_group = el
   where
     one_more : (x : Fact) → known o e.conditions (x ∷ []) ≡ known o e.conditions [] ++ x ∷ []
     one_more x = ap (λ (xs : List Fact). xs ++ x ∷ []) (sym (append-nil (preconditions o ++ e.conditions)))
+
+-- where the fact set apart excludes the facts of a group, none of them remains
+pub excluded_gone : (f : EffectPlace) (kept : List Bool) (marks : Marks) (excluding : Excluding) → IsNotedAt f kept marks → Excludes f.task kept excluding
+    → marks.known.apart ≡ Some excluding.fact → excluding.var ≡ (effect_of f).var → AreGoneAt f kept excluding.group
+excluded_gone f kept marks excluding noted excludes apart on other among differ =
+    let before = known_at f.task f.operator f.effect in
+    let more = ap (λ (xs : List Fact). xs ++ other ∷ []) (sym (append-nil (preconditions (operator_of f) ++ (effect_of f).conditions))) in
+    inl (
+      excluding.fact,
+      other,
+      subst (λ (xs : List Fact). Contains xs excluding.fact) (sym more) (Contains-append_left before (other ∷ []) excluding.fact (noted.noted.are.noted.one_apart excluding.fact apart)),
+      subst (λ (xs : List Fact). Contains xs other) (sym more) (Contains-push before other),
+      excludes other among (λ same. differ (sym (same ∙ on))),
+    )

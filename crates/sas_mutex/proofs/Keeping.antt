@@ -1,5 +1,5 @@
 -- What an effect preserves if more or fewer groups are assumed.
-use Rattle.sas_mutex.proofs.Imports.{ℕ, ◌<◌, List, [], ◌∷◌, length, inl, inr, Fact, Effect, Operator, effect_at, Clash, known, clash_more, EffectKeeps}
+use Rattle.sas_mutex.proofs.Imports.{◌≡◌, ◌≢◌, ◌⊎◌, ℕ, ◌<◌, List, [], ◌∷◌, length, refl, sym, ap, inl, inr, arith, Contains, Contains-append_right, Contains-append_cases, All-contains, All-cons, All-nil, contains_none, one_or_two, Fact, Effect, Operator, Parts, effect_at, group_at, sets, Clash, known, clash_more, EffectKeeps, HasFactBeside}
 
 -- what clashes where some groups count clashes where others do
 module _ (Counts Others : List Fact → Type 0) (o : Operator) (group : List Fact) (e : Effect) where
@@ -18,3 +18,33 @@ module _ (Counts Others : List Fact → Type 0) (o : Operator) (group : List Fac
   pub effect_keeps_more : ((g : List Fact) → Counts g → Others g) → EffectKeeps Counts o group e → EffectKeeps Others o group e
   effect_keeps_more more = effect_keeps_by (λ other lt. clash_more Counts Others (known o e.conditions (effect_at o other).conditions) more)
       (λ f. clash_more Counts Others (known o e.conditions (f ∷ [])) more)
+
+-- a list contains another fact than this one, or no other
+pub other_or_none : (facts : List Fact) (fact : Fact) → ((other : Fact) × Contains facts other × (other ≢ fact)) ⊎ ((other : Fact) → Contains facts other → other ≡ fact)
+other_or_none [] fact = inr (λ other there. absurd (contains_none other there))
+other_or_none (f ∷ facts) fact = elim (one_or_two f fact) [
+  | inr ne ↦ inl (f, (0, omega arith, refl), ne)
+  | inl is ↦ elim (other_or_none facts fact) [
+    | inl w ↦ inl (w.0, Contains-append_right (f ∷ []) facts w.0 w.1, w.2)
+    | inr none ↦ inr (λ other there. elim (Contains-append_cases (f ∷ []) facts other there) [
+      | inl here ↦ All-contains (λ (x : Fact). x ≡ fact) (f ∷ []) other (All-cons (λ (x : Fact). x ≡ fact) f [] is (All-nil (λ (x : Fact). x ≡ fact))) here
+      | inr later ↦ none other later
+    ])
+  ]
+]
+
+-- an effect that sets the only fact of a group preserves it
+pub keeps_only : (Counts : List Fact → Type 0) (o : Operator) (group : List Fact) (e : Effect) → ((f : Fact) → Contains group f → f ≡ sets e)
+    → EffectKeeps Counts o group e
+keeps_only Counts o group e only = record {
+  single = λ other lt sets_too differ. absurd (differ (sym (ap (λ (f : Fact). f.var) (only (sets (effect_at o other)) sets_too))));
+  others = λ f among differ. absurd (differ (sym (ap (λ (x : Fact). x.var) (only f among))));
+}
+
+-- so it is enough to look at other groups
+pub keeps_if_beside : (p : Parts) (Counts : List Fact → Type 0) (o : Operator) (place : ℕ) (e : Effect) → place < length p.groups → Contains (group_at p place) (sets e)
+    → (HasFactBeside p place (sets e) → EffectKeeps Counts o (group_at p place) e) → EffectKeeps Counts o (group_at p place) e
+keeps_if_beside p Counts o place e exists has keeps = elim (other_or_none (group_at p place) (sets e)) [
+  | inl w ↦ keeps (record { exists = exists; among = has; other = w.0; beside = w.1; differ = w.2 })
+  | inr none ↦ keeps_only Counts o (group_at p place) e none
+]

@@ -1,8 +1,9 @@
 -- Checks of effects, one after another.
-use Rattle.sas_mutex.proofs.Imports.{◌≡◌, ◌⊎◌, ◌<◌, ◌≤◌, ℕ, Bool, true, false, List, [], ◌∷◌, ◌++◌, length, get_or, set, arith, ap, subst, sym, ◌∙◌, inl, inr, All-contains, vec_capacity, both_ways, get_or_default, get_or-set_same, length-set, length_push, All, Contains, Fact, Parts, operator_at, effect_at, group_at, Clash, sets, known, HasFact, IsIn, family_of, Family, Marks, IsKept, KeepsAt, KeepsWithItself, IsUnconditional, EffectPlace, IsNotedFrom, AreKnown, IsNotedFor, NeverFires, known_at, HasGrown, FamilyHasRoom, RestsOn, count, ForPairs, Looked, IsPair, IsOfEffect, IsOfOperator, IsOfAlike}
+use Rattle.sas_mutex.proofs.Imports.{◌≡◌, ◌⊎◌, ◌<◌, ◌≤◌, ℕ, Bool, true, false, List, [], ◌∷◌, ◌++◌, length, get_or, set, arith, ap, subst, sym, ◌∙◌, inl, inr, All-contains, vec_capacity, both_ways, get_or_default, get_or-set_same, length-set, length_push, All, All-nil, Contains, Fact, Parts, operator_at, effect_at, group_at, Clash, sets, known, HasFactBeside, EffectKeeps, IsIn, IsGroupOfOr, family_of, Family, Marks, SetsNone, Excludes, IsKept, KeepsAt, KeepsWithItself, IsUnconditional, EffectPlace, IsNotedFrom, AreKnown, IsNotedFor, NeverFires, known_at, HasGrown, FamilyHasRoom, RestsOn, count, ForPairs, Looked, IsPair, IsOfEffect, IsOfOperator, IsOfAlike}
 use Rattle.sas_mutex.proofs.Counting.{count_fell}
+use Rattle.sas_mutex.proofs.Keeping.{keeps_if_beside}
 use Rattle.sas_mutex.proofs.FallingGroups.{falls_then, one_fell, never_jointly, none_first, none_then, keeps_still, basis_keeps, basis_grows}
-use Rattle.sas_mutex.proofs.Supporting.{grown_falls, grown_room, same_grown}
+use Rattle.sas_mutex.proofs.Supporting.{grown_falls, same_grown}
 
 -- ---- effects without conditions have the same known facts
 
@@ -26,18 +27,18 @@ alike_never_fires f kept effect place (inr (plain, of)) never =
 
 module _ {p : Parts} {operator : ℕ} where
   -- no group is removed, and the effects preserve the groups
-  pub looked_grown : {Pairs : ℕ → ℕ → Type 0} {before after : Family} {alone : Bool} → HasGrown before after → FamilyHasRoom p before
+  pub looked_grown : {Pairs : ℕ → ℕ → Type 0} {before after : Family} {alone : Bool} → HasGrown before after → FamilyHasRoom p after
       → ForPairs p operator before.kept Pairs (KeepsAt p before.kept operator)
       → (alone ≡ true → ForPairs p operator before.kept Pairs (KeepsWithItself p after.basis operator)) → Looked p operator Pairs before after alone
   looked_grown {Pairs} {before} {after} {alone} grown room keeps by_basis = record {
     falls = grown_falls p before after grown;
-    room = grown_room p before after grown room;
+    room = room;
     grows = grown.grows;
     keeps = λ _. subst (λ (kept : List Bool). ForPairs p operator kept Pairs (KeepsAt p kept operator)) (sym grown.kept) keeps;
     by_basis = λ t. subst (λ (kept : List Bool). ForPairs p operator kept Pairs (KeepsWithItself p after.basis operator)) (sym grown.kept) (by_basis t);
   }
 
-  pub looked_pair : (of at : ℕ) {before after : Family} {alone : Bool} → HasGrown before after → FamilyHasRoom p before
+  pub looked_pair : (of at : ℕ) {before after : Family} {alone : Bool} → HasGrown before after → FamilyHasRoom p after
       → (IsIn p (family_of before.kept) at → KeepsAt p before.kept operator of at) → (alone ≡ true → KeepsWithItself p after.basis operator of at)
       → Looked p operator (IsPair of at) before after alone
   looked_pair of at {before} {after} {alone} grown room keeps by_basis = looked_grown grown room
@@ -85,23 +86,38 @@ module _ {p : Parts} {operator : ℕ} where
     ];
   }
 
-  -- all groups that contain the fact that the effect sets
+  -- the effect sets no fact of a group in the family that has another one
+  pub looked_unset : (of : ℕ) {family : Family} {alone : Bool} → FamilyHasRoom p family → SetsNone p family.kept operator of
+      → Looked p operator (IsOfEffect of) family family alone
+  looked_unset of {family} {alone} room none = looked_grown (same_grown family) room (unset (IsKept p family.kept))
+      (λ _ effect place is w has. unset (IsGroupOfOr p (family_of family.basis) (group_at p place)) effect place is w has)
+    where
+      unset : (Counts : List Fact → Type 0) (effect place : ℕ) → effect ≡ of → IsIn p (family_of family.kept) place
+          → Contains (group_at p place) (sets (effect_at (operator_at p operator) effect))
+          → EffectKeeps Counts (operator_at p operator) (group_at p place) (effect_at (operator_at p operator) effect)
+      unset Counts effect place is w has = keeps_if_beside p Counts (operator_at p operator) place (effect_at (operator_at p operator) effect) w.exists has
+          (λ beside. absurd (none place w (subst (λ n. HasFactBeside p place (sets (effect_at (operator_at p operator) n))) is beside)))
+
+  -- all groups that contain the fact that the effect sets and another one
   pub looked_all : (of : ℕ) (groups : List ℕ) (count : ℕ) {before after : Family} {alone : Bool}
-      → ((place : ℕ) → HasFact p place (sets (effect_at (operator_at p operator) of)) → Contains groups place) → length groups ≤ count
+      → ((place : ℕ) → HasFactBeside p place (sets (effect_at (operator_at p operator) of)) → Contains groups place) → length groups ≤ count
       → Looked p operator (λ effect place. IsOfEffect of effect place × (k : ℕ) × (k < count) × (get_or groups k 0 ≡ place)) before after alone
       → Looked p operator (IsOfEffect of) before after alone
   looked_all of groups count {before} {after} {alone} all within looked = record {
     falls = looked.falls;
     room = looked.room;
     grows = looked.grows;
-    keeps = λ none effect place is w has. looked.keeps none effect place (of_first effect place is w has) w has;
-    by_basis = λ t effect place is w has. looked.by_basis t effect place (of_first effect place is w has) w has;
+    keeps = λ none effect place is w has. keeps_if_beside p (IsKept p after.kept) (operator_at p operator) place (effect_at (operator_at p operator) effect) w.exists has
+        (λ beside. looked.keeps none effect place (of_first effect place is beside) w has);
+    by_basis = λ t effect place is w has. keeps_if_beside p (IsGroupOfOr p (family_of after.basis) (group_at p place)) (operator_at p operator) place
+        (effect_at (operator_at p operator) effect) w.exists has
+        (λ beside. looked.by_basis t effect place (of_first effect place is beside) w has);
   }
     where
-      of_first : (effect place : ℕ) → effect ≡ of → IsIn p (family_of after.kept) place → Contains (group_at p place) (sets (effect_at (operator_at p operator) effect))
+      of_first : (effect place : ℕ) → effect ≡ of → HasFactBeside p place (sets (effect_at (operator_at p operator) effect))
           → IsOfEffect of effect place × (k : ℕ) × (k < count) × (get_or groups k 0 ≡ place)
-      of_first effect place is w has =
-          let (k, lt, at) = all place (record { exists = w.exists; among = subst (λ n. Contains (group_at p place) (sets (effect_at (operator_at p operator) n))) is has }) in
+      of_first effect place is beside =
+          let (k, lt, at) = all place (subst (λ n. HasFactBeside p place (sets (effect_at (operator_at p operator) n))) is beside) in
           (is, k, omega arith, get_or_default groups k 0 place lt ∙ at)
 
   -- an operator that was checked with a basis is at rest as long as the groups of the basis are in
@@ -115,7 +131,7 @@ module _ {p : Parts} {operator : ℕ} where
 
 -- the effect doesn't preserve the group, which is removed
 module _ (p : Parts) (operator of at : ℕ) (before after : Family) (kept : after.kept ≡ set before.kept at false) (fallen : after.fallen.items ≡ before.fallen.items ++ at ∷ [])
-    (basis : after.basis ≡ before.basis) (supports : after.supports ≡ before.supports) (capacity : vec_capacity before.fallen ≤ vec_capacity after.fallen)
+    (basis : after.basis ≡ before.basis) (supports : after.supports ≡ before.supports) (none : after.excluding ≡ []) (capacity : vec_capacity before.fallen ≤ vec_capacity after.fallen)
     (room : FamilyHasRoom p before) (here : IsIn p (family_of before.kept) at) where
   removed_room : FamilyHasRoom p after
   removed_room =
@@ -131,6 +147,7 @@ module _ (p : Parts) (operator of at : ℕ) (before after : Family) (kept : afte
           only = λ place is. subst (λ (xs : List ℕ). Contains xs place) (sym supports) (room.basis.only place (subst (λ (xs : List Bool). family_of xs place ≡ true) basis is));
           low = subst (All (λ (support : ℕ). support < length p.groups)) (sym supports) room.basis.low;
         };
+        excluding = subst (All (Excludes p after.kept)) (sym none) (All-nil (Excludes p after.kept));
       }
 
   removed : (place : ℕ) → place ≡ at → IsIn p (family_of after.kept) place → ⊥

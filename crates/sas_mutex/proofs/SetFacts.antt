@@ -1,16 +1,17 @@
 -- The facts that changes set exist, so the index contains their groups.
-use Rattle.sas_mutex.proofs.Imports.{◌≡◌, ℕ, ◌<◌, Bool, List, length, get_or, sym, ◌∙◌, ap, subst, Contains, ◌↔◌, get_or_default, Change, Parts, operator_at, effect_at, group_at, change_of, fact_of, FactExists, WellRanged, sets, Index, IsIndexOf, HasFact, groups_of, EffectPlace, operator_of, SetsBeside, NotBothAt, BothClashAt, effect_fits}
+use Rattle.sas_mutex.proofs.Imports.{◌≡◌, ℕ, ◌<◌, Bool, List, length, get_or, sym, ◌∙◌, ap, subst, Contains, ◌↔◌, get_or_default, Change, Parts, operator_at, effect_at, group_at, change_of, fact_of, FactExists, WellRanged, sets, Index, IsIndexOf, HasFactBeside, larger_groups_of, larger_groups_have, EffectPlace, operator_of, SetsBeside, NotBothAt, BothClashAt, effect_fits}
 
 module _ (p : Parts) (ranged : WellRanged p) (operator effect : ℕ) (exists : operator < length p.operators) (lt : effect < length (operator_at p operator).effects)
     (change : Change) (is : change ≡ change_of (effect_at (operator_at p operator) effect)) where
   pub change_exists : FactExists p.variables (fact_of change)
   change_exists = subst (λ (c : Change). FactExists p.variables (fact_of c)) (sym is) (effect_fits p ranged operator exists effect lt).new
 
-  -- the groups under the fact that an effect sets
+  -- the larger groups of the fact that an effect sets
   pub groups_setting : (index : Index) → IsIndexOf p index → (place : ℕ)
-      → Contains (groups_of index (fact_of change)) place ↔ HasFact p place (sets (effect_at (operator_at p operator) effect))
+      → Contains (larger_groups_of index (fact_of change)) place ↔ HasFactBeside p place (sets (effect_at (operator_at p operator) effect))
   groups_setting index indexed place =
-      subst (λ (c : Change). Contains (groups_of index (fact_of change)) place ↔ HasFact p place (fact_of c)) is (indexed.groups (fact_of change) change_exists place)
+      subst (λ (c : Change). Contains (larger_groups_of index (fact_of change)) place ↔ HasFactBeside p place (fact_of c)) is
+      (larger_groups_have p index (fact_of change) place indexed change_exists)
 
 -- another effect with this change sets no fact of the group on another variable, or the effects
 -- can't fire together

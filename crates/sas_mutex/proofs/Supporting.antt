@@ -1,5 +1,5 @@
 -- Growing the basis and emptying it.
-use Rattle.sas_mutex.proofs.Imports.{◌≡◌, ℕ, ◌+◌, ◌<◌, ◌≤◌, Bool, true, false, List, [], length, set, refl, sym, ◌∙◌, ap, subst, inl, inr, vec_capacity, Vec, cases_eq, cases_lt, true≢false, get_or-set_same, get_or-set_other, get_or_past, All-nil, All, Parts, family_of, Family, IsBasis, IsOfNone, HasGrown, count, Falls, FamilyHasRoom}
+use Rattle.sas_mutex.proofs.Imports.{◌≡◌, ℕ, ◌+◌, ◌<◌, ◌≤◌, Bool, true, false, List, [], length, set, refl, sym, ◌∙◌, ap, subst, inl, inr, vec_capacity, Vec, cases_eq, cases_lt, true≢false, get_or-set_same, get_or-set_other, get_or_past, get_or, All-nil, All-contains, All, Contains-get_or, Parts, family_of, Excluding, Family, AreNotedWith, IsBasis, IsOfNone, Excludes, HasGrown, count, Falls, FamilyHasRoom}
 use Rattle.sas_mutex.proofs.FallingGroups.{none_fell}
 
 -- a place at which a list is true is one of its places
@@ -19,14 +19,15 @@ none_are groups family none free = record {
 
 -- a family with the same groups has room if it has a basis, and nothing fell
 pub same_room : (p : Parts) (before after : Family) → after.kept ≡ before.kept → after.fallen ≡ before.fallen → IsBasis (length p.groups) after
-    → FamilyHasRoom p before → FamilyHasRoom p after
-same_room p before after kept fallen basis room = record {
+    → All (Excludes p before.kept) after.excluding → FamilyHasRoom p before → FamilyHasRoom p after
+same_room p before after kept fallen basis excluding room = record {
   one_each = ap length kept ∙ room.one_each;
   room = subst (λ (f : Vec ℕ). count after.kept + length f.items ≤ vec_capacity f) (sym fallen)
       (subst (λ (k : List Bool). count k + length before.fallen.items ≤ vec_capacity before.fallen) (sym kept) room.room);
   few = subst (λ (f : Vec ℕ). count after.kept + length f.items ≤ length p.groups) (sym fallen)
       (subst (λ (k : List Bool). count k + length before.fallen.items ≤ length p.groups) (sym kept) room.few);
   basis = basis;
+  excluding = subst (λ (k : List Bool). All (Excludes p k) after.excluding) (sym kept) excluding;
 }
 
 pub same_falls : (p : Parts) (before after : Family) → after.kept ≡ before.kept → after.fallen ≡ before.fallen → Falls p before after
@@ -41,15 +42,32 @@ same_falls p before after kept fallen = record {
 }
   where
     plain : Family → Family
-    plain f = record { kept = f.kept; fallen = f.fallen; basis = before.basis; supports = before.supports; is_short = before.is_short }
+    plain f = record { kept = f.kept; fallen = f.fallen; basis = before.basis; supports = before.supports; is_short = before.is_short; excluding = before.excluding }
 
     moved : Falls p before (plain after)
     moved = rw (kept, fallen) (none_fell before)
 
 -- the same where the basis has grown
-pub grown_room : (p : Parts) (before after : Family) → HasGrown before after → FamilyHasRoom p before → FamilyHasRoom p after
-grown_room p before after grown room =
-    same_room p before after grown.kept grown.fallen (grown.basis (length p.groups) room.basis) room
+pub grown_room : (p : Parts) (before after : Family) → HasGrown before after → All (Excludes p before.kept) after.excluding → FamilyHasRoom p before
+    → FamilyHasRoom p after
+grown_room p before after grown excluding room =
+    same_room p before after grown.kept grown.fallen (grown.basis (length p.groups) room.basis) excluding room
+
+-- the same facts are noted as excluding others
+pub same_excluding : (p : Parts) (before after : Family) → after.excluding ≡ before.excluding → FamilyHasRoom p before → All (Excludes p before.kept) after.excluding
+same_excluding p before after same room = subst (All (Excludes p before.kept)) (sym same) room.excluding
+
+-- the basis has grown, and the same facts are noted as excluding others
+pub basis_room : (p : Parts) (before after : Family) → HasGrown before after → after.excluding ≡ before.excluding → FamilyHasRoom p before → FamilyHasRoom p after
+basis_room p before after grown same room = grown_room p before after grown (same_excluding p before after same room) room
+
+-- one more is noted
+pub more_excluding : (p : Parts) (kept : List Bool) (before after : List Excluding) (found : Excluding) → All (Excludes p kept) before → Excludes p kept found
+    → AreNotedWith found before after → All (Excludes p kept) after
+more_excluding p kept before after found all its either k d lt = elim (either (get_or after k d) (Contains-get_or after k d lt)) [
+  | inl there ↦ All-contains (Excludes p kept) before (get_or after k d) all there
+  | inr is ↦ subst (Excludes p kept) is its
+]
 
 pub grown_falls : (p : Parts) (before after : Family) → HasGrown before after → Falls p before after
 grown_falls p before after grown = same_falls p before after grown.kept grown.fallen

@@ -1,6 +1,6 @@
 -- The verdicts after each effect and each operator.
-use Rattle.sas_mutex.proofs.Imports.{common_steps, below_more, ◌≡◌, ◌≢◌, ℕ, ◌+◌, ◌<◌, Bool, true, false, List, [], ◌∷◌, ◌++◌, length, set, refl, sym, ◌∙◌, ap, subst, inl, inr, arith, cases_eq, cases_Bool, both_ways, length_push, get_or_push, get_or_append_left, length-set, get_or-set_same, get_or-set_other, set-set, set-get_or, All-from_get_or, Contains, ◌↔◌, IsTrue, Fact, Operator, Parts, operator_at, effect_at, group_at, EffectKeeps, keeps_from_effects, effect_of_keeps, Marks, IsKept, KeepsWithItself, AreCandidates, AreFirstVerdicts, IsUndecided, KeptSoFar, IsVerdictSoFar, AreVerdictsSoFar, IsNotedFor, known_at, Verdict, Exclusive, Derived, Initial, Broken, Clash, Keeps, sets, MayBeExclusive, IsIn, IsGroupOfOr, IsGreatest, IsJointVerdict, IsFirstVerdict, outside_is_broken, clash_more, GroupNote, Several, family_of, HasFact, verdict_at, AreJointVerdicts, IsGroupNote, at_most_one}
-use Rattle.sas_mutex.proofs.Keeping.{effect_keeps_more}
+use Rattle.sas_mutex.proofs.Imports.{common_steps, below_more, ◌≡◌, ◌≢◌, ℕ, ◌+◌, ◌<◌, Bool, true, false, List, [], ◌∷◌, ◌++◌, length, set, refl, sym, ◌∙◌, ap, subst, inl, inr, arith, cases_eq, cases_Bool, both_ways, length_push, get_or_push, get_or_append_left, length-set, get_or-set_same, get_or-set_other, set-set, set-get_or, All-from_get_or, Contains, ◌↔◌, IsTrue, Fact, Operator, Parts, operator_at, effect_at, group_at, EffectKeeps, keeps_from_effects, effect_of_keeps, Marks, IsKept, KeepsWithItself, AreCandidates, AreFirstVerdicts, IsUndecided, KeptSoFar, IsVerdictSoFar, AreVerdictsSoFar, IsNotedFor, known_at, Verdict, Exclusive, Derived, Initial, Broken, Clash, Keeps, sets, MayBeExclusive, IsIn, IsGroupOfOr, IsGreatest, IsJointVerdict, IsFirstVerdict, outside_is_broken, clash_more, GroupNote, Several, family_of, HasFactBeside, verdict_at, AreJointVerdicts, IsGroupNote, at_most_one}
+use Rattle.sas_mutex.proofs.Keeping.{effect_keeps_more, keeps_if_beside}
 use Rattle.sas_mutex.proofs.KnownFacts.{several_clash}
 use Rattle.sas_mutex.proofs.FromNotes.{clash_keeps}
 
@@ -164,25 +164,26 @@ module _ (p : Parts) (kept : List Bool) where
         (λ out. one_operator_more operator effects place all) (so_far.are place lt);
   }
 
-  -- the effect judged of each group that has the fact which it sets
-  one_effect_judged : (operator effect place : ℕ) (verdict : Verdict)
-      → (Contains (group_at p place) (sets (effect_at (operator_at p operator) effect)) → IsVerdictSoFar p kept operator (effect + 1) place verdict)
+  -- the effect judged of each group that has the fact which it sets and another one
+  one_effect_judged : (operator effect place : ℕ) (verdict : Verdict) → place < length p.groups
+      → (HasFactBeside p place (sets (effect_at (operator_at p operator) effect)) → IsVerdictSoFar p kept operator (effect + 1) place verdict)
       → IsVerdictSoFar p kept operator effect place verdict → IsVerdictSoFar p kept operator (effect + 1) place verdict
-  one_effect_judged operator effect place Exclusive judged is = (
+  one_effect_judged operator effect place Exclusive exists judged is = (
     is.0,
     λ out. one_effect_more operator effect place
-        (λ has. ((judged has).1 out).effects effect (omega arith) has) (is.1 out),
+        (λ has. keeps_if_beside p (IsGroupOfOr p (family_of kept) (group_at p place)) (operator_at p operator) place (effect_at (operator_at p operator) effect) exists has
+        (λ beside. ((judged beside).1 out).effects effect (omega arith) has)) (is.1 out),
   )
-  one_effect_judged operator effect place Derived judged is = is
-  one_effect_judged operator effect place Initial judged is = is
-  one_effect_judged operator effect place (Broken breaking) judged is = is
+  one_effect_judged operator effect place Derived exists judged is = is
+  one_effect_judged operator effect place Initial exists judged is = is
+  one_effect_judged operator effect place (Broken breaking) exists judged is = is
 
   pub next_effect : (operator effect : ℕ) (verdicts : List Verdict)
-      → ((place : ℕ) → HasFact p place (sets (effect_at (operator_at p operator) effect)) → IsVerdictSoFar p kept operator (effect + 1) place (verdict_at verdicts place))
+      → ((place : ℕ) → HasFactBeside p place (sets (effect_at (operator_at p operator) effect)) → IsVerdictSoFar p kept operator (effect + 1) place (verdict_at verdicts place))
       → AreVerdictsSoFar p kept operator effect verdicts → AreVerdictsSoFar p kept operator (effect + 1) verdicts
   next_effect operator effect verdicts judged so_far = record {
     one_each = so_far.one_each;
-    are = λ place lt. one_effect_judged operator effect place (verdict_at verdicts place) (λ has. judged place (record { exists = lt; among = has })) (so_far.are place lt);
+    are = λ place lt. one_effect_judged operator effect place (verdict_at verdicts place) lt (judged place) (so_far.are place lt);
   }
 
   -- of a group that is in the family, or of which something is judged, nothing is left to decide

@@ -1,17 +1,31 @@
 -- The basis: the groups that are assumed besides a group itself. What an effect preserves under
 -- this assumption it preserves whichever other groups are removed.
-use Rattle.std.specs.Prelude.{◌≡◌, ℕ, ◌<◌, Bool, IsTrue, IsFalse, List, length, Contains, All}
+use Rattle.std.specs.Prelude.{◌≡◌, ◌≢◌, ◌⊎◌, ℕ, ◌<◌, Bool, IsTrue, IsFalse, List, length, Contains, All}
 use Rattle.sas_core.specs.declared.parts.Parts.{Parts}
+use Rattle.sas_core.specs.declared.parts.Fact.{Fact}
 use Rattle.sas_core.specs.Grounded.{operator_at, effect_at, group_at}
-use Rattle.sas_groups.specs.Clashes.{sets}
+use Rattle.sas_groups.specs.Clashes.{Contradict, sets}
+use Rattle.sas_groups.specs.ByFact.{HasFactBeside}
 use Rattle.sas_groups.specs.Families.{IsIn}
 use Rattle.sas_mutex.specs.declared.family.Family.{Family}
+use Rattle.sas_mutex.specs.declared.family.Excluding.{Excluding}
+use Rattle.sas_mutex.specs.Effects.{IsKept}
 use Rattle.sas_groups.specs.Kept.{family_of}
 
--- no group of the family contains the fact that the effect sets
+-- no group of the family contains the fact that the effect sets and another one
 abbrev pub SetsNone : Parts → List Bool → ℕ → ℕ → Type 0
 SetsNone p kept operator effect = (place : ℕ) → IsIn p (family_of kept) place
-    → Contains (group_at p place) (sets (effect_at (operator_at p operator) effect)) → ⊥
+    → HasFactBeside p place (sets (effect_at (operator_at p operator) effect)) → ⊥
+
+-- assuming the family, the fact contradicts each fact of the group on another variable than this one
+abbrev pub Excludes : Parts → List Bool → Excluding → Type 0
+Excludes p kept excluding = (f : Fact) → Contains (group_at p excluding.group) f
+    → f.var ≢ excluding.var → Contradict (IsKept p kept) excluding.fact f
+
+-- each one after was there before, or is this one
+abbrev pub AreNotedWith : Excluding → List Excluding → List Excluding → Type 0
+AreNotedWith found before after =
+    (excluding : Excluding) → Contains after excluding → Contains before excluding ⊎ (found ≡ excluding)
 
 -- the family without groups, as a list with an entry for each group
 pub record IsOfNone (groups : ℕ) (none : List Bool) : Type 0 where

@@ -7,7 +7,7 @@ use Rattle.sas_groups.specs.Families.{IsIn, IsKeptJointly, MayBeExclusive}
 use Rattle.sas_mutex.specs.declared.family.Family.{Family}
 use Rattle.sas_groups.specs.Kept.{family_of}
 use Rattle.sas_mutex.specs.Effects.{KeepsAt}
-use Rattle.sas_mutex.specs.Basis.{IsBasis}
+use Rattle.sas_mutex.specs.Basis.{IsBasis, Excludes}
 
 -- an operator is at rest if each of its effects preserves each group of the family that contains
 -- the fact that the effect sets
@@ -29,6 +29,7 @@ pub record FamilyHasRoom (p : Parts) (family : Family) : Type 0 where
   pub room : count family.kept + length family.fallen.items ≤ vec_capacity family.fallen
   pub few : count family.kept + length family.fallen.items ≤ length p.groups
   pub basis : IsBasis (length p.groups) family
+  pub excluding : All (Excludes p family.kept) family.excluding
 
 -- the family contains exactly the groups that may be exclusive
 abbrev pub AreCandidates : Parts → List Bool → Type 0

@@ -4,9 +4,9 @@ ghost use Rattle.std.specs.List.{Any};
 ghost use Rattle.sas_core.specs.Grounded.{operator_at, effect_at};
 ghost use Rattle.sas_core.specs.Changes.{fact_of, plain_effects};
 ghost use Rattle.sas_core.specs.Variables.{FactExists};
-ghost use Rattle.sas_groups.specs.Clashes.{sets};
+ghost use Rattle.sas_groups.specs.Clashes.{Contradict, sets};
 ghost use Rattle.sas_groups.specs.Families.{IsIn};
-ghost use Rattle.sas_groups.specs.ByFact.{HasFact};
+ghost use Rattle.sas_groups.specs.ByFact.{HasFactBeside};
 ghost use Rattle.sas_groups.specs.ByVariable.{AreOn};
 ghost use Rattle.sas_groups.specs.Index.{groups_of};
 ghost use Rattle.sas_groups.specs.Runs.{AreOnOne};
@@ -18,9 +18,11 @@ ghost use Rattle.sas_mutex.specs.ByNotes.{IsNotedAt, EffectKeepsGroup, EffectKee
 ghost use Rattle.sas_mutex.specs.ByNotes.{ClashesAt, SharesBesideAt};
 ghost use Rattle.sas_mutex.specs.ByNotes.{HasNoPartnerAt, IsSingleOn, BeginsRun, IsOnVariableBefore, SetsBeside, SetsOtherValue};
 ghost use Rattle.sas_mutex.specs.ByNotes.{IsGoneAt, AreGoneAt, IsUnknownAt, IsDecidedByFirst, NeverFires};
-ghost use Rattle.sas_mutex.specs.Basis.{SetsNone};
+ghost use Rattle.sas_mutex.specs.Basis.{SetsNone, Excludes};
+ghost use Rattle.sas_mutex.specs.Effects.{IsKept};
 ghost use Rattle.sas_mutex.specs.Marks.{IsClean, IsNotedFrom};
 
+use crate::family::Excluding;
 use crate::marks::{Marks, facts_clash, forget_known, note_known};
 use sas_core::{Change, Fact, Grounded, Items};
 use sas_groups::{
@@ -95,16 +97,16 @@ impl<'a, 'b, T: Grounded> FiringEffect<'a, 'b, T> {
         indexed.effects_on(self.operator, var)
     }
 
-    /// Returns the groups that contain the fact that the effect sets.
+    /// Returns the groups that contain the fact that the effect sets and another one. The effect preserves all others.
     #[inline(always)]
     pub fn groups(&self) -> &'b [u32]
         ensures { let f = self.now in (place : ℕ)
-            → Contains result.now place ↔ HasFact f.task place (sets (effect_of f)) }
+            → Contains result.now place ↔ HasFactBeside f.task place (sets (effect_of f)) }
     {
-        self.index.groups_of(self.change.fact())
+        self.index.larger_groups_of(self.change.fact())
     }
 
-    /// Returns whether a group of the family contains the fact that the effect sets.
+    /// Returns whether a group of the family contains the fact that the effect sets and another one.
     #[inline(always)]
     pub fn sets_one_of(&self, kept: &[bool]) -> bool
         requires { length kept.now ≡ length self.now.task.groups }
@@ -169,6 +171,67 @@ impl<'a, 'b, T: Grounded> FiringEffect<'a, 'b, T> {
         ensures is { IsTrue result ↔ EffectKeepsGroup self.now kept.now group }
     {
         self.is_single(kept, group, marks) && self.removes_others(kept, group, marks)
+    }
+
+    /// Returns true only if the effect preserves the group since the fact excludes all others, as noted. The group must be in the family. The
+    /// known facts must be recorded and must not clash.
+    #[inline(always)]
+    pub(crate) fn keeps_by(
+        &self,
+        excluding: &Excluding,
+        kept: &[bool],
+        group: u32,
+        marks: &mut Marks,
+    ) -> bool
+        requires notes { IsNotedAt self.now kept.now marks.old }
+        requires group { IsIn self.now.task (family_of kept.now) group }
+        requires excludes { Excludes self.now.task kept.now excluding.now }
+        ensures notes { IsNotedAt self.now kept.now marks.new }
+        ensures yes { IsTrue result → EffectKeepsGroup self.now kept.now group }
+    {
+        if excluding.group != group
+            || excluding.var != self.change.var
+            || !marks.known.is_apart(excluding.fact)
+        {
+            return false;
+        }
+        self.is_single(kept, group, marks)
+    }
+
+    /// Returns the fact set apart if it excludes all facts of the group that aren't on the variable of the effect. The known facts must be
+    /// recorded and must not clash.
+    pub(crate) fn excluding(&self, kept: &[bool], group: u32, marks: &Marks) -> Option<Excluding>
+        requires notes { IsNotedAt self.now kept.now marks.now }
+        requires group { group < length self.now.task.groups }
+        ensures { IfSome result (Excludes self.now.task kept.now) }
+    {
+        let Some(fact) = marks.known.apart else {
+            return None;
+        };
+        for other in self.index.facts_of(self.task, group) {
+            if other.var != self.change.var && !self.excludes(kept, fact, *other, marks) {
+                return None;
+            }
+        }
+        Some(Excluding {
+            fact,
+            group,
+            var: self.change.var,
+        })
+    }
+
+    /// Returns true only if both facts contradict each other, assuming the family.
+    fn excludes(&self, kept: &[bool], fact: Fact, other: Fact, marks: &Marks) -> bool
+        requires fact { FactExists self.now.task.variables fact }
+        requires other { FactExists self.now.task.variables other }
+        ensures { IsTrue result → Contradict (IsKept self.now.task kept.now) fact other }
+    {
+        // For the proof: accessing a field makes the invariant of the effect available.
+        let _ = &self.task;
+        if other == fact {
+            return false;
+        }
+        some_has(self.index, kept, other, fact, &marks.deciding)
     }
 
     /// Returns whether the effect preserves the group, assuming the family and the group itself. The known facts must be recorded and must

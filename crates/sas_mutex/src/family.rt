@@ -2,10 +2,21 @@
 ghost use Rattle.std.specs.Prelude.{◌≡◌, ◌≤◌, ◌+◌, ◌++◌, [], ◌∷◌, false, ℕ, ◌<◌, length, IsTrue, All, slice_set, vec_capacity};
 ghost use Rattle.sas_groups.specs.Kept.{family_of};
 ghost use Rattle.sas_mutex.specs.Falling.{count};
-ghost use Rattle.sas_mutex.specs.Basis.{IsBasis, IsBasisKept, HasGrown, IsOfNone, IsWithout};
+ghost use Rattle.sas_mutex.specs.Basis.{AreNotedWith, IsBasis, IsBasisKept, HasGrown, IsOfNone, IsWithout};
 
-use sas_core::Items;
+use sas_core::{Fact, Items};
 use sas_groups::MOST_GROUPS;
+
+/// A fact that contradicts all facts of a group that are on other variables than `var`, assuming a family.
+#[derive(Clone, Copy)]
+pub struct Excluding {
+    pub fact: Fact,
+    pub group: u32,
+    pub var: u32,
+}
+
+/// At most so many of them are noted.
+pub const MOST_EXCLUDING: usize = 8;
 
 /// The groups that may still be preserved jointly, and those that were removed.
 pub struct Family {
@@ -21,6 +32,8 @@ pub struct Family {
     /// Whether the operator depends on more groups than the basis may have. Then the basis isn't used any more. It is a hint that no
     /// contract mentions.
     pub is_short: bool,
+    /// Facts that exclude others, as found since a group was removed last. What one operator has found, others need not find again.
+    pub excluding: Items<Excluding>,
 }
 
 impl Drop for Family {
@@ -31,11 +44,13 @@ impl Drop for Family {
             basis,
             supports,
             is_short: _,
+            excluding,
         } = self;
         drop(kept);
         drop(fallen);
         drop(basis);
         drop(supports);
+        drop(excluding);
     }
 }
 
@@ -47,6 +62,16 @@ fn take_out(list: &mut Items<bool>, groups: &[u32])
     for group in groups {
         list.set(*group as usize, false);
     }
+}
+
+/// Appends one to those that are noted. If they are too many, these are removed before.
+fn note(noted: &mut Items<Excluding>, found: Excluding)
+    ensures { AreNotedWith found noted.old noted.new }
+{
+    if noted.len() >= MOST_EXCLUDING {
+        noted.clear();
+    }
+    let _ = noted.push(found);
 }
 
 impl Family {
@@ -72,7 +97,8 @@ impl Family {
 
     /// Adds these groups to the basis. If they are too many, as `None` is, or memory runs out, the basis isn't used any more.
     pub fn grow_basis(&mut self, groups: Option<&[u32]>)
-        ensures { HasGrown self.old self.new }
+        ensures grown { HasGrown self.old self.new }
+        ensures excluding { self.new.excluding ≡ self.old.excluding }
     {
         let Some(groups) = groups else {
             self.is_short = true;
@@ -85,7 +111,8 @@ impl Family {
 
     /// Adds the group to the basis, if it exists.
     fn support(&mut self, group: u32)
-        ensures { HasGrown self.old self.new }
+        ensures grown { HasGrown self.old self.new }
+        ensures excluding { self.new.excluding ≡ self.old.excluding }
     {
         if group as usize >= self.basis.len() || self.basis.as_slice()[group as usize] {
             return;
@@ -97,6 +124,14 @@ impl Family {
         self.basis.set(group as usize, true);
     }
 
+    /// Notes that a fact excludes others.
+    pub fn note_excluding(&mut self, found: Excluding)
+        ensures grown { HasGrown self.old self.new }
+        ensures excluding { AreNotedWith found self.old.excluding self.new.excluding }
+    {
+        note(&mut self.excluding, found);
+    }
+
     /// Removes all groups from the basis.
     pub fn clear_basis(&mut self)
         requires basis { IsBasis (length self.old.basis) self.old }
@@ -104,6 +139,7 @@ impl Family {
         ensures fallen { self.new.fallen ≡ self.old.fallen }
         ensures basis { IsOfNone (length self.old.basis) self.new.basis }
         ensures none { self.new.supports ≡ [] }
+        ensures excluding { self.new.excluding ≡ self.old.excluding }
     {
         take_out(&mut self.basis, self.supports.as_slice());
         self.supports.clear();
@@ -119,9 +155,11 @@ impl Family {
         ensures fallen { self.new.fallen.items ≡ self.old.fallen.items ++ group ∷ [] }
         ensures basis { self.new.basis ≡ self.old.basis }
         ensures supports { self.new.supports ≡ self.old.supports }
+        ensures excluding { self.new.excluding ≡ [] }
         ensures room { vec_capacity self.old.fallen ≤ vec_capacity self.new.fallen }
     {
         self.kept.set(group as usize, false);
         self.fallen.push(group).unwrap();
+        self.excluding.clear();
     }
 }

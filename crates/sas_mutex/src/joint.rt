@@ -15,7 +15,7 @@ ghost use Rattle.sas_mutex.specs.Judging.{AreFirstVerdicts, IsUndecided, IsVerdi
 ghost use Rattle.sas_mutex.specs.Basis.{IsOfNone};
 
 use crate::effects::FiringEffect;
-use crate::family::Family;
+use crate::family::{Family, MOST_EXCLUDING};
 use crate::greatest::find_greatest;
 use crate::marks::Marks;
 use crate::watches::Watches;
@@ -95,6 +95,7 @@ fn candidates(alloc: Global, verdicts: &[Verdict]) -> Result<Family, AllocError>
     ensures room { IfOk result (λ family. length verdicts.now ≤ vec_capacity family.fallen) }
     ensures of_none { IfOk result (λ family. IsOfNone (length verdicts.now) family.basis) }
     ensures free { IfOk result (λ family. family.supports ≡ []) }
+    ensures excluding { IfOk result (λ family. family.excluding ≡ []) }
 {
     Ok(Family {
         kept: exclusive_of(alloc, verdicts)?,
@@ -102,6 +103,7 @@ fn candidates(alloc: Global, verdicts: &[Verdict]) -> Result<Family, AllocError>
         basis: Items::from_vec(vec![in alloc; false; verdicts.len()]?),
         supports: Items::from_vec(Vec::with_capacity(alloc, MOST_GROUPS)?),
         is_short: false,
+        excluding: Items::from_vec(Vec::with_capacity(alloc, MOST_EXCLUDING)?),
     })
 }
 

@@ -203,6 +203,10 @@ fn look_at_group<T: Grounded>(
     if keeps_by_basis(firing, group, family, marks) {
         return true;
     }
+    if keeps_by_excluding(firing, group, family, marks) {
+        family.grow_basis(None);
+        return false;
+    }
     marks.deciding.clear();
     if firing.keeps_by_notes(family.kept.as_slice(), group, marks) {
         return keeps_by_more(firing, group, family, marks);
@@ -211,8 +215,30 @@ fn look_at_group<T: Grounded>(
     true
 }
 
+/// Returns true only if the effect preserves the group since a fact excludes its other facts, as was found before.
+#[inline(never)]
+fn keeps_by_excluding<T: Grounded>(
+    firing: &FiringEffect<'_, '_, T>,
+    group: u32,
+    family: &Family,
+    marks: &mut Marks,
+) -> bool
+    requires group { IsIn firing.now.task (family_of family.now.kept) group }
+    requires room { FamilyHasRoom firing.now.task family.now }
+    requires notes { IsNotedAt firing.now family.now.kept marks.old }
+    ensures yes { IsTrue result → EffectKeepsGroup firing.now family.now.kept group }
+    ensures notes { IsNotedAt firing.now family.now.kept marks.new }
+{
+    for excluding in family.excluding.as_slice() {
+        if firing.keeps_by(excluding, family.kept.as_slice(), group, marks) {
+            return true;
+        }
+    }
+    false
+}
+
 /// Adds the groups that were used in the last test to the basis. Returns true only if the effect then preserves the group, assuming only
-/// the basis and the group itself.
+/// the basis and the group itself. If they are too many, a fact that excludes others is noted instead.
 #[inline(never)]
 fn keeps_by_more<T: Grounded>(
     firing: &FiringEffect<'_, '_, T>,
@@ -225,11 +251,18 @@ fn keeps_by_more<T: Grounded>(
     requires notes { IsNotedAt firing.now family.old.kept marks.old }
     ensures basis { IsTrue result → EffectKeepsGroupWithItself firing.now family.new.basis group }
     ensures grown { HasGrown family.old family.new }
+    ensures room { FamilyHasRoom firing.now.task family.new }
     ensures notes { IsNotedAt firing.now family.old.kept marks.new }
 {
     let deciders = marks.deciding.groups();
     family.grow_basis(deciders.as_slice());
-    keeps_by_basis(firing, group, family, marks)
+    if !family.is_short {
+        return keeps_by_basis(firing, group, family, marks);
+    }
+    if let Some(found) = firing.excluding(family.kept.as_slice(), group, marks) {
+        family.note_excluding(found);
+    }
+    false
 }
 
 /// Returns true only if all groups of the basis are in the family and the effect preserves the group, assuming only these groups and the

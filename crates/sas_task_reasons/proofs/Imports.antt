@@ -32,7 +32,7 @@ pub use Rattle.sas_groups.specs.Clashes.{Keeps, sets}
 pub use Rattle.sas_groups.specs.Distinct.{AreDistinct}
 pub use Rattle.sas_groups.specs.Families.{IsIn, IsGroupOf, IsGroupOfOr, IsKeptJointly, IsGreatest, IsOnBasic}
 pub use Rattle.sas_groups.specs.Groups.{IsExclusiveIn}
-pub use Rattle.sas_groups.specs.ByFact.{HasFact}
+pub use Rattle.sas_groups.specs.ByFact.{HasFactBeside}
 pub use Rattle.sas_groups.specs.Joint.{verdict_at, AreJointVerdicts}
 pub use Rattle.sas_groups.specs.Kept.{family_of}
 pub use Rattle.sas_groups.specs.Lists.{known}
@@ -51,6 +51,7 @@ pub use Rattle.sas_meaning.specs.States.{Holds}
 pub use Rattle.sas_meaning.specs.declared.layered.LayerFault.{LayerFault}
 pub use Rattle.sas_meaning.specs.declared.layered.LayerFault.TheVariants.{Memory, EffectOnDerived, RuleOnBasic, OldValue, TwoValues, LayerOrder}
 pub use Rattle.sas_mutex.proofs.FromNotes.{noted_fewer}
+pub use Rattle.sas_mutex.proofs.Keeping.{other_or_none, keeps_only}
 pub use Rattle.sas_mutex.proofs.TaskFacts.{group_facts}
 pub use Rattle.sas_mutex.proofs.VerdictsSoFar.{clash_never_fires, keeps_itself, put_back, several_never_fire, noted_with, with_place, or_itself, is_more}
 pub use Rattle.sas_mutex.specs.ByNotes.{NotBothAt, IsOnVariableBefore, IsGoneAt, EffectKeepsGroup, IsNotedAt, NeverFires, IsNotedFor, EffectKeepsGroupWithItself, known_at}

@@ -1,6 +1,6 @@
 -- The reasons after each effect and each operator.
 use Rattle.std.proofs.lemmas.Grind.{common_steps}
-use Rattle.sas_task_reasons.proofs.Imports.{◌≡◌, ℕ, ◌+◌, ◌<◌, Bool, List, [], ◌∷◌, ◌++◌, length, set, Option, None, Some, refl, sym, ◌∙◌, ap, subst, inl, inr, arith, cases_eq, length_push, get_or_push, get_or_append_left, length-set, get_or-set_same, get_or-set_other, Contains, IsTrue, Parts, operator_at, effect_at, group_at, Verdict, Exclusive, Derived, Initial, Broken, sets, IsGroupOfOr, Failure, Reason, Breaks, effect_of_failure, IsFirstOfEffect, IsReason, IsReasonIfAny, reason_at, AreReasons, KeptBelow, IsPending, IsReasonSoFar, AreReasonsSoFar, LacksReason, IsBroken, IsGreatest, IsJointVerdict, HasFact, family_of, KeepsWithItself, verdict_at, AreJointVerdicts, keeps_from_effects}
+use Rattle.sas_task_reasons.proofs.Imports.{◌≡◌, ℕ, ◌+◌, ◌<◌, Bool, List, [], ◌∷◌, ◌++◌, length, set, Option, None, Some, refl, sym, ◌∙◌, ap, subst, inl, inr, arith, cases_eq, length_push, get_or_push, get_or_append_left, length-set, get_or-set_same, get_or-set_other, Contains, IsTrue, Parts, operator_at, effect_at, group_at, Verdict, Exclusive, Derived, Initial, Broken, sets, IsGroupOfOr, Failure, Reason, Breaks, effect_of_failure, IsFirstOfEffect, IsReason, IsReasonIfAny, reason_at, AreReasons, KeptBelow, IsPending, IsReasonSoFar, AreReasonsSoFar, LacksReason, IsBroken, IsGreatest, IsJointVerdict, HasFactBeside, other_or_none, keeps_only, family_of, KeepsWithItself, verdict_at, AreJointVerdicts, keeps_from_effects}
 use Rattle.sas_task_reasons.proofs.Least.{has_or_not}
 use Rattle.sas_task_reasons.proofs.Failing.{sets_one, kept_never_fails, first_of_all}
 use Rattle.sas_task_reasons.proofs.GreatestOfVerdicts.{breaks_under}
@@ -76,13 +76,18 @@ module _ (p : Parts) (kept : List Bool) where
       (λ breaking unreported is pending. (pending.0, λ same. kept_more operator effect place keeps (pending.1 same)))
 
   pub next_effect : (operator effect : ℕ) (verdicts : List Verdict) (reasons : List (Option Reason))
-      → ((place : ℕ) → HasFact p place (sets (effect_at (operator_at p operator) effect))
+      → ((place : ℕ) → HasFactBeside p place (sets (effect_at (operator_at p operator) effect))
       → IsReasonSoFar p kept operator (effect + 1) place (verdict_at verdicts place) (reason_at reasons place))
       → AreReasonsSoFar p kept operator effect verdicts reasons → AreReasonsSoFar p kept operator (effect + 1) verdicts reasons
   next_effect operator effect verdicts reasons reported so_far = record {
     one_each = so_far.one_each;
     are = λ place lt. elim (has_or_not (group_at p place) (sets (effect_at (operator_at p operator) effect))) [
-      | inl has ↦ reported place (record { exists = lt; among = has })
+      | inl has ↦ elim (other_or_none (group_at p place) (sets (effect_at (operator_at p operator) effect))) [
+        | inl w ↦ reported place (record { exists = lt; among = has; other = w.0; beside = w.1; differ = w.2 })
+        | inr none ↦ pending_more operator effect place (verdict_at verdicts place) (reason_at reasons place)
+            (λ _. keeps_only (IsGroupOfOr p (family_of kept) (group_at p place)) (operator_at p operator) (group_at p place) (effect_at (operator_at p operator) effect) none)
+            (so_far.are place lt)
+      ]
       | inr has_not ↦ pending_more operator effect place (verdict_at verdicts place) (reason_at reasons place) (λ has. absurd (has_not has)) (so_far.are place lt)
     ];
   }

@@ -2,13 +2,13 @@
 use Rattle.sas_mutex.proofs.Imports.{ℕ, ◌≡◌, length, sym, subst, arith, Vec, common_steps, Falls}
 use Rattle.sas_mutex.proofs.FallingGroups.{falls_then, none_newly}
 use Rattle.sas_mutex.proofs.LookedAt.{rests_on}
-use Rattle.sas_mutex.proofs.Supporting.{none_are, same_falls, same_room}
+use Rattle.sas_mutex.proofs.Supporting.{none_are, same_falls, same_room, same_excluding}
 use Rattle.sas_mutex.proofs.greatest.look_until_quiet.Goals as goal
 use Rattle.sas_mutex.proofs.greatest.look_until_quiet.Given.{Over}
 use Rattle.sas_mutex.proofs.greatest.look_until_quiet.Goals.{After-look_at-alone}
 
 pub look_at-alone-requires-clause-room : goal.look_at-alone-requires-clause-room
-look_at-alone-requires-clause-room g c = grind (arith, common_steps, same_room, none_are)
+look_at-alone-requires-clause-room g c = grind (arith, common_steps, same_room, same_excluding, none_are)
 
 -- what fell in this turn, and before
 falls : (g : Over) (c : After-look_at-alone g) → Falls c.args.indexed.now c.loop-operator.family c.look_at-alone.new.family

@@ -19,4 +19,5 @@ returns c =
         ];
       };
       free = c.from_vec-2.ensures ∙ c.in_ok-with_capacity-2.ensures.items;
+      excluding = c.from_vec-3.ensures ∙ c.in_ok-with_capacity-3.ensures.items;
     }

@@ -27,7 +27,9 @@ returns-then-not-some_undecided-clause-so_far g c =
     (c.requires.so_far.are place has.exists)) c.requires.so_far
 
 pub judge_groups-requires-clause-have : goal.judge_groups-requires-clause-have
-judge_groups-requires-clause-have g c k d lt = (c.groups-groups.ensures _).0 (Contains-get_or c.groups-groups.result.now k d lt)
+judge_groups-requires-clause-have g c k d lt =
+    let has = (c.groups-groups.ensures _).0 (Contains-get_or c.groups-groups.result.now k d lt) in
+    record { exists = has.exists; among = has.among }
 
 pub judge_groups-requires-clause-notes : goal.judge_groups-requires-clause-notes
 judge_groups-requires-clause-notes g c =

@@ -1,6 +1,6 @@
 -- At first the family contains all groups that may be exclusive, with room for all that may be
 -- removed.
-use Rattle.sas_mutex.proofs.Imports.{◌≡◌, ◌<◌, ℕ, ◌∙◌, List, length, ap, subst, arith, ◌↔◌, IsTrue, Verdict, Exclusive, family_of, verdict_at, IsOfNone}
+use Rattle.sas_mutex.proofs.Imports.{◌≡◌, ◌<◌, ℕ, ◌∙◌, List, length, ap, subst, sym, arith, ◌↔◌, All, All-nil, Excludes, IsTrue, Verdict, Exclusive, family_of, verdict_at, IsOfNone}
 use Rattle.sas_mutex.proofs.Counting.{count_within}
 use Rattle.sas_mutex.proofs.VerdictsSoFar.{candidates_from}
 use Rattle.sas_mutex.proofs.Supporting.{none_are}
@@ -19,6 +19,7 @@ find_greatest-requires-clause-room g c =
       few = omega (arith, same, fewer, none);
       basis = none_are (length c.args.indexed.now.groups) family.family
           (subst (λ (count : ℕ). IsOfNone count family.family.basis) given family.ensures.of_none) family.ensures.free;
+      excluding = subst (All (Excludes c.args.indexed.now family.family.kept)) (sym family.ensures.excluding) (All-nil (Excludes c.args.indexed.now family.family.kept));
     }
 
 pub find_greatest-requires-clause-candidates : goal.find_greatest-requires-clause-candidates

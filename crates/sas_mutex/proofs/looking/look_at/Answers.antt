@@ -1,6 +1,6 @@
 -- One more effect was checked. Those without conditions were checked before.
-use Rattle.sas_mutex.proofs.Imports.{ℕ, Bool, List, ◌+◌, ◌<◌, ◌⊎◌, length, refl, sym, subst, Contains, operator_at, effect_at, group_at, sets, SetsNone, inl, inr, arith, and_parts, cases_eq, Parts, common_steps, FamilyHasRoom, Looked, EffectPlace, IsOfAlike, IsOfEffect, IsOfUnconditional, IsClean}
-use Rattle.sas_mutex.proofs.LookedAt.{looked_none, looked_then, looked_by}
+use Rattle.sas_mutex.proofs.Imports.{ℕ, Bool, List, ◌+◌, ◌<◌, ◌⊎◌, length, refl, sym, subst, operator_at, SetsNone, inl, inr, arith, and_parts, cases_eq, Parts, common_steps, FamilyHasRoom, Looked, EffectPlace, IsOfAlike, IsOfEffect, IsOfUnconditional, IsClean}
+use Rattle.sas_mutex.proofs.LookedAt.{looked_unset, looked_then, looked_by}
 use Rattle.sas_mutex.proofs.looking.look_at.Goals as goal
 use Rattle.sas_mutex.proofs.looking.look_at.Goals.{then-not-is_plain+then-sets_one_of, then-not-is_plain+else-sets_one_of, else-not-is_plain}
 
@@ -49,8 +49,7 @@ loop-effect-preserved g c =
           (let none = subst (λ (kept : List Bool). SetsNone p kept operator at) w.as_slice.ensures
           (subst (λ (f : EffectPlace). SetsNone f.task w.as_slice.result.now f.operator f.effect) w.new-firing.ensures (w.sets_one_of.ensures w.if-sets_one_of.false)) in
           rw (w.family-is, w.marks-is, w.alone-is) record {
-            looked = looked_then inv.looked (looked_none inv.looked.room (λ effect place same here has. none place here (subst (λ n. Contains (group_at p place) (sets (effect_at (operator_at p operator) n))) same has)))
-                either (λ t. (t, refl));
+            looked = looked_then inv.looked (looked_unset at inv.looked.room none) either (λ t. (t, refl));
             clean = inv.clean;
           })
       | else-not-is_plain w ↦ rw (w.family-is, w.marks-is, w.alone-is) record {

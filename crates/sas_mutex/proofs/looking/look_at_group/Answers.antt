@@ -1,8 +1,8 @@
 -- A group that the effect doesn't preserve is removed. One that it preserves assuming the basis
 -- isn't.
-use Rattle.sas_mutex.proofs.Imports.{iff_not, ◌<◌, Bool, true, List, length, sym, ap, subst, arith, both_ways, IsIn, family_of, common_steps, Family, EffectPlace, operator_of, IsPair, Looked, FamilyHasRoom, IsNotedAt, EffectKeepsGroup}
+use Rattle.sas_mutex.proofs.Imports.{iff_not, ◌<◌, Bool, true, false, true≢false, List, length, sym, ap, subst, arith, both_ways, IsIn, family_of, common_steps, Family, EffectPlace, operator_of, IsPair, Looked, FamilyHasRoom, IsNotedAt, EffectKeepsGroup}
 use Rattle.sas_mutex.proofs.LookedAt.{looked_none, looked_pair, looked_removed}
-use Rattle.sas_mutex.proofs.Supporting.{same_grown}
+use Rattle.sas_mutex.proofs.Supporting.{same_grown, basis_room}
 use Rattle.sas_mutex.proofs.FromNotes.{noted_fewer}
 use Rattle.sas_mutex.proofs.looking.look_at_group.Goals as goal
 use Rattle.sas_mutex.proofs.looking.look_at_group.Given.{Over}
@@ -19,7 +19,11 @@ returns-then-not-as_slice-group-clause-looked g c = grind (arith, common_steps, 
 -- ---- one that the effect preserves, assuming the basis
 
 pub returns-then-keeps_by_basis-clause-looked : goal.returns-then-keeps_by_basis-clause-looked
-returns-then-keeps_by_basis-clause-looked g c = grind (arith, common_steps, looked_pair, same_grown)
+returns-then-keeps_by_basis-clause-looked g c =
+    let f = c.args.firing.now in
+    subst (λ (after : Family). Looked f.task f.operator (IsPair f.effect c.args.group) c.args.family.now after true) (sym c.keeps_by_basis.ensures.same)
+    (looked_pair f.effect c.args.group (same_grown c.args.family.now) c.requires.room (c.keeps_by_basis.ensures.kept c.if-keeps_by_basis.true)
+    (λ _. c.keeps_by_basis.ensures.basis c.if-keeps_by_basis.true))
 
 pub returns-then-keeps_by_basis-clause-notes : goal.returns-then-keeps_by_basis-clause-notes
 returns-then-keeps_by_basis-clause-notes g c =
@@ -32,6 +36,19 @@ room g c = subst (FamilyHasRoom c.args.firing.now.task) (sym c.keeps_by_basis.en
 
 here : (g : Over) (c : After-as_slice-2 g) → IsIn c.args.firing.now.task (family_of c.keeps_by_basis.new.family.kept) c.args.group
 here g c = grind (arith, common_steps)
+
+pub keeps_by_excluding-requires-clause-room : goal.keeps_by_excluding-requires-clause-room
+keeps_by_excluding-requires-clause-room g c = subst (FamilyHasRoom c.args.firing.now.task) (sym c.keeps_by_basis.ensures.same) c.requires.room
+
+pub returns-then-keeps_by_excluding-clause-looked : goal.returns-then-keeps_by_excluding-clause-looked
+returns-then-keeps_by_excluding-clause-looked g c =
+    let f = c.args.firing.now in
+    let before = c.keeps_by_basis.new.family in
+    let after = c.grow_basis.new.self in
+    let has = subst (FamilyHasRoom f.task) (sym c.keeps_by_basis.ensures.same) c.requires.room in
+    subst (λ (family : Family). Looked f.task f.operator (IsPair f.effect c.args.group) family after false) c.keeps_by_basis.ensures.same
+    (looked_pair f.effect c.args.group c.grow_basis.ensures.grown (basis_room f.task before after c.grow_basis.ensures.grown c.grow_basis.ensures.excluding has)
+    (λ _. c.keeps_by_excluding.ensures.yes c.if-keeps_by_excluding.true) (λ t. absurd (true≢false (sym t))))
 
 pub keeps_by_notes-requires-clause-group : goal.keeps_by_notes-requires-clause-group
 keeps_by_notes-requires-clause-group g c = grind (arith, common_steps, here)
@@ -48,8 +65,7 @@ returns-then-keeps_by_notes-clause-looked g c =
     let f = c.args.firing.now in
     let after = c.keeps_by_more.new.family in
     subst (λ (family : Family). Looked f.task f.operator (IsPair f.effect c.args.group) family after c.keeps_by_more.result) c.keeps_by_basis.ensures.same
-    (looked_pair f.effect c.args.group c.keeps_by_more.ensures.grown
-    (room g (goal.at.returns-then-keeps_by_notes-clause-looked g c).After-as_slice-2)
+    (looked_pair f.effect c.args.group c.keeps_by_more.ensures.grown c.keeps_by_more.ensures.room
     (λ _. subst (λ (kept : List Bool). EffectKeepsGroup f kept c.args.group) c.as_slice-2.ensures (c.keeps_by_notes.ensures.is.0 c.if-keeps_by_notes.true))
     c.keeps_by_more.ensures.basis)
 
@@ -71,7 +87,7 @@ removed g c =
     let f = c.args.firing.now in
     let turn = c.take_away.ensures in
     let before = (goal.at.After-take_away g c).After-as_slice-2 in
-    looked_removed f.task f.operator f.effect c.args.group c.keeps_by_basis.new.family c.take_away.new.self turn.kept turn.fallen turn.basis turn.supports turn.room
+    looked_removed f.task f.operator f.effect c.args.group c.keeps_by_basis.new.family c.take_away.new.self turn.kept turn.fallen turn.basis turn.supports turn.excluding turn.room
     (room g before) (here g before)
     (subst (λ (s : EffectPlace). s.operator < length s.task.operators) c.firing.view_is c.firing.invariant.2)
     (subst (λ (s : EffectPlace). s.effect < length (operator_of s).effects) c.firing.view_is c.firing.invariant.3)

@@ -1,7 +1,7 @@
 -- One more effect sets no fact of a group in the family, or has conditions. An effect that is
 -- checked stands for all effects without conditions.
-use Rattle.sas_mutex.proofs.Imports.{iff_not, ◌≡◌, ◌<◌, List, Bool, length, refl, sym, subst, inl, inr, arith, cases_eq, Contains, operator_at, effect_at, group_at, sets, Parts, EffectPlace, FamilyHasRoom, SetsNone, IsUnconditional, IsClean, Looked, IsOfAlike, IsOfEffect}
-use Rattle.sas_mutex.proofs.LookedAt.{looked_none, looked_then, looked_by}
+use Rattle.sas_mutex.proofs.Imports.{iff_not, ◌≡◌, ◌<◌, List, Bool, length, refl, sym, subst, inl, inr, arith, cases_eq, operator_at, Parts, EffectPlace, FamilyHasRoom, SetsNone, IsUnconditional, IsClean, Looked, IsOfAlike}
+use Rattle.sas_mutex.proofs.LookedAt.{looked_none, looked_unset, looked_then, looked_by}
 use Rattle.sas_mutex.proofs.looking.look_at_plain.Goals as goal
 use Rattle.sas_mutex.proofs.looking.look_at_plain.Goals.{then-is_plain+else-sets_one_of, else-is_plain}
 
@@ -32,8 +32,7 @@ loop-effect-preserved g c =
           (let none = subst (λ (kept : List Bool). SetsNone p kept operator at) w.as_slice.ensures
           (subst (λ (f : EffectPlace). SetsNone f.task w.as_slice.result.now f.operator f.effect) w.new-firing.ensures (w.sets_one_of.ensures w.if-sets_one_of.false)) in
           record {
-            looked = looked_then inv.looked
-                (looked_none {Pairs = IsOfEffect at} inv.looked.room (λ effect place same here has. none place here (subst (λ n. Contains (group_at p place) (sets (effect_at (operator_at p operator) n))) same has)))
+            looked = looked_then inv.looked (looked_unset at inv.looked.room none)
                 (λ effect place (lt, plain). elim (cases_eq effect at) [
                   | inl same ↦ inr same
                   | inr ne ↦ inl (omega arith, plain)

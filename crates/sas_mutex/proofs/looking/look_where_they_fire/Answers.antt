@@ -2,6 +2,7 @@
 use Rattle.sas_mutex.proofs.Imports.{List, Bool, length, ap, sym, subst, ◌∙◌, true≢false, operator_at, effect_at, group_at, IsKept, IsNotedAt, NeverFires}
 use Rattle.sas_mutex.proofs.FromNotes.{clash_keeps}
 use Rattle.sas_mutex.proofs.LookedAt.{looked_grown, alike_never_fires}
+use Rattle.sas_mutex.proofs.Supporting.{basis_room}
 use Rattle.sas_mutex.proofs.looking.look_where_they_fire.Goals as goal
 use Rattle.sas_mutex.proofs.looking.look_where_they_fire.Goals.{then-not-note, else-not-note}
 
@@ -18,7 +19,7 @@ returns-clause-looked g c =
     let start = c.args.family.now in
     elim c.if-not-note.branch [
       | then-not-note w ↦ rw (w.family-is, w.alone-is) w.look_at_noted-alone.ensures.looked
-      | else-not-note w ↦ rw (w.family-is, w.alone-is) (looked_grown w.grow_basis.ensures c.requires.room
+      | else-not-note w ↦ rw (w.family-is, w.alone-is) (looked_grown w.grow_basis.ensures.grown (basis_room f.task start w.grow_basis.new.self w.grow_basis.ensures.grown w.grow_basis.ensures.excluding c.requires.room)
           (λ effect place alike _ _. clash_keeps (IsKept f.task start.kept) (operator_at f.task f.operator) (group_at f.task place) (effect_at (operator_at f.task f.operator) effect)
           (alike_never_fires f start.kept effect place alike (subst (NeverFires f) c.as_slice.ensures (c.note.ensures.yes w.if-not-note.false))))
           (λ t. absurd (true≢false (sym t))))

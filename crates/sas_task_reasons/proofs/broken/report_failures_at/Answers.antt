@@ -29,7 +29,9 @@ returns-then-not-some_lacks_reason-clause-so_far g c =
     (c.requires.so_far.are place has.exists)) c.requires.so_far
 
 pub report_groups-requires-clause-have : goal.report_groups-requires-clause-have
-report_groups-requires-clause-have g c k d lt = (c.groups-groups.ensures _).0 (Contains-get_or c.groups-groups.result.now k d lt)
+report_groups-requires-clause-have g c k d lt =
+    let has = (c.groups-groups.ensures _).0 (Contains-get_or c.groups-groups.result.now k d lt) in
+    record { exists = has.exists; among = has.among }
 
 pub report_groups-requires-clause-notes : goal.report_groups-requires-clause-notes
 report_groups-requires-clause-notes g c = subst (λ (kept : List Bool). IsNotedAt c.args.firing.now kept c.note.new.marks) c.as_slice-kept.ensures (c.note.ensures.notes c.if-not-note.true)

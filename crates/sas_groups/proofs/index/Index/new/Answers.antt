@@ -10,6 +10,7 @@ returns g c =
       ranged = c.variables.ensures.well_ranged;
       firsts = c.in_ok-facts.ensures.firsts;
       groups = groups.are;
+      larger = c.in_ok-larger.ensures;
       facts = c.in_ok-own_facts.ensures;
       runs = c.in_ok-runs.ensures;
       effects = c.in_ok-effects.ensures;

@@ -10,5 +10,5 @@ bounds-kept-group g c =
 
 pub returns : goal.returns
 returns g c none place in_family has =
-    let (k, lt, is) = (c.groups-group-items.ensures place).1 (record { exists = in_family.exists; among = has }) in
+    let (k, lt, is) = (c.groups-group-items.ensures place).1 has in
     both_ways _ (c.loop-group.invariant k place (let end = c.loop-group-test.false in omega arith)) (ap (λ n. family_of c.args.kept.now n) is ∙ in_family.chosen)

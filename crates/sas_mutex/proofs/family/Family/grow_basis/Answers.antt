@@ -1,14 +1,16 @@
 -- One more group is added to the basis.
+use Rattle.sas_mutex.proofs.Imports.{◌∙◌, refl}
 use Rattle.sas_mutex.proofs.Supporting.{same_grown, grown_then}
 use Rattle.sas_mutex.proofs.family.Family.grow_basis.Goals as goal
 
 pub loop-group-init : goal.loop-group-init
-loop-group-init c = record { grown = same_grown c.args.self.now }
+loop-group-init c = record { grown = same_grown c.args.self.now; excluding = refl }
 
 pub loop-group-preserved : goal.loop-group-preserved
 loop-group-preserved c = record {
-  grown = grown_then c.args.self.now c.loop-group.self c.support.new.self c.loop-group.invariant.grown c.support.ensures;
+  grown = grown_then c.args.self.now c.loop-group.self c.support.new.self c.loop-group.invariant.grown c.support.ensures.grown;
+  excluding = c.support.ensures.excluding ∙ c.loop-group.invariant.excluding;
 }
 
 pub returns : goal.returns
-returns c = c.loop-group.invariant.grown
+returns c = record { grown = c.loop-group.invariant.grown; excluding = c.loop-group.invariant.excluding }

@@ -1,0 +1,41 @@
+-- The fact contradicts one more, or that is on the variable of the effect.
+use Rattle.sas_mutex.proofs.Imports.{◌≢◌, ◌<◌, List, length, get_or, sym, subst, arith, each_more, Contains, Contains-get_or, Fact, group_at, FactExists, own_fact_exists, Contradict, AreDistinct, IsKept, EffectPlace, known_at}
+use Rattle.sas_mutex.proofs.TaskFacts.{known_at_exist}
+use Rattle.sas_mutex.proofs.effects.FiringEffect.excluding.Goals as goal
+use Rattle.sas_mutex.proofs.effects.FiringEffect.excluding.Goals.{else-other-self-via-then-other-self+else-not-excludes, else-other-self-via-else-other-self}
+
+pub excludes-requires-clause-fact : goal.excludes-requires-clause-fact
+excludes-requires-clause-fact g c =
+    let fact = c.in-Some.fact in
+    let known = c.requires.notes.noted.are.noted.one_apart fact c.in-Some.is in
+    subst (λ (s : EffectPlace). FactExists s.task.variables fact) c.self.view_is
+    (known_at_exist c.self.inside.task.now c.self.invariant.0 c.self.inside.operator c.self.invariant.2 c.self.inside.effect c.self.invariant.3 fact
+    (subst (λ (s : EffectPlace). Contains (known_at s.task s.operator s.effect) fact) (sym c.self.view_is) known))
+
+pub excludes-requires-clause-other : goal.excludes-requires-clause-other
+excludes-requires-clause-other g c =
+    let items = c.facts_of-other-items.result.now in
+    let other = get_or items c.loop-other.other-index (record { var = 0; value = 0 }) in
+    let exists = subst (λ (s : EffectPlace). c.args.group < length s.task.groups) (sym c.self.view_is) c.requires.group in
+    let there = subst (λ (xs : List Fact). Contains xs other) c.facts_of-other-items.ensures
+    (Contains-get_or items c.loop-other.other-index (record { var = 0; value = 0 }) c.loop-other-test.true) in
+    subst (λ (s : EffectPlace). FactExists s.task.variables other) c.self.view_is
+    (own_fact_exists c.self.inside.task.now c.self.inside.index.now.own_facts c.self.invariant.0 c.self.invariant.1.facts c.args.group other exists there)
+
+pub loop-other-preserved : goal.loop-other-preserved
+loop-other-preserved g c =
+    each_more (λ (f : Fact). f.var ≢ c.self.inside.change.var → Contradict (IsKept c.args.self.now.task c.args.kept.now) c.in-Some.fact f)
+    c.facts_of-other-items.result.now c.loop-other.other-index (record { var = 0; value = 0 }) c.loop-other-test.true c.loop-other.invariant (elim c.else-other-self.branch [
+      | else-other-self-via-then-other-self+else-not-excludes w ↦ λ differ. w.excludes.ensures w.if-not-excludes.false
+      | else-other-self-via-else-other-self w ↦ λ differ. absurd (differ w.if-other-self.false)
+    ])
+
+pub returns : goal.returns
+returns g c f has =
+    let items = c.facts_of-other-items.result.now in
+    let exists = subst (λ (s : EffectPlace). c.args.group < length s.task.groups) (sym c.self.view_is) c.requires.group in
+    let distinct = subst (λ (xs : List Fact). AreDistinct xs (group_at c.self.inside.task.now c.args.group)) (sym c.facts_of-other-items.ensures) (c.self.invariant.1.facts c.args.group exists) in
+    let same = subst (λ (s : EffectPlace). AreDistinct items (group_at s.task c.args.group)) c.self.view_is distinct in
+    let (k, within, is) = (same.same f).1 has in
+    subst (λ (x : Fact). x.var ≢ c.self.inside.change.var → Contradict (IsKept c.args.self.now.task c.args.kept.now) c.in-Some.fact x) is
+    (c.loop-other.invariant k f (omega (arith, within, c.loop-other-test.false)))
