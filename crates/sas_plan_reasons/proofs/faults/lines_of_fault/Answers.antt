@@ -39,7 +39,7 @@ returns-in-NotApplicable g c =
     let p = c.args.layered.now in
     IfOk-weaker c.blocked.result _ _ (λ lines reported run r.
     subst (λ (f : PlanFault). ReportsOnce lines (AreFaultLines p (g.P.Stepwise.says c.args.plan.now) run f)) (sym c.in-NotApplicable.is)
-    (subst (λ (name : List ℕ). ReportsOnce lines (LineThen (Step c.in-NotApplicable.step) (AreOperatorLines p run name))) c.step-in-NotApplicable.ensures
+    (subst (λ (name : List ℕ). ReportsOnce lines (LineThen (Step c.in-NotApplicable.step) (AreOperatorLines p run name))) c.step.ensures
     (reported run (behind _ _ _ run r))))
     c.blocked.ensures
 

@@ -15,5 +15,5 @@ returns-clause-retraced g c =
     let start = notes_start found.run c.args.execution c.in_ok-new.field-0 found.executes found.made (rw c.state.ensures.now at c.in_ok-new.ensures) in (
       found.run,
       retraced c.args.execution.task c.args.execution.plan found.run c.note_steps.new.execution c.note_steps.new.notes _ noted.task (noted.made ∙ ap length (sym noted.operators))
-          (noted.notes found.run start) found.ends c.nameless.ensures c.into_parts-operators.ensures.operators c.into_parts-operators.ensures.state refl refl,
+          (noted.notes found.run start) found.ends c.nameless-nameless.ensures c.into_parts-operators.ensures.operators c.into_parts-operators.ensures.state refl refl,
     )
