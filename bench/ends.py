@@ -5,7 +5,7 @@
 
 The inputs are made in FOLDER if they aren't there. For each request the instructions over the files with LF are printed, those
 over the files with CR LF, and the ratio, the second over the first. The answer has to be the same. The exit status is 1 if a
-ratio is above 1.35, or an answer isn't right. It needs valgrind.
+ratio is above that of MOST, or an answer isn't right. It needs valgrind.
 """
 import argparse
 import os
@@ -18,7 +18,8 @@ from cases import Case, files_of
 from count import answer_word, counted
 from make import case_input
 
-MOST = 1.35
+# `print` removes the CRs at the end, and `steps` appends a line and its LF one after the other
+MOST = {"check": 1.25, "show": 1.25, "plan": 1.2, "steps": 1.6, "print": 2.6}
 SIZES = [("gripper", 2), ("blocks", 2)]
 REQUESTS = ["check", "show", "print", "plan", "steps"]
 STEPS = 20000
@@ -49,8 +50,8 @@ def case_row(given, case, made, files, changed):
     words = [answer_word(count, expected_digest(case.request, made)) for count in counts]
     ratio = counts[1].instructions / counts[0].instructions
     cells = [case.name, *("%.1f" % (count.instructions / 1e6) for count in counts),
-             "%.2f" % ratio + ("" if ratio <= MOST else " TOO MUCH"), *words]
-    return machine.row(cells), ratio <= MOST and words == ["right"] * 2
+             "%.2f" % ratio + ("" if ratio <= MOST[case.request] else " TOO MUCH"), *words]
+    return machine.row(cells), ratio <= MOST[case.request] and words == ["right"] * 2
 
 
 def read_words():

@@ -238,9 +238,8 @@ def letter(end, was_refused, answer):
 def wrong_with_call(library, call):
     """Returns what is wrong with a call."""
     came = "".join(letter(*run, call["answer"]) for run in runs(library, call))
-    # Each input is read without memory for large pieces, which is requested before all other, and, if its lines end with CR LF,
-    # without memory for a copy with LF alone.
-    return [] if "w" in came and re.fullmatch("n*(A{0,2}[nw]+){1,%d}A*a" % call["inputs"], came) else [came]
+    # Each input is read without memory for large pieces, which is requested before all other.
+    return [] if "w" in came and re.fullmatch("n*(A?[nw]+){1,%d}A*a" % call["inputs"], came) else [came]
 
 
 def wrong_with_request(library, call):

@@ -1,5 +1,5 @@
 -- What the proofs use of other crates, and of the definitions of this one.
-pub use Rattle.std.proofs.Common.{◌≡◌, ℕ, ◌+◌, List, [], ◌∷◌, ◌++◌, length, length-append, take, refl, sym, ap, ◌∙◌, append_assoc, arith, zero, suc, ◌*◌, ◌-◌, ◌/◌, ◌%◌, ◌<◌, ◌≤◌, ◌^◌, get_or, subst, rules, inl, inr, Bool, true, false, eqb, ◌⊎◌, if◌then◌else◌, ◌==◌, drop, ◌≢◌, Option, cond, Some, None, nat_lt, IfSome}
+pub use Rattle.std.proofs.Common.{◌≡◌, ℕ, ◌+◌, List, [], ◌∷◌, ◌++◌, length, length-append, take, refl, sym, ap, ap₂, ◌∙◌, append_assoc, arith, zero, suc, ◌*◌, ◌-◌, ◌/◌, ◌%◌, ◌<◌, ◌≤◌, ◌^◌, get_or, subst, rules, inl, inr, Bool, true, false, not, eqb, ◌⊎◌, if◌then◌else◌, ◌==◌, drop, ◌≢◌, Option, cond, Some, None, nat_lt, IfSome}
 pub use Rattle.std.proofs.KnownBytes.{Appends-trans}
 pub use Rattle.std.proofs.Math.Seq.{take-add}
 pub use Rattle.std.proofs.lemmas.Bool.{cases_lt, eqb-true, eq-eqb, ne_eqb, eqb-false}
@@ -8,6 +8,7 @@ pub use Rattle.std.proofs.lemmas.Fmt.{decimal_nonempty, length-decimal-le, first
 pub use Rattle.std.proofs.lemmas.Grind.{flat_map-append}
 pub use Rattle.std.proofs.lemmas.Int.Digits.{digits_more, digits_value_more}
 pub use Rattle.std.proofs.lemmas.List.{take_at, length_push, length-take, take_all, take_more, get_or_at, get_or-take, take-append-drop, drop_more, take_rest, append-nil}
+pub use Rattle.std.proofs.lemmas.Fn.{filter_same}
 pub use Rattle.std.proofs.lemmas.Str.Parse.{IsNumeralModel, numerals_by_value, tells_digits, digits_value_short, digit_at, digit_from_value}
 pub use Rattle.std.specs.Char.{digit_value}
 pub use Rattle.std.specs.Fmt.{decimal, digits_onto, digit_glyph}
@@ -19,7 +20,7 @@ pub use Rattle.std.specs.Option.{IfNone}
 pub use Rattle.std.specs.Str.Parse.{AllDigits, digits_value}
 pub use Rattle.memchr.specs.Find.{Nowhere, NoneBefore, Passes, is_byte}
 pub use Rattle.sas_lines.specs.FirstLines.{LinesStandFirst, TakesLine}
-pub use Rattle.sas_lines.specs.Lines.{text, without_return, lines_among, rest_among}
+pub use Rattle.sas_lines.specs.Lines.{text, without_return, without_returns, lines_among, rest_among}
 pub use Rattle.sas_lines.specs.EndedLines.{EndedLines, NoEnd}
 pub use Rattle.sas_lines.specs.Segments.{onto_first}
 pub use Rattle.sas_lines.specs.Separators.{StandsFirst, Without}

@@ -1,6 +1,7 @@
 mod Separated
 mod Sent
 mod Found
+pub mod Returns
 mod Feeding
 mod Digits
 pub mod Splitting

@@ -1,7 +1,7 @@
 -- Lines: any bytes are a sequence of complete lines, each with its line end, and a rest without LF.
 -- The bytes `one LF two CR LF three` are the lines `one` and `two` and the rest `three`.
-use Rattle.std.specs.Prelude.{ℕ, ◌==◌, if◌then◌else◌, List, [], ◌∷◌, ◌++◌}
-use Rattle.std.specs.List.{flat_map}
+use Rattle.std.specs.Prelude.{ℕ, ◌==◌, not, if◌then◌else◌, List, [], ◌∷◌, ◌++◌}
+use Rattle.std.specs.List.{flat_map, filter}
 use Rattle.sas_lines.specs.Segments.{segments}
 
 -- a line without its line end, given the bytes before its LF: a CR directly before the LF is part
@@ -35,3 +35,7 @@ unfinished bytes = rest_among (segments 10 bytes)
 -- the lines, each ended by LF
 abbrev pub text : List (List ℕ) → List ℕ
 text lines = flat_map (λ line. line ++ 10 ∷ []) lines
+
+-- the bytes without CRs
+abbrev pub without_returns : List ℕ → List ℕ
+without_returns bytes = filter (λ b. not (b == 13)) bytes

@@ -15,4 +15,4 @@ pub use inputs::OpenInput;
 pub use lines::{Fed, FirstLine, Lines, first_line, lines_law, without_return};
 pub use numbers::Numbers;
 pub use spelling::{cost, number, signed, spelling_is_decimal};
-pub use writing::{push_line, push_number};
+pub use writing::{drop_returns, push_line, push_number};

@@ -24,6 +24,7 @@ pub struct FirstLine<'a> {
 }
 
 /// Returns the line without a CR at its end, since that CR is part of the line end.
+#[inline(always)]
 #[tactic(auto, using(crate::proofs::Found::return_at, crate::proofs::Found::no_return_at))]
 pub fn without_return(line: &[u8]) -> &[u8]
     ensures { result.now ≡ without_return line.now }

@@ -21,10 +21,13 @@ pub use Rattle.sas_core.specs.declared.plan.CostKind.{CostKind}
 pub use Rattle.sas_lines.proofs.Splitting.{lines-one, unfinished-one, return_length}
 pub use Rattle.sas_lines.proofs.Words.{NoSpace, NoSpace-decimal}
 pub use Rattle.sas_lines.specs.Lines.{text, without_return}
+pub use Rattle.sas_lines.specs.EndedLines.{EndedLines}
+pub use Rattle.sas_lines.proofs.Beginnings.{front_of_lines}
 unfoldable pub use Rattle.sas_lines.specs.Lines.{lines}
 pub use Rattle.sas_reader.proofs.About.{about_laws_of}
 pub use Rattle.sas_reader.proofs.AcceptedLines.{LinesAccepted, none_accepted, one_more, accepted}
 pub use Rattle.sas_reader.proofs.Conversion.{Follows, reads_of_format, some_read}
+pub use Rattle.sas_reader.proofs.Ends.{ended_line}
 pub use Rattle.sas_reader.proofs.Every.{laws_of}
 pub use Rattle.sas_reader.proofs.Live.{leads_line}
 pub use Rattle.sas_reader.proofs.Paths.{one_ended, after_ends}
@@ -32,6 +35,7 @@ pub use Rattle.sas_reader.proofs.Plain.{plain, plain-decimal}
 pub use Rattle.sas_reader.proofs.Reading.{end_fault, reads_all, refuses_all, feeds}
 pub use Rattle.sas_reader.proofs.Refusals.{reported_by, explains, reads_explained, refuses_explained}
 pub use Rattle.sas_reader.specs.About.{ConcernsText, EndsUnended}
+pub use Rattle.sas_reader.specs.Ends.{StandsBefore}
 pub use Rattle.sas_reader.specs.Devices.{ReadsAll, ValueOf}
 pub use Rattle.sas_reader.specs.Format.{ReadsAs, AreAllLines}
 pub use Rattle.sas_reader.specs.Laws.{Laws}

@@ -1,9 +1,10 @@
 -- How the code parses a line of a plan file.
-use Rattle.std.specs.Prelude.{◌≡◌, ℕ, List, ◌∷◌, ◌++◌, codes, Result, Ok, Err}
+use Rattle.std.specs.Prelude.{◌≡◌, ℕ, List, [], ◌∷◌, ◌++◌, codes, Result, Ok, Err}
 use Rattle.std.specs.Fmt.{decimal}
 use Rattle.sas_core.specs.declared.plan.CostKind.{CostKind}
 use Rattle.sas_core.specs.Names.{IsName}
 use Rattle.sas_core.specs.Numbers.{IsPlanCost}
+use Rattle.sas_lines.specs.EndedLines.{EndedLines}
 use Rattle.sas_reader.specs.declared.fault.Kind.{Kind}
 use Rattle.sas_plan_file.specs.declared.plan_line.PlanLine as code
 use Rattle.sas_plan_file.specs.declared.plan_line.PlanLine.TheVariants as variants
@@ -31,7 +32,7 @@ JudgesPlanLine line (Ok said) =
     × (plan_line_bytes (line_said said) ≡ line)
 JudgesPlanLine line (Err kind) = IsRejected plan_format PlanLineFits tt plan_line_ok line kind
 
--- the bytes are the line of this step, LF and the rest
+-- the bytes are the line of this step, its end, and the rest
 pub record StepStandsFirst (bytes name rest : List ℕ) : Type 0 where
   pub is_name : IsName name
-  pub are : bytes ≡ plan_line_bytes (step name) ++ 10 ∷ rest
+  pub are : EndedLines (plan_line_bytes (step name) ∷ []) rest bytes

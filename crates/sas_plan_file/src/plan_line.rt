@@ -7,7 +7,7 @@ ghost use Rattle.sas_plan_file.specs.PlanLine.{Names, Costs, JudgesPlanLine, Ste
 
 use sas_core::{CostKind, is_name};
 use sas_lines::cost;
-use sas_reader::{Kind, plain_end};
+use sas_reader::{Kind, behind_line, plain_end};
 
 /// The content of a line of a plan file: the name of a step, or the cost.
 #[derive(Clone, Copy, Debug, PartialEq, Eq)]
@@ -102,15 +102,14 @@ fn in_parentheses(line: &[u8]) -> Option<&[u8]>
     }
 }
 
-/// Returns the name of the step on the first line of the bytes, and the bytes after the line, if it ends with LF at the first byte that is
-/// at most CR. Otherwise returns `None`, and the line has to be read by `plan_line`.
+/// Returns the name of the step on the first line of the bytes, and the bytes after the line, if its end is at the first byte that is at
+/// most CR. Otherwise returns `None`, and the line has to be read by `plan_line`.
+#[inline(always)]
 pub fn step_ahead(bytes: &[u8]) -> Option<(&[u8], &[u8])>
     ensures { IfSome result (λ a. StepStandsFirst bytes.now a.0.now a.1.now) }
 {
     let end = plain_end(bytes)?;
     let name = in_parentheses(&bytes[..end])?;
-    if bytes[end] != b'\n' {
-        return None;
-    }
-    Some((name, &bytes[end + 1..]))
+    let rest = behind_line(bytes, end)?;
+    Some((name, rest))
 }

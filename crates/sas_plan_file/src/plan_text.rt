@@ -1,5 +1,5 @@
 // Accepts the lines of a plan file and stores them as a text.
-ghost use Rattle.std.specs.Prelude.{◌≡◌, [], ◌∷◌, ◌++◌, IsTrue, OnOk, IfErr, false};
+ghost use Rattle.std.specs.Prelude.{◌≡◌, ◌<◌, [], ◌∷◌, ◌++◌, length, take, IsTrue, OnOk, IfErr, false};
 
 use crate::plan_line::{PlanLine, plan_line, step_ahead};
 use sas_lines::push_line;
@@ -44,6 +44,21 @@ impl PlanText {
         push_line(&mut self.text, line)?;
         Ok(())
     }
+
+    /// Appends the line that consists of the first `count` bytes. If LF follows them, it is appended with them, which is faster.
+    fn keep_first(&mut self, bytes: &[u8], count: usize) -> Result<(), Kind>
+        requires { count < length bytes.now }
+        ensures ok { OnOk result (self.new.text.items
+            ≡ self.old.text.items ++ (take count bytes.now ++ 10 ∷ [])) }
+        ensures closed { self.new.closed ≡ self.old.closed }
+        ensures err { IfErr result (λ k. k ≡ Kind.Memory) }
+    {
+        if bytes[count] != b'\n' {
+            return self.keep(&bytes[..count]);
+        }
+        self.text.extend_from_slice(&bytes[..count + 1])?;
+        Ok(())
+    }
 }
 
 impl Machine for PlanText {
@@ -65,9 +80,8 @@ impl Machine for PlanText {
     fn accept_ahead(&mut self, bytes: &[u8]) -> Result<Front, Kind> {
         let mut lines = 0;
         let mut rest = bytes;
-        while let Some((_name, behind)) = step_ahead(rest) {
-            self.text
-                .extend_from_slice(&rest[..rest.len() - behind.len()])?;
+        while let Some((name, behind)) = step_ahead(rest) {
+            self.keep_first(rest, name.len() + 2)?;
             lines += 1;
             rest = behind;
         }

@@ -1,5 +1,5 @@
 -- Lines that a machine accepts ahead, one after another.
-use Rattle.sas_reader.proofs.Imports.{◌≡◌, ℕ, ◌+◌, ◌-◌, ◌≤◌, List, [], ◌∷◌, ◌++◌, length, take, refl, sym, ap, subst, ◌∙◌, append_assoc, arith, length-append, Ok, append-nil, take_at, lines, unfinished, lines-append, unfinished-append, lines-few, lines-none, unfinished-none, AcceptsAhead}
+use Rattle.sas_reader.proofs.Imports.{◌≡◌, ℕ, ◌+◌, ◌-◌, ◌≤◌, List, [], ◌∷◌, ◌++◌, length, take, refl, sym, ap, subst, ◌∙◌, append_assoc, arith, length-append, Ok, append-nil, take_at, lines, unfinished, lines-append, unfinished-append, lines-few, lines-none, unfinished-none, FrontOf, AcceptsAhead}
 
 module _ {M : Type 0} (led_by : List (List ℕ) → M → Type 0) (m : M) (bytes : List ℕ) where
   -- as many lines as `count` were accepted, and the rest is left
@@ -16,16 +16,16 @@ module _ {M : Type 0} (led_by : List (List ℕ) → M → Type 0) (m : M) (bytes
   none_accepted = record { front = []; are = refl; whole = unfinished-none; many = ap length lines-none; few = omega arith; leads = λ before h. subst (λ l. led_by l m) (sym (ap (λ (l : List (List ℕ)). before ++ l) lines-none ∙ append-nil before)) h; none = λ _. refl }
 
   module _ (n : M) (count : ℕ) (rest : List ℕ) (h : LinesAccepted n count rest) where
-    -- one more line, which leads the machine to k
-    pub one_more : (k : M) (line one left : List ℕ) → rest ≡ one ++ left → lines one ≡ line ∷ [] → unfinished one ≡ [] → ((before : List (List ℕ)) → led_by before n → led_by (before ++ line ∷ []) k) → LinesAccepted k (count + 1) left
-    one_more k line one left are is whole on =
-        let both : lines (h.front ++ one) ≡ lines h.front ++ line ∷ [] = lines-append h.front one ∙ ap (λ (x : List ℕ). lines h.front ++ lines (x ++ one)) h.whole ∙ ap (λ (l : List (List ℕ)). lines h.front ++ l) is in
+    -- one more line with its end, which leads the machine to k
+    pub one_more : (k : M) (line left : List ℕ) → FrontOf (line ∷ []) left rest → ((before : List (List ℕ)) → led_by before n → led_by (before ++ line ∷ []) k) → LinesAccepted k (count + 1) left
+    one_more k line left one on =
+        let both : lines (h.front ++ one.front) ≡ lines h.front ++ line ∷ [] = lines-append h.front one.front ∙ ap (λ (x : List ℕ). lines h.front ++ lines (x ++ one.front)) h.whole ∙ ap (λ (l : List (List ℕ)). lines h.front ++ l) one.lines in
         record {
-          front = h.front ++ one;
-          are = h.are ∙ ap (λ (x : List ℕ). h.front ++ x) are ∙ sym (append_assoc h.front one left);
-          whole = unfinished-append h.front one ∙ ap (λ (x : List ℕ). unfinished (x ++ one)) h.whole ∙ whole;
+          front = h.front ++ one.front;
+          are = h.are ∙ ap (λ (x : List ℕ). h.front ++ x) one.are ∙ sym (append_assoc h.front one.front left);
+          whole = unfinished-append h.front one.front ∙ ap (λ (x : List ℕ). unfinished (x ++ one.front)) h.whole ∙ one.whole;
           many = ap length both ∙ length-append (lines h.front) (line ∷ []) ∙ ap (λ x. x + 1) h.many;
-          few = omega (arith, h.few, ap length are, length-append one left, lines-few one, ap length is);
+          few = omega (arith, h.few, ap length one.are, length-append one.front left, lines-few one.front, ap length one.lines);
           leads = λ before led. subst (λ l. led_by l k) (append_assoc before (lines h.front) (line ∷ []) ∙ ap (λ (l : List (List ℕ)). before ++ l) (sym both)) (on (before ++ lines h.front) (h.leads before led));
           none = λ zero. absurd (omega (arith, zero));
         }

@@ -6,22 +6,23 @@ pub use Rattle.std.proofs.Common.{leb, ◌≡◌, ◌≢◌, ℕ, List, [], ◌�
 pub use Rattle.std.proofs.KnownBytes.{Consumes-nil, Consumes-trans, Consumes-kept}
 pub use Rattle.std.proofs.Math.Dec.{ltb}
 pub use Rattle.std.proofs.Math.Nat.{min_comm}
-pub use Rattle.std.proofs.Math.Seq.{take-add, take-append-add, drop-append_seam}
-pub use Rattle.std.proofs.lemmas.Bool.{leb-false, cases_eq, ne_eqb, cases_lt, lt-ltb, ltb-true, eqb-true, eqb-false, false≢true}
+pub use Rattle.std.proofs.Math.Seq.{take-add, take-append-add}
+pub use Rattle.std.proofs.lemmas.Bool.{leb-false, ne_eqb, lt-ltb, ltb-true, eqb-true, eqb-false, false≢true}
 pub use Rattle.std.proofs.lemmas.Bool.Decides.{eqb_tells}
-pub use Rattle.std.proofs.lemmas.List.{append-nil, length-take, take_all, take-append-drop, drop-take, drop-drop, get_or-take, get_or-drop, length-take-le, take_at, take-take, drop_more, take-append-le, nil_from_length, append_cancel_left, take_min}
-pub use Rattle.std.proofs.lemmas.List.Elements.{All-from_get_or, filter-append, filter_more}
-pub use Rattle.std.proofs.lemmas.List.Sums.{list_all-from_AllPass, prefix_len-le-length, prefix_len_passes, prefix_len_stops}
-pub use Rattle.std.proofs.lemmas.Simd.{run_in_chunk_le, run_in_chunk_fails, leading_from_mask_l, trailing_mask_l, length-chunk, take_more_put_chunk, bitmask_splat}
+pub use Rattle.std.proofs.lemmas.List.{append-nil, length-take, take_all, take-append-drop, length-take-le, take_at, drop_more, take-append-le, nil_from_length, append_cancel_left, take_min}
+pub use Rattle.std.proofs.lemmas.List.Elements.{All-from_get_or}
+pub use Rattle.std.proofs.lemmas.List.Sums.{list_all-from_AllPass}
+pub use Rattle.std.proofs.lemmas.Simd.{run_in_chunk_le, run_in_chunk_fails, leading_from_mask_l, trailing_mask_l, length-chunk, bitmask_splat}
 pub use Rattle.std.specs.Fmt.{decimal}
 pub use Rattle.std.specs.Io.KnownBytes.{Consumes, IsAtEnd}
 pub use Rattle.std.specs.List.{prefix_len, list_all, AllByRecursion}
 pub use Rattle.std.specs.Result.{OnOk, IfErr}
-pub use Rattle.sas_core.proofs.Plain.{plain_parts, plain_without, plain-append}
+pub use Rattle.sas_core.proofs.Plain.{plain_parts, plain_without}
 pub use Rattle.sas_core.specs.Names.{is_plain, IsName}
 pub use Rattle.sas_core.specs.Plain.{IsPlain}
+pub use Rattle.sas_lines.proofs.Beginnings.{FrontOf, front_of_lines}
 pub use Rattle.sas_lines.proofs.EndedLines.{ended_lines}
-pub use Rattle.sas_lines.proofs.Splitting.{lines-append, unfinished-append, lines-few, lines-none, lines-one, unfinished-one, unfinished-without, unfinished-plain_all, lines-end, unfinished-none, lines-plain, unfinished-plain, unfinished-end, lines-part, lines-without, Plain}
+pub use Rattle.sas_lines.proofs.Splitting.{lines-append, unfinished-append, lines-few, lines-none, unfinished-plain_all, lines-end, unfinished-none, lines-plain, unfinished-plain, unfinished-end, lines-part, lines-without, Plain}
 pub use Rattle.sas_lines.proofs.Words.{Without-decimal}
 pub use Rattle.sas_lines.specs.Device.{Device}
 pub use Rattle.sas_lines.specs.FirstLines.{TakesLine, LineStandsFirst, LinesStandFirst}
@@ -31,16 +32,16 @@ unfoldable pub use Rattle.sas_lines.specs.Lines.{lines, unfinished}
 pub use Rattle.sas_lines.specs.Progress.{Progress, completed}
 pub use Rattle.sas_reader.specs.About.{IsAbout, of_line, of_byte, of_end, ConcernsText, EndsUnended, AboutLaws}
 pub use Rattle.sas_reader.specs.Devices.{Refuses, unread_at, ended_at, faulty_at, ReadsAll}
+pub use Rattle.sas_reader.specs.Ends.{StandsBefore}
 pub use Rattle.sas_reader.specs.Faults.{IsOfBytes, answer}
 pub use Rattle.sas_reader.specs.Format.{Format, KindAt, too_long, trailing, wrong, FaultOf, EndOf, Live, MoreIsDue, ReadsAs, IsBegun, AreAllLines, LacksLineEnd, MayFollow}
-pub use Rattle.sas_reader.specs.Found.{IsFoundOf, behind_ends, kept_bytes}
+pub use Rattle.sas_reader.specs.Found.{IsFoundOf}
 pub use Rattle.sas_reader.specs.Laws.{Laws, FaultlessIsLive, SomeReading, TextsAreEndedLines, TextIsRead, OneValue, OneSlot, NoSlotAtEnd, FaultIsDead, OneFault, TextIsLive, FaultIsNoText, OneReading}
 pub use Rattle.sas_reader.specs.Limit.{most_bytes}
 pub use Rattle.sas_reader.specs.Machine.{Behavior, IsFront, AcceptsAhead}
 pub use Rattle.sas_reader.specs.Reader.{Reached, Accepted, LineIsDue, FaultBehind, TookFront, Stopped, TakesFrontOrStops, Stops, full, over, rejected, FaultIn, EndsEarly, IsRefused, ReadFails, unread, early, faulty, RefusedAtEnd, TakesPiece, FeedsMachine, StandsAt, ReachesEnd}
 pub use Rattle.sas_reader.specs.Reading.{View, Feeds}
 pub use Rattle.sas_reader.specs.Refusals.{ExplainsRefusal, ReadsOrExplains, StandsBehind, behind_line, behind_text, at_end}
-pub use Rattle.sas_reader.specs.Returns.{without_returns, returns_in, CopiesSoFar, ReturnsEndLinesUpTo, ReturnsEndLines}
 pub use Rattle.sas_reader.specs.System.{Node, Grammar, ended, Rejects, Leads, before, IsAllowed, OneLine, After, LeadsToEnd, IsRejected}
 pub use Rattle.sas_reader.specs.Texts.{Reads, lines_of}
 pub use Rattle.sas_reader.specs.declared.fault.Fault.{Fault}

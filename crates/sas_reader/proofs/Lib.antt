@@ -10,6 +10,7 @@ pub mod Standing
 pub mod Pieces
 pub mod Advancing
 pub mod AcceptedLines
+pub mod Ends
 pub mod Conversion
 pub mod Reading
 pub mod Known
@@ -20,8 +21,4 @@ pub mod KnownRefusals
 mod Tested
 mod Ending
 mod Keeping
-mod BehindEnds
-mod Copying
-mod WithLfAlone
-mod FeedingPlain
 mod Imports

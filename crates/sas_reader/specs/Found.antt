@@ -1,5 +1,5 @@
 -- The text at a fault, as far as it is kept.
-use Rattle.std.specs.Prelude.{◌≡◌, ◌<◌, ◌-◌, ◌↔◌, ◌==◌, if◌then◌else◌, ℕ, List, [], ◌∷◌, length, take, IsTrue}
+use Rattle.std.specs.Prelude.{◌≡◌, ◌<◌, ◌↔◌, ℕ, List, length, take, IsTrue}
 use Rattle.sas_reader.specs.declared.found.Excerpt.{Excerpt}
 
 -- the bytes that are kept
@@ -10,9 +10,3 @@ kept_bytes found = take found.count found.bytes
 pub record IsFoundOf (text : List ℕ) (found : Excerpt) : Type 0 where
   pub front : kept_bytes found ≡ take 64 text
   pub longer : IsTrue found.more ↔ (64 < length text)
-
--- what follows the first n LFs of the bytes
-abbrev pub behind_ends : ℕ → List ℕ → List ℕ
-behind_ends n [] = []
-behind_ends n (b ∷ bytes) =
-    if n == 0 then b ∷ bytes else behind_ends (if b == 10 then n - 1 else n) bytes

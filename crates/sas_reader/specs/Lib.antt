@@ -11,4 +11,4 @@ pub mod Reading
 pub mod Devices
 pub mod About
 pub mod Refusals
-pub mod Returns
+pub mod Ends

@@ -5,11 +5,10 @@ mod devices;
 mod fault;
 mod found;
 mod reader;
-mod returns;
 mod scanning;
 
 pub use devices::{read_all, read_all_large};
 pub use fault::{Fault, Kind};
 pub use found::{Excerpt, FOUND};
 pub use reader::{Front, LIMIT, Machine, Reader, Refusal, limit_law};
-pub use scanning::plain_end;
+pub use scanning::{behind_line, plain_end};

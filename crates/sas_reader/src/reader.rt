@@ -6,11 +6,9 @@ ghost use Rattle.sas_reader.specs.Limit.{most_bytes};
 ghost use Rattle.sas_reader.specs.Machine.{AcceptsAhead};
 
 use crate::fault::{Fault, Kind};
-use crate::found::{Excerpt, as_it_stood};
-use crate::returns::copy_with_lf_alone;
+use crate::found::Excerpt;
 use sas_lines::{Lines, first_line};
 use std::alloc::Global;
-use std::mem;
 
 /// How many bytes a task or a plan may have: 4 GiB.
 pub const LIMIT: u64 = 4_294_967_296;
@@ -61,24 +59,6 @@ pub trait Machine: Drop {
     }
 }
 
-/// Returns whether the first line of the bytes ends with CR LF.
-fn begins_with_return(bytes: &[u8]) -> bool {
-    match first_line(bytes) {
-        Some(first) => first.line.len() + 1 < first.taken,
-        None => false,
-    }
-}
-
-/// Returns the bytes without a CR at their end.
-fn without_last_return(bytes: &[u8]) -> &[u8]
-    ensures { (n : ℕ) × (result.now ≡ take n bytes.now) }
-{
-    match bytes {
-        [front @ .., b'\r'] => front,
-        _ => bytes,
-    }
-}
-
 /// Why a text was refused: its first fault, the machine in its state after the fault, and the text at the fault. That is the wrong line,
 /// the byte after a whole text, or the unfinished last line of a text that ends early.
 #[derive(Drop)]
@@ -101,7 +81,6 @@ impl<M: Drop> Refusal<M> {
 /// A reader of a text in pieces: the machine, the line that has begun, and the first fault.
 #[derive(Drop)]
 pub struct Reader<M> {
-    pub alloc: Global,
     pub machine: M,
     pub pending: Lines,
     pub lines: u64,
@@ -110,8 +89,6 @@ pub struct Reader<M> {
     pub limit: u64,
     pub taken: u64,
     pub fault: Option<Fault>,
-    /// Memory for a piece without its CRs.
-    pub plain: Vec<u8>,
     /// The text at the fault, if there is one.
     pub found: Excerpt,
     ghost within: { taken ≤ limit },
@@ -132,14 +109,12 @@ impl<M: Machine> Reader<M> {
         ensures fault { result.fault ≡ None }
     {
         Reader {
-            alloc,
             machine,
             pending: Lines::new(alloc),
             lines: 0,
             taken: 0,
             limit,
             fault: None,
-            plain: Vec::new(alloc),
             found: Excerpt::NONE,
         }
     }
@@ -268,78 +243,16 @@ impl<M: Machine> Reader<M> {
         Ok(ahead + self.take_line(&piece[ahead..])?)
     }
 
-    /// Takes all of the bytes.
-    #[inline(always)]
-    fn take_all(&mut self, bytes: &[u8]) -> Result<usize, Kind>
-        ensures advances { TakesFrontOrStops M.behavior self.old bytes.now self.new result }
-        ensures all { IfOk result (λ n. n ≡ length bytes.now) }
-    {
-        let mut at = 0;
-        while at < bytes.len() {
-            at += self.take_next(&bytes[at..])?;
-        }
-        Ok(at)
-    }
-
-    /// If a line has begun, takes the bytes up to and including the first LF, or all bytes if there is no LF. Returns how many bytes it
-    /// took.
-    fn end_line(&mut self, piece: &[u8]) -> Result<usize, Kind>
-        ensures { TakesFrontOrStops M.behavior self.old piece.now self.new result }
-    {
-        if piece.is_empty() || self.pending.pending().is_empty() {
-            return Ok(0);
-        }
-        self.take_line(piece)
-    }
-
-    /// If the first line of the piece ends with CR LF and each CR in it is followed by LF, copies the piece without its CRs and takes the
-    /// copy. Leaves a CR at the end of the piece, since LF may come next. Returns how many bytes of the piece it took, which is 0 for any
-    /// other piece.
-    fn run_copy(&mut self, piece: &[u8], plain: &mut Vec<u8>) -> Result<usize, Kind>
-        ensures { TakesFrontOrStops M.behavior self.old piece.now self.new result }
-    {
-        if !self.pending.pending().is_empty()
-            || self.within_limit(piece).len() < piece.len()
-            || !begins_with_return(piece)
-        {
-            return Ok(0);
-        }
-        let bytes = without_last_return(piece);
-        let Some(kept) = copy_with_lf_alone(bytes, plain) else {
-            return Ok(0);
-        };
-        let lines = self.lines;
-        match self.take_all(&plain[..kept]) {
-            Ok(_) => {
-                self.taken += (bytes.len() - kept) as u64;
-                Ok(bytes.len())
-            }
-            Err(kind) => {
-                self.found = as_it_stood(self.found, bytes, self.lines.saturating_sub(lines));
-                Err(kind)
-            }
-        }
-    }
-
-    /// Calls `run_copy` with the reader's memory for the copy. It isn't inlined, so that the code for lines with LF stays small.
-    #[inline(never)]
-    fn run_with_lf_alone(&mut self, piece: &[u8]) -> Result<usize, Kind>
-        ensures { TakesFrontOrStops M.behavior self.old piece.now self.new result }
-    {
-        let mut plain = mem::replace(&mut self.plain, Vec::new(self.alloc));
-        let taken = self.run_copy(piece, &mut plain);
-        self.plain = plain;
-        taken
-    }
-
     /// Takes all of the piece.
-    fn take_piece(&mut self, piece: &[u8]) -> Result<usize, Kind>
+    fn take_all(&mut self, piece: &[u8]) -> Result<usize, Kind>
         ensures advances { TakesFrontOrStops M.behavior self.old piece.now self.new result }
         ensures all { IfOk result (λ n. n ≡ length piece.now) }
     {
-        let begun = self.end_line(piece)?;
-        let at = begun + self.run_with_lf_alone(&piece[begun..])?;
-        Ok(at + self.take_all(&piece[at..])?)
+        let mut at = 0;
+        while at < piece.len() {
+            at += self.take_next(&piece[at..])?;
+        }
+        Ok(at)
     }
 
     /// Reads the next piece. Once there is a fault, this call and all later calls return the first fault.
@@ -349,7 +262,7 @@ impl<M: Machine> Reader<M> {
         if let Some(fault) = self.fault {
             return Err(fault);
         }
-        match self.take_piece(piece) {
+        match self.take_all(piece) {
             Ok(_) => Ok(()),
             Err(kind) => {
                 let fault = Fault {

@@ -1,10 +1,11 @@
-// Finds the end of a line of plain bytes, many bytes at a time.
-ghost use Rattle.std.specs.Prelude.{◌+◌, ◌<◌, ◌≤◌, ℕ, length, slice_index, IfSome};
+// Finds the end of a line of plain bytes, many bytes at a time, and what follows an end.
+ghost use Rattle.std.specs.Prelude.{◌≡◌, ◌+◌, ◌<◌, ◌≤◌, ℕ, ◌∷◌, ◌++◌, length, take, drop, slice_index, IfSome};
+ghost use Rattle.sas_reader.specs.Ends.{StandsBefore};
 
 use std::simd::prelude::*;
 
 /// How many bytes are compared at once.
-pub(crate) const LANES: usize = 32;
+const LANES: usize = 32;
 
 /// Returns how many of the thirty-two bytes from `at` on come before the first byte that is at most CR.
 #[inline(always)]
@@ -37,4 +38,31 @@ pub fn plain_end(bytes: &[u8]) -> Option<usize>
         at += LANES;
     }
     None
+}
+
+/// Returns the index after the CR LF at `at`, or `None` if there is none. It isn't inlined, so that the code for lines with LF stays small.
+#[cold]
+#[inline(never)]
+fn behind_return(bytes: &[u8], at: usize) -> Option<usize>
+    requires { at ≤ length bytes.now }
+    ensures { IfSome result (λ behind. (behind ≤ length bytes.now)
+        × (bytes.now ≡ take at bytes.now ++ 13 ∷ 10 ∷ drop behind bytes.now)) }
+{
+    match &bytes[at..] {
+        [b'\r', b'\n', ..] => Some(at + 2),
+        _ => None,
+    }
+}
+
+/// Returns the bytes after the LF or CR LF at `at`, or `None` if there is none.
+#[inline(always)]
+pub fn behind_line(bytes: &[u8], at: usize) -> Option<&[u8]>
+    requires { at < length bytes.now }
+    ensures { IfSome result (λ rest. StandsBefore (take at bytes.now) 10 rest.now bytes.now) }
+{
+    if bytes[at] == b'\n' {
+        return Some(&bytes[at + 1..]);
+    }
+    let behind = behind_return(bytes, at)?;
+    Some(&bytes[behind..])
 }

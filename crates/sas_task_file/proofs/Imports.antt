@@ -4,7 +4,7 @@ pub use Rattle.std.proofs.lemmas.Bool.{ltb-true, eqb-true, and_from, and_parts}
 pub use Rattle.std.proofs.lemmas.Bool.Decides.{eqb_tells, nat_tests, Decides-eqb}
 pub use Rattle.std.proofs.lemmas.Fmt.{decimal_digit, decimal_injective, decimal_step}
 pub use Rattle.std.proofs.lemmas.Grind.{flat_map-append, common_steps}
-pub use Rattle.std.proofs.lemmas.List.{append-nil, map-append, length-map, get_or-append-add, length-take-le, take_rest, take_at, get_or-take, take-append-drop, drop-drop, drop_more}
+pub use Rattle.std.proofs.lemmas.List.{append-nil, map-append, length-map, get_or-append-add, length-take-le, take_rest, get_or-take, take-append-drop, drop-drop, take_more}
 pub use Rattle.std.proofs.lemmas.List.Concat.{flat_map-cons}
 pub use Rattle.std.proofs.lemmas.List.Folds.{list_all-append}
 pub use Rattle.std.proofs.lemmas.Option.{none-some, IfSome_then}
@@ -27,21 +27,24 @@ pub use Rattle.sas_core.specs.declared.parts.Fact.{Fact}
 pub use Rattle.sas_core.specs.declared.parts.Operator.{Operator}
 pub use Rattle.sas_core.specs.declared.parts.Parts.{Parts}
 pub use Rattle.sas_core.specs.declared.parts.Variable.{Variable}
-pub use Rattle.sas_lines.proofs.Beginnings.{lines_stand_first}
+pub use Rattle.sas_lines.proofs.Beginnings.{lines_stand_first, ended_lines_then}
 pub use Rattle.sas_lines.proofs.EndedLines.{text_of_both}
 pub use Rattle.sas_lines.proofs.Splitting.{lines-plain, unfinished-end, Plain}
 pub use Rattle.sas_lines.proofs.Words.{NoSpace, same_words, NoSpace-number, NoSpace-signed, same_signed, ten_pos, words-first, words-joined, joined-words}
 pub use Rattle.sas_lines.specs.FirstLines.{LinesStandFirst}
 unfoldable pub use Rattle.sas_lines.specs.Lines.{lines, unfinished}
 pub use Rattle.sas_lines.specs.Lines.{text}
+pub use Rattle.sas_lines.specs.EndedLines.{EndedLines}
 unfoldable pub use Rattle.sas_lines.specs.Segments.{segments}
 pub use Rattle.sas_lines.specs.Spelling.{signed_decimal, joined}
 pub use Rattle.sas_reader.proofs.About.{about_laws_of}
+pub use Rattle.sas_reader.proofs.Ends.{ended_line}
 pub use Rattle.sas_reader.proofs.Every.{laws_of}
 pub use Rattle.sas_reader.proofs.Live.{leads_line}
 pub use Rattle.sas_reader.proofs.Paths.{after_ends, cut_at, ends_split, same_path, one_ended}
-pub use Rattle.sas_reader.proofs.Plain.{plain-decimal, plain}
+pub use Rattle.sas_reader.proofs.Plain.{plain-decimal, plain_lines}
 pub use Rattle.sas_reader.specs.About.{of_line, of_byte, of_end}
+pub use Rattle.sas_reader.specs.Ends.{StandsBefore}
 pub use Rattle.sas_reader.specs.Faults.{IsOfBytes}
 pub use Rattle.sas_reader.specs.Format.{IsBegun, Format, EndOf, KindAt, too_long, trailing, wrong, FaultOf}
 pub use Rattle.sas_reader.specs.Laws.{Laws}

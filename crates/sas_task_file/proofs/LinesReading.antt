@@ -1,5 +1,5 @@
--- Reading several lines, each up to its LF.
-use Rattle.sas_task_file.proofs.Imports.{◌≡◌, ℕ, ◌+◌, ◌-◌, ◌<◌, Bool, List, [], ◌∷◌, ◌++◌, length, take, Option, refl, sym, ap, subst, ◌∙◌, append_assoc, length-append, arith, IsTrue, codes, flat_map, list_all, AllByRecursion, and_parts, flat_map-append, map-append, take_at, length-map, list_all-append, Fact, is_name, IsName, Change, Effect, text, LinesStandFirst, lines_stand_first, Plain, LineAhead, NumberAhead, LinesBefore, CountedBefore, AppendedBefore, spelled, LinesAhead, VariableAhead, GroupAhead, OperatorAhead, RuleAhead, fact_in_ranges, effect_in_ranges, change_in_ranges, Front, plain, IsPlain, TaskLine, word, name, number, signed, fact, effect, head, single_line, task_line_bytes, TaskLineFits, variable_lines, group_lines, operator_lines, rule_lines, text_of_both, and_from}
+-- Reading several lines, each up to its end.
+use Rattle.sas_task_file.proofs.Imports.{◌≡◌, ℕ, ◌+◌, ◌-◌, ◌<◌, ◌≤◌, inl, inr, Bool, List, [], ◌∷◌, ◌++◌, length, Option, refl, sym, ap, subst, ◌∙◌, append_assoc, length-append, arith, IsTrue, codes, flat_map, list_all, AllByRecursion, and_parts, flat_map-append, map-append, length-map, list_all-append, Fact, is_name, IsName, Change, Effect, EndedLines, LinesStandFirst, lines_stand_first, ended_lines_then, plain_lines, LineAhead, NumberAhead, LinesBefore, CountedBefore, AppendedBefore, spelled, LinesAhead, VariableAhead, GroupAhead, OperatorAhead, RuleAhead, fact_in_ranges, effect_in_ranges, change_in_ranges, Front, IsPlain, TaskLine, word, name, number, signed, fact, effect, head, single_line, task_line_bytes, TaskLineFits, variable_lines, group_lines, operator_lines, rule_lines, and_from}
 use Rattle.std.proofs.Common.{append-nil}
 use Rattle.sas_flat.specs.Effects.{effect_with}
 use Rattle.sas_flat.specs.Operators as flat
@@ -16,21 +16,27 @@ spelled-append : (a b : List TaskLine) → spelled (a ++ b) ≡ spelled a ++ spe
 spelled-append a b = map-append task_line_bytes a b
 
 pub lines_then : {a b : List TaskLine} {bytes more rest : List ℕ} → LinesBefore a bytes more → LinesBefore b more rest → LinesBefore (a ++ b) bytes rest
-lines_then {a = a} {b = b} {bytes = bytes} {more = more} {rest = rest} h g =
-    let both : text (spelled (a ++ b)) ≡ text (spelled a) ++ text (spelled b) = ap text (spelled-append a b) ∙ text_of_both (spelled a) (spelled b) in
-    record {
-      fits = All-append TaskLineFits a b h.fits g.fits;
-      plain = subst (AllByRecursion IsPlain) (sym (spelled-append a b)) (All-append IsPlain (spelled a) (spelled b) h.plain g.plain);
-      before = h.before ∙ ap (λ (x : List ℕ). text (spelled a) ++ x) g.before ∙ sym (append_assoc (text (spelled a)) (text (spelled b)) rest) ∙ ap (λ (x : List ℕ). x ++ rest) (sym both);
-    }
+lines_then {a = a} {b = b} {bytes = bytes} {more = more} {rest = rest} h g = record {
+  fits = All-append TaskLineFits a b h.fits g.fits;
+  plain = subst (AllByRecursion IsPlain) (sym (spelled-append a b)) (All-append IsPlain (spelled a) (spelled b) h.plain g.plain);
+  before = subst (λ ls. EndedLines ls rest bytes) (sym (spelled-append a b)) (ended_lines_then (spelled a) (spelled b) bytes more rest h.before g.before);
+}
 
 pub one_line : {i : TaskLine} {bytes rest : List ℕ} → LineAhead i bytes rest → LinesBefore (i ∷ []) bytes rest
-one_line {i = i} {rest = rest} h =
-    let whole : text (spelled (i ∷ [])) ++ rest ≡ task_line_bytes i ++ 10 ∷ rest = append_assoc (task_line_bytes i ++ 10 ∷ []) [] rest ∙ append_assoc (task_line_bytes i) (10 ∷ []) rest in
-    record { fits = (h.fits, tt); plain = (h.plain, tt); before = h.before ∙ sym whole }
+one_line h = record { fits = (h.fits, tt); plain = (h.plain, tt); before = h.before }
 
 pub two_lines : {i j : TaskLine} {bytes more rest : List ℕ} → LineAhead i bytes more → LineAhead j more rest → LinesBefore (i ∷ j ∷ []) bytes rest
 two_lines h g = lines_then (one_line h) (one_line g)
+
+-- the rest is no longer than the bytes
+ends_shorten : (ls : List (List ℕ)) (rest bytes : List ℕ) → EndedLines ls rest bytes → length rest ≤ length bytes
+ends_shorten [] rest bytes e = omega (arith, ap length e)
+ends_shorten (l ∷ ls) rest bytes e =
+    let more = ends_shorten ls rest e.0 e.2 in
+    elim e.1 [ inl is ↦ omega (arith, more, ap length is, length-append l (10 ∷ e.0)) | inr is ↦ omega (arith, more, ap length is, length-append l (13 ∷ 10 ∷ e.0)) ]
+
+pub rest_fits : {items : List TaskLine} {bytes rest : List ℕ} → LinesBefore items bytes rest → length rest ≤ length bytes
+rest_fits {items = items} {bytes = bytes} {rest = rest} h = ends_shorten (spelled items) rest bytes h.before
 
 -- ---- a number, and this many lines
 
@@ -65,21 +71,15 @@ module _ {A : Type 0} (says : A → TaskLine) (may_stand : A → Bool) where
 
 -- ---- from the first byte on
 
-plain_lines : (ls : List (List ℕ)) → AllByRecursion IsPlain ls → AllByRecursion Plain ls
-plain_lines [] h = tt
-plain_lines (l ∷ ls) h = (plain l h.0, plain_lines ls h.1)
-
 pub lines_are_ahead : (items : List TaskLine) (bytes rest : List ℕ) (front : Front) → LinesBefore items bytes rest → front.bytes ≡ length bytes - length rest → front.lines ≡ length items → LinesAhead items bytes front
-lines_are_ahead items bytes rest front h taken many =
-    let long : front.bytes ≡ length (text (spelled items)) = omega (arith, taken, ap length h.before, length-append (text (spelled items)) rest) in
-    record {
-      fits = h.fits;
-      stands = record {
-        stand = subst (LinesStandFirst bytes (spelled items)) (sym long) (lines_stand_first bytes rest (spelled items) (plain_lines (spelled items) h.plain) h.before);
-        many = length-map items task_line_bytes ∙ sym many;
-      };
-      whole = ap (take front.bytes) h.before ∙ take_at (text (spelled items)) rest front.bytes (sym long);
-    }
+lines_are_ahead items bytes rest front h taken many = record {
+  fits = h.fits;
+  plain = h.plain;
+  stands = record {
+    stand = subst (LinesStandFirst bytes (spelled items)) (sym taken) (lines_stand_first bytes rest (spelled items) (plain_lines (spelled items) h.plain) h.before);
+    many = length-map items task_line_bytes ∙ sym many;
+  };
+}
 
 one_each : {A : Type 0} (says : A → TaskLine) (xs : List A) → length (flat_map (single_line says) xs) ≡ length xs
 one_each says [] = refl

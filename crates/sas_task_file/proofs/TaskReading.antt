@@ -1,6 +1,6 @@
 -- A line of several numbers spells exactly the content that is parsed from its words, if no word is
 -- left.
-use Rattle.sas_task_file.proofs.Imports.{◌≡◌, ℕ, ◌+◌, ◌<◌, ◌≤◌, List, [], ◌∷◌, ◌++◌, length, refl, sym, ap, ◌∙◌, append_assoc, arith, Option, flat_map, AllByRecursion, decimal, Fact, Effect, IsNumber, segments, signed_decimal, joined, NoSpace, NoSpace-number, NoSpace-signed, words-first, words-joined, joined-words, fact, effect, head, fact_words, head_words, FactNumbers, EffectNumbers, decimal_injective, Spells, FactAhead, TakesNumber, TakesFact, TakesFacts, TakesHead}
+use Rattle.sas_task_file.proofs.Imports.{◌≡◌, ℕ, ◌+◌, ◌<◌, ◌≤◌, List, [], ◌∷◌, ◌++◌, length, refl, sym, ap, ◌∙◌, append_assoc, arith, Option, flat_map, AllByRecursion, decimal, Fact, Effect, IsNumber, segments, signed_decimal, joined, NoSpace, NoSpace-number, NoSpace-signed, words-first, words-joined, joined-words, fact, effect, head, fact_words, head_words, FactNumbers, EffectNumbers, decimal_injective, Spells, FactAhead, TakesNumber, TakesFact, TakesFacts, TakesHead, StandsBefore, inl, inr}
 use Rattle.sas_task_file.proofs.TaskLines.{NoSpace-facts}
 
 module _ (line : List ℕ) (words : List (List ℕ)) (parted : words ≡ segments 32 line) where
@@ -38,11 +38,16 @@ module _ (line : List ℕ) (words : List (List ℕ)) (parted : words ≡ segment
 
 -- ---- facts
 
+-- before a space there is no CR
+pub before_space : (a bytes rest : List ℕ) → StandsBefore a 32 rest bytes → bytes ≡ a ++ 32 ∷ rest
+before_space a bytes rest (inl e) = e
+before_space a bytes rest (inr e) = absurd (omega (arith, e.0))
+
 -- a fact before a space is the first two words
 pub fact_taken : (f : Fact) (bytes rest : List ℕ) → FactAhead bytes f 32 rest → TakesFact (segments 32 bytes) f (segments 32 rest)
 fact_taken f bytes rest (fits, before) =
     let behind = decimal f.value ++ 32 ∷ rest in
-    let both : bytes ≡ decimal f.var ++ 32 ∷ behind = before ∙ append_assoc (decimal f.var) (32 ∷ decimal f.value) (32 ∷ rest) in (
+    let both : bytes ≡ decimal f.var ++ 32 ∷ behind = before_space _ bytes rest before ∙ append_assoc (decimal f.var) (32 ∷ decimal f.value) (32 ∷ rest) in (
       fits,
       ap (segments 32) both ∙ words-first (decimal f.var) behind (NoSpace-number f.var fits.0)
           ∙ ap (λ words. decimal f.var ∷ words) (words-first (decimal f.value) rest (NoSpace-number f.value fits.1)),

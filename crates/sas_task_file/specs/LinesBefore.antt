@@ -5,16 +5,16 @@ use Rattle.sas_core.specs.Plain.{IsPlain}
 use Rattle.sas_core.specs.declared.parts.Fact.{Fact}
 use Rattle.sas_core.specs.Names.{is_name}
 use Rattle.sas_core.specs.declared.parts.Effect.{Effect}
-use Rattle.sas_lines.specs.Lines.{text}
+use Rattle.sas_lines.specs.EndedLines.{EndedLines}
 use Rattle.sas_task_file.specs.TaskFormat.{TaskLine, name, number, fact, effect, single_line, TaskLineFits}
 use Rattle.sas_task_file.specs.Sections.{spelled}
 use Rattle.sas_task_file.specs.TaskRanges.{fact_in_ranges, effect_in_ranges}
 
--- the bytes are these lines, whose numbers a file can spell, each with LF, and then the rest
+-- the bytes are these lines, whose numbers a file can spell, each with its end, and then the rest
 pub record LinesBefore (items : List TaskLine) (bytes rest : List ℕ) : Type 0 where
   pub fits : AllByRecursion TaskLineFits items
   pub plain : AllByRecursion IsPlain (spelled items)
-  pub before : bytes ≡ text (spelled items) ++ rest
+  pub before : EndedLines (spelled items) rest bytes
 
 -- the bytes are this number, a line for each of these items, which are all allowed, and then the
 -- rest

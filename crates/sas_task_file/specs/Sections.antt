@@ -1,12 +1,12 @@
 -- Whole sections at the beginning of some bytes: a variable, a mutex group, an operator, a rule.
-use Rattle.std.specs.Prelude.{◌≡◌, ◌<◌, ℕ, List, length, map, take, IsTrue}
+use Rattle.std.specs.Prelude.{◌≡◌, ◌<◌, ℕ, List, length, map, IsTrue}
 use Rattle.std.specs.List.{AllByRecursion, list_all}
 use Rattle.sas_core.specs.declared.parts.Fact.{Fact}
 use Rattle.sas_core.specs.declared.parts.Variable.{Variable}
 use Rattle.sas_core.specs.declared.parts.Operator.{Operator}
 use Rattle.sas_core.specs.declared.parts.Effect.{Effect}
 use Rattle.sas_core.specs.Names.{IsName}
-use Rattle.sas_lines.specs.Lines.{text}
+use Rattle.sas_core.specs.Plain.{IsPlain}
 use Rattle.sas_reader.specs.declared.reader.Front.{Front}
 use Rattle.sas_reader.specs.Machine.{IsFront}
 use Rattle.sas_task_file.specs.TaskFormat.{TaskLine, task_line_bytes, TaskLineFits, variable_lines, group_lines, operator_lines, rule_lines}
@@ -20,8 +20,8 @@ spelled items = map task_line_bytes items
 -- length
 pub record LinesAhead (items : List TaskLine) (bytes : List ℕ) (front : Front) : Type 0 where
   pub fits : AllByRecursion TaskLineFits items
+  pub plain : AllByRecursion IsPlain (spelled items)
   pub stands : IsFront (spelled items) bytes front
-  pub whole : take front.bytes bytes ≡ text (spelled items)
 
 -- the variable has a name and at least one value, and each value has a name
 pub record HasNames (v : Variable) : Type 0 where

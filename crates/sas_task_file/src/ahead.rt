@@ -1,24 +1,40 @@
-// Parses the first line of some bytes directly, if it ends with LF and has the expected content. Otherwise these functions return `None`.
-// Then the line is cut out and parsed by the functions of `task_line.rt`, which report its fault.
+// Parses the first line of some bytes directly, if it is whole and has the expected content. Otherwise these functions return `None`. Then
+// the line is cut out and parsed by the functions of `task_line.rt`, which report its fault. A line ends with LF or CR LF.
 ghost use Rattle.std.specs.Prelude.{◌≡◌, ◌+◌, ◌-◌, ◌<◌, ◌≤◌, length, take, drop, IfSome, IsTrue};
 ghost use Rattle.sas_core.specs.Names.{IsName};
 ghost use Rattle.sas_task_file.specs.TaskFormat as format;
+ghost use Rattle.sas_reader.specs.Ends.{StandsBefore};
 ghost use Rattle.sas_task_file.specs.Ahead.{LineAhead, NumberAhead, SignedAhead, FactAhead, ChangeAhead};
 ghost use Rattle.sas_core.specs.Changes.{plain_effect};
 
 use sas_core::{Change, Fact};
-use sas_reader::plain_end;
+use sas_reader::{behind_line, plain_end};
 
-/// The most bytes of a number that is parsed here, which has at most nine digits, with the byte after it. Where so many bytes are left for
-/// each number of a line, no byte has to be compared with the end of the bytes.
-const NUMBER: usize = 10;
+/// The most bytes of a number that is parsed here, which has at most nine digits, with its end, which may be CR LF. Where so many bytes are
+/// left for each number of a line, no byte has to be compared with the end of the bytes.
+const NUMBER: usize = 11;
 
-/// Returns the number of at most nine digits before the byte `end`, and the bytes after it.
+/// Returns the bytes after the byte `end` at `at`, or `None` if it isn't there. If the byte is LF, there may be a CR before it.
+#[inline(always)]
+fn behind_end(bytes: &[u8], at: usize, end: u8) -> Option<&[u8]>
+    requires { at + 1 < length bytes.now }
+    ensures { IfSome result (λ rest. StandsBefore (take at bytes.now) end rest.now bytes.now) }
+{
+    if bytes[at] == end {
+        return Some(&bytes[at + 1..]);
+    }
+    if end == b'\n' && bytes[at] == b'\r' && bytes[at + 1] == b'\n' {
+        return Some(&bytes[at + 2..]);
+    }
+    None
+}
+
+/// Returns the number of at most nine digits before the byte `end`, and the bytes after it. CR LF may stand in place of LF.
 #[inline(always)]
 fn number_in(bytes: &[u8], end: u8) -> Option<(u32, &[u8])>
-    requires long { 10 ≤ length bytes.now }
+    requires long { 11 ≤ length bytes.now }
     ensures ahead { IfSome result (λ found. NumberAhead bytes.now found.0 end found.1.now) }
-    ensures left { IfSome result (λ found. length bytes.now ≤ length found.1.now + 10) }
+    ensures left { IfSome result (λ found. length bytes.now ≤ length found.1.now + 11) }
 {
     let first = bytes[0];
     if !first.is_ascii_digit() {
@@ -29,48 +45,43 @@ fn number_in(bytes: &[u8], end: u8) -> Option<(u32, &[u8])>
         return Some((value, &bytes[2..]));
     }
     if value == 0 {
-        return None;
+        let rest = behind_end(bytes, 1, end)?;
+        return Some((value, rest));
     }
     for at in 1..9 {
         let byte = bytes[at];
         if !byte.is_ascii_digit() {
-            return if byte == end {
-                Some((value, &bytes[at + 1..]))
-            } else {
-                None
-            };
+            let rest = behind_end(bytes, at, end)?;
+            return Some((value, rest));
         }
         value = value * 10 + (byte - b'0') as u32;
     }
-    if bytes[9] == end {
-        Some((value, &bytes[10..]))
-    } else {
-        None
-    }
+    let rest = behind_end(bytes, 9, end)?;
+    Some((value, rest))
 }
 
 /// Returns the number before the byte `end` (`None` for `-1`), and the bytes after it.
 #[inline(always)]
 fn signed_in(bytes: &[u8], end: u8) -> Option<(Option<u32>, &[u8])>
-    requires long { 10 ≤ length bytes.now }
+    requires long { 11 ≤ length bytes.now }
     ensures ahead { IfSome result (λ found. SignedAhead bytes.now found.0 end found.1.now) }
-    ensures left { IfSome result (λ found. length bytes.now ≤ length found.1.now + 10) }
+    ensures left { IfSome result (λ found. length bytes.now ≤ length found.1.now + 11) }
 {
     if bytes[0] == b'-' {
-        return if bytes[1] == b'1' && bytes[2] == end {
-            Some((None, &bytes[3..]))
-        } else {
-            None
-        };
+        if bytes[1] != b'1' {
+            return None;
+        }
+        let rest = behind_end(bytes, 2, end)?;
+        return Some((None, rest));
     }
     let (number, rest) = number_in(bytes, end)?;
     Some((Some(number), rest))
 }
 
-/// Returns the change before LF, and the bytes after LF.
+/// Returns the change before the line end, and the bytes after it.
 #[inline(always)]
 fn change_in_line(bytes: &[u8]) -> Option<(Change, &[u8])>
-    requires long { 30 ≤ length bytes.now }
+    requires long { 33 ≤ length bytes.now }
     ensures { IfSome result (λ found. ChangeAhead bytes.now found.0 found.1.now) }
 {
     let (var, rest) = number_in(bytes, b' ')?;
@@ -90,7 +101,7 @@ pub(crate) fn read_number(bytes: &[u8], end: u8) -> Option<(u32, &[u8])>
     number_in(bytes, end)
 }
 
-/// Returns the number before LF, and the bytes after LF.
+/// Returns the number before the line end, and the bytes after it.
 #[inline(always)]
 pub fn read_number_line(bytes: &[u8]) -> Option<(u32, &[u8])>
     ensures { IfSome result (λ found. LineAhead (format.number found.0) bytes.now found.1.now) }
@@ -109,7 +120,7 @@ pub(crate) fn read_signed(bytes: &[u8], end: u8) -> Option<(Option<u32>, &[u8])>
     signed_in(bytes, end)
 }
 
-/// Returns the change before LF, and the bytes after LF.
+/// Returns the change before the line end, and the bytes after it.
 #[inline(always)]
 pub(crate) fn read_change(bytes: &[u8]) -> Option<(Change, &[u8])>
     ensures { IfSome result (λ found. ChangeAhead bytes.now found.0 found.1.now) }
@@ -133,7 +144,7 @@ pub(crate) fn read_fact_to(bytes: &[u8], end: u8) -> Option<(Fact, &[u8])>
     Some((Fact { var, value }, rest))
 }
 
-/// Returns the fact before LF, and the bytes after LF. The fact need not exist.
+/// Returns the fact before the line end, and the bytes after it. The fact need not exist.
 #[inline(always)]
 pub fn read_fact(bytes: &[u8]) -> Option<(Fact, &[u8])>
     ensures { IfSome result (λ found. LineAhead (format.fact found.0) bytes.now found.1.now) }
@@ -141,7 +152,7 @@ pub fn read_fact(bytes: &[u8]) -> Option<(Fact, &[u8])>
     read_fact_to(bytes, b'\n')
 }
 
-/// Returns the change of an effect without conditions before LF, and the bytes after LF. Its facts need not exist.
+/// Returns the change of an effect without conditions before the line end, and the bytes after it. Its facts need not exist.
 #[inline(always)]
 pub fn read_effect(bytes: &[u8]) -> Option<(Change, &[u8])>
     ensures { IfSome result
@@ -189,31 +200,31 @@ fn are_equal<const N: usize>(a: &[u8; N], b: &[u8; N]) -> bool
     first_eight(a) == first_eight(b) && last_eight(a) == last_eight(b)
 }
 
-/// If the bytes begin with the fixed word and LF, returns the bytes after them. The word is an array, since a word of constant length is
-/// compared without a call.
+/// If the bytes begin with the fixed word and a line end, returns the bytes after them. The word is an array, since a word of constant
+/// length is compared without a call.
 #[inline(always)]
 pub(crate) fn read_word<'a, const N: usize>(bytes: &'a [u8], word: &[u8; N]) -> Option<&'a [u8]>
     requires { IsName word.now }
     ensures { IfSome result (λ rest. LineAhead (format.word word.now) bytes.now rest.now) }
 {
     let (first, rest) = bytes.split_first_chunk::<N>()?;
-    match rest {
-        [b'\n', rest @ ..] if are_equal(first, word) => Some(rest),
-        _ => None,
+    if rest.is_empty() || !are_equal(first, word) {
+        return None;
     }
+    behind_line(bytes, N)
 }
 
-/// Returns the name before LF, and the bytes after LF. A name may have a byte up to CR, such as a tab; then its section is read line by
-/// line.
+/// Returns the name before the line end, and the bytes after it. A name may have a byte up to CR, such as a tab; then its section is read
+/// line by line.
 #[inline(always)]
 pub fn read_name(bytes: &[u8]) -> Option<(&[u8], &[u8])>
     ensures { IfSome result (λ found.
         IsName found.0.now × LineAhead (format.name found.0.now) bytes.now found.1.now) }
 {
     let end = plain_end(bytes)?;
-    if end > 0 && bytes[end] == b'\n' {
-        Some((&bytes[..end], &bytes[end + 1..]))
-    } else {
-        None
+    if end == 0 {
+        return None;
     }
+    let rest = behind_line(bytes, end)?;
+    Some((&bytes[..end], rest))
 }

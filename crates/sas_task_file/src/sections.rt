@@ -187,7 +187,8 @@ fn read_operator_begin(bytes: &[u8]) -> Option<(&[u8], &[u8])>
 }
 
 /// Reads a whole operator at the beginning of the bytes, and appends its prevail conditions to `prevail` and its effects to `effects`.
-/// Returns `None` if a fact doesn't exist or the lines have another form; then the operator has to be read line by line. After `None` or `Err` some of them may have been appended. The content of `conditions` is unspecified afterwards.
+/// Returns `None` if a fact doesn't exist or the lines have another form; then the operator has to be read line by line. After `None` or
+/// `Err` some of them may have been appended. The content of `conditions` is unspecified afterwards.
 #[inline(always)]
 pub fn read_operator<'a>(
     ranges: &Items<u32>,

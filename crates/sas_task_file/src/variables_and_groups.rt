@@ -99,7 +99,8 @@ pub fn read_variable<'a>(
 }
 
 /// Reads a whole mutex group at the beginning of the bytes, and appends its facts to `facts`. Returns the number of its lines and bytes.
-/// Returns `None` if a fact doesn't exist or the lines have another form; then the group has to be read line by line. After `None` or `Err` some facts may have been appended.
+/// Returns `None` if a fact doesn't exist or the lines have another form; then the group has to be read line by line. After `None` or `Err`
+/// some facts may have been appended.
 #[inline(always)]
 pub fn read_group(
     ranges: &Items<u32>,

@@ -1,18 +1,21 @@
 -- What the proofs use of other crates, and of the definitions of this one.
-pub use Rattle.std.proofs.Common.{◌≡◌, ℕ, List, Option, Some, None, Result, refl, sym, ap, subst, ◌∙◌, IfOk, ◌≢◌, [], ◌∷◌, ◌++◌, Bool, length, append_assoc, IsTrue, codes, suc, ◌<◌, ◌-◌, arith, Ok, ◌≤◌, ◌+◌, true, false, nat_lt, zero, drop, Err, take, ◌&&◌, rules, inr, inl, length-append, ◌==◌, ◌↔◌, slice_index_or, ◌^◌, min, map, get_or, IsSomeAnd, IfSome, IfNone, ◌⊎◌}
+pub use Rattle.std.proofs.Common.{◌≡◌, ℕ, List, Option, Some, None, Result, refl, sym, ap, subst, ◌∙◌, IfOk, ◌≢◌, [], ◌∷◌, ◌++◌, Bool, length, append_assoc, IsTrue, codes, suc, ◌<◌, ◌-◌, arith, Ok, ◌≤◌, ◌+◌, true, false, nat_lt, zero, drop, Err, take, ◌&&◌, rules, inr, inl, length-append, ◌==◌, ◌↔◌, slice_index_or, ◌^◌, min, map, get_or, IsSomeAnd, IfSome, IfNone, ◌⊎◌, ap₂, not}
 pub use Rattle.std.proofs.Math.Logic.{∥∥₁_elim, ∥∥₁_map}
 pub use Rattle.std.proofs.Props.{props}
 pub use Rattle.std.proofs.lemmas.Fmt.{decimal_digit}
 pub use Rattle.std.proofs.lemmas.Bool.{eqb-true, and_from, and_parts, eq-eqb, ne_eqb}
 pub use Rattle.std.proofs.lemmas.List.{append-nil, take_at, take_all, length-take, length-map}
+pub use Rattle.std.proofs.lemmas.List.Elements.{filter-append}
 pub use Rattle.std.proofs.lemmas.Option.{none-some}
 pub use Rattle.std.proofs.lemmas.Result.{on_ok_weaker, IfOk-weaker}
 pub use Rattle.std.specs.List.{AllByRecursion, flat_map, list_all}
 pub use Rattle.std.specs.Result.{result_err}
 pub use Rattle.sas_core.proofs.ChecksAreRules.{checks_are_the_rules}
+pub use Rattle.sas_core.proofs.Plain.{plain_parts}
 pub use Rattle.sas_core.specs.Changes.{plain_effect}
 pub use Rattle.sas_core.specs.Names.{IsName, is_name}
 pub use Rattle.sas_core.specs.Numbers.{IsNumber}
+pub use Rattle.sas_core.specs.Plain.{IsPlain}
 pub use Rattle.sas_core.specs.Variables.{fact_exists, range_of, has_value}
 pub use Rattle.sas_core.specs.WellRanged.{WellRanged}
 pub use Rattle.sas_core.specs.declared.parts.Effect.{Effect}
@@ -28,8 +31,14 @@ pub use Rattle.sas_flat.specs.Lists.{lists_in}
 pub use Rattle.sas_flat.specs.Operators.{operator}
 pub use Rattle.sas_flat.specs.Outlines.{outline_of}
 pub use Rattle.sas_flat.specs.Variables.{variable}
-pub use Rattle.sas_lines.proofs.Splitting.{lines-one, unfinished-one, return_length, Plain}
-pub use Rattle.sas_lines.specs.Lines.{text, without_return}
+pub use Rattle.sas_lines.proofs.Splitting.{lines-one, unfinished-one, return_length, Plain, lines-none}
+pub use Rattle.sas_lines.specs.Lines.{text, without_return, without_returns}
+pub use Rattle.sas_lines.specs.EndedLines.{EndedLines}
+pub use Rattle.sas_lines.proofs.Beginnings.{FrontOf, front_of_lines, line_before_end}
+pub use Rattle.sas_lines.proofs.EndedLines.{ended_lines, text_of_both}
+pub use Rattle.sas_lines.proofs.Returns.{returns_gone}
+unfoldable pub use Rattle.sas_lines.specs.Lines.{lines}
+pub use Rattle.sas_lines.specs.Separators.{Without}
 pub use Rattle.sas_reader.proofs.AcceptedLines.{LinesAccepted, none_accepted, one_more, accepted}
 pub use Rattle.sas_reader.proofs.Conversion.{Follows, reads_of_format}
 pub use Rattle.sas_reader.proofs.Paths.{cut_at, after_ends, map-append, after_append, ends_split, same_path}
@@ -67,7 +76,7 @@ pub use Rattle.sas_task_file.specs.Ahead.{LineAhead}
 pub use Rattle.sas_task_file.specs.FirstWrong.{HasWrong, FirstWrong}
 pub use Rattle.sas_task_file.specs.Marks.{slot_of_due, IsDue}
 pub use Rattle.sas_task_file.specs.Process.{process_node, ◌>>=◌, ◌>>◌, repeat, each, done, read}
-pub use Rattle.sas_task_file.specs.Sections.{HasNames, OperatorInRanges, spelled}
+pub use Rattle.sas_task_file.specs.Sections.{HasNames, OperatorInRanges, spelled, LinesAhead}
 pub use Rattle.sas_task_file.specs.TaskEvents.{after, nothing_yet}
 pub use Rattle.sas_task_file.specs.TaskFormat.{TaskLine, word, name, number, signed, fact, effect, head, task_slot, task_line_bytes, task_layout, task_format, TaskLineFits, HasShape, single_line, variable_lines, group_lines, operator_lines, rule_lines, number_slot, TaskSlot, word_slot, name_slot, signed_slot, fact_slot, effect_slot, head_slot, NumbersKind, no_shape, no_value, TaskKind, task_texts}
 pub use Rattle.sas_task_file.specs.TaskLine.{ParsesDue, test_of_due, line_of_due}
@@ -86,7 +95,7 @@ pub use Rattle.sas_task_file.specs.declared.so_far.SoFar.{SoFar}
 pub use Rattle.sas_task_file.specs.declared.task_events.LineValues.{LineValues}
 pub use Rattle.sas_task_file.specs.declared.tracker.Tracker.{Tracker}
 pub use Rattle.sas_task_reader.specs.Marks.{due_slot, mark_of, WrongWordIn, count_of, IsLastLine}
-pub use Rattle.sas_task_reader.specs.Sections.{KeepsGroup, KeepsOperator, KeepsRule, behind_variable, behind_group, behind_operator, behind_rule}
+pub use Rattle.sas_task_reader.specs.Sections.{KeepsGroup, KeepsOperator, KeepsRule, behind_variable, behind_group, behind_operator, behind_rule, KeepsAhead}
 pub use Rattle.sas_task_reader.specs.TaskJudge.{state_of, row_of, HasEnded, SectionDue, past_section, past_variable, RejectsLine, JudgesLine, MovesAhead, HasRow, NotesLine}
 pub use Rattle.sas_task_reader.specs.TaskMachine.{LedBy, MachineStopped, task_behavior, reader_behavior, counts_behind, HasNoted}
 pub use Rattle.sas_task_reader.specs.TaskOutline.{outline_in, kept_of}

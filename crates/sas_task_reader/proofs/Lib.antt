@@ -15,5 +15,6 @@ pub mod RefusedLines
 mod TaskStanding
 mod Outlines
 mod StoredParts
+mod StoredText
 mod Reasons
 mod Imports

@@ -1,5 +1,5 @@
 -- One line of a task moves the judge, as the table of places says.
-use Rattle.sas_task_reader.proofs.Imports.{IsTrue, ◌≡◌, ℕ, zero, suc, ◌-◌, length, List, ◌∷◌, ◌++◌, refl, sym, ap, subst, ◌∙◌, arith, Result, Ok, Err, Option, Some, None, result_err, none-some, take, take_at, length-append, Plain, plain, inl, inr, Kind, IsAllowed, IsRejected, Rejects, TaskLine, task_slot, slot_of_due, task_line_bytes, task_format, TaskLineFits, name_in, number_in, Due, Row, Move, row_at, row_in, after_move, after_count, Counts, NotesLine, Tracker, TaskJudge, TaskState, numbers_of, state_after, state_of, row_of, RejectsLine, JudgesLine, MovesAhead, HasEnded, IsRow, HasRow, ParsesDue, test_of_due, line_of_due, Event, LineValues, SoFar, Place, after, LineAhead}
+use Rattle.sas_task_reader.proofs.Imports.{IsTrue, ◌≡◌, ℕ, zero, suc, ◌-◌, length, List, [], ◌∷◌, refl, sym, ap, subst, ◌∙◌, Result, Ok, Err, Option, Some, None, result_err, none-some, take, without_return, FrontOf, front_of_lines, line_before_end, plain, inl, inr, Kind, IsAllowed, IsRejected, Rejects, TaskLine, task_slot, slot_of_due, task_line_bytes, task_format, TaskLineFits, name_in, number_in, Due, Row, Move, row_at, row_in, after_move, after_count, Counts, NotesLine, Tracker, TaskJudge, TaskState, numbers_of, state_after, state_of, row_of, RejectsLine, JudgesLine, MovesAhead, HasEnded, IsRow, HasRow, ParsesDue, test_of_due, line_of_due, Event, LineValues, SoFar, Place, after, LineAhead}
 use Rattle.sas_reader.specs.declared.fault.Kind.TheVariants as kinds
 use Rattle.sas_task_file.specs.declared.places.Place.TheVariants as at
 use Rattle.sas_task_file.specs.declared.marks.Due.TheVariants as due
@@ -102,9 +102,8 @@ module _ (j k : TaskJudge) (bytes rest : List ℕ) where
     counts = same;
   }
 
-  -- the line is the bytes before the last byte that was taken
-  pub taken_line : (event : Event) → MovesAhead j bytes k event rest → (let line : List ℕ = take (length bytes - length rest - 1) bytes in Plain line × (bytes ≡ line ++ 10 ∷ rest) × JudgesLine j line k (Ok event) × ((row_of j).moves ≡ moves.Item) × (k.counts ≡ j.counts))
-  taken_line event h =
-      let n = length bytes - length rest - 1 in
-      let is : h.line ≡ take n bytes = sym (ap (take n) h.before ∙ take_at h.line (10 ∷ rest) n (omega (arith, ap length h.before, length-append h.line (10 ∷ rest)))) in
-      subst (λ (l : List ℕ). Plain l × (bytes ≡ l ++ 10 ∷ rest) × JudgesLine j l k (Ok event) × ((row_of j).moves ≡ moves.Item) × (k.counts ≡ j.counts)) is (plain h.line h.plain, h.before, h.moves, h.item, h.counts)
+  -- the line is the bytes before the last byte that was taken, without a CR at their end
+  pub taken_line : (event : Event) → MovesAhead j bytes k event rest → (line : List ℕ) → line ≡ without_return (take (length bytes - length rest - 1) bytes) → FrontOf (line ∷ []) rest bytes × JudgesLine j line k (Ok event) × ((row_of j).moves ≡ moves.Item) × (k.counts ≡ j.counts)
+  taken_line event h line is =
+      let p = plain h.line h.plain in
+      subst (λ (l : List ℕ). FrontOf (l ∷ []) rest bytes × JudgesLine j l k (Ok event) × ((row_of j).moves ≡ moves.Item) × (k.counts ≡ j.counts)) (line_before_end h.line rest bytes p h.before ∙ sym is) (front_of_lines (h.line ∷ []) rest bytes (p, tt) h.before, h.moves, h.item, h.counts)

@@ -1,5 +1,5 @@
 -- One more line of a task moves the machine.
-use Rattle.sas_task_reader.proofs.Imports.{◌≡◌, ℕ, ◌+◌, List, [], ◌∷◌, ◌++◌, refl, sym, ap, ◌∙◌, append_assoc, Ok, Plain, lines-one, unfinished-one, LinesAccepted, one_more, TaskLine, task_line_bytes, task_format, TaskLineFits, SoFar, Event, LineValues, after, map-append, after_append, TaskJudge, table_node, table_start, state_of, row_of, JudgesLine, NotesLine, TaskMachine, LedBy, HasNoted, TaskState, Tracker, tracker_start, track, track_line, number_in, after_count, Move, length, length-map, arith}
+use Rattle.sas_task_reader.proofs.Imports.{◌≡◌, ℕ, ◌+◌, List, [], ◌∷◌, ◌++◌, sym, ap, ◌∙◌, Ok, FrontOf, LinesAccepted, one_more, TaskLine, task_line_bytes, task_format, TaskLineFits, SoFar, Event, LineValues, after, map-append, after_append, TaskJudge, table_node, table_start, state_of, row_of, JudgesLine, NotesLine, TaskMachine, LedBy, HasNoted, TaskState, Tracker, tracker_start, track, track_line, number_in, after_count, Move, length, length-map, arith}
 use Rattle.sas_task_file.specs.declared.places.Move.TheVariants as by
 use Rattle.sas_task_reader.proofs.TableGrammar.{tracked, of_table_line}
 use Rattle.sas_task_reader.proofs.Noting.{noted_on}
@@ -37,11 +37,8 @@ led_on keeps before m j said kept event line h moves keeps_on notes =
     }
 
 -- one more line is accepted ahead
-pub next_line : {K : Type 0} (keeps : List (List ℕ) → SoFar → K → Type 0) (m : TaskMachine K) (bytes : List ℕ) (n : TaskMachine K) (count : ℕ) (rest : List ℕ) → LinesAccepted (LedBy keeps) m bytes n count rest → (j : TaskJudge) (said : LineValues) (kept : K) (event : Event) (line left : List ℕ) → Plain line × (rest ≡ line ++ 10 ∷ left) × JudgesLine n.judge line j (Ok event) × ((row_of n.judge).moves ≡ by.Item) × (j.counts ≡ n.judge.counts)
+pub next_line : {K : Type 0} (keeps : List (List ℕ) → SoFar → K → Type 0) (m : TaskMachine K) (bytes : List ℕ) (n : TaskMachine K) (count : ℕ) (rest : List ℕ) → LinesAccepted (LedBy keeps) m bytes n count rest → (j : TaskJudge) (said : LineValues) (kept : K) (event : Event) (line left : List ℕ) → FrontOf (line ∷ []) left rest × JudgesLine n.judge line j (Ok event) × ((row_of n.judge).moves ≡ by.Item) × (j.counts ≡ n.judge.counts)
     → ((lines : List (List ℕ)) (s : SoFar) → keeps lines s n.kept → keeps (lines ++ line ∷ []) (after s event j.said line) kept) → LinesAccepted (LedBy keeps) m bytes (record n { judge = record j { said = said }; kept = kept }) (count + 1) left
 next_line keeps m bytes n count rest h j said kept event line left ahead keeps_on =
-    one_more (LedBy keeps) m bytes n count rest h (record n { judge = record j { said = said }; kept = kept }) line (line ++ 10 ∷ []) left
-    (ahead.1 ∙ sym (append_assoc line (10 ∷ []) left))
-    (lines-one line ahead.0.no_end ∙ ap (λ (l : List ℕ). l ∷ []) ahead.0.no_return)
-    (unfinished-one line ahead.0.no_end)
-    (λ before led. led_on keeps before n j said kept event line led ahead.2 keeps_on (notes_ahead before n.judge j ahead.3 ahead.4))
+    one_more (LedBy keeps) m bytes n count rest h (record n { judge = record j { said = said }; kept = kept }) line left ahead.0
+    (λ before led. led_on keeps before n j said kept event line led ahead.1 keeps_on (notes_ahead before n.judge j ahead.2 ahead.3))

@@ -1,6 +1,7 @@
 -- What the judge of the lines of a task file represents: what may still follow the content so far.
 use Rattle.std.specs.Prelude.{◌≡◌, ◌≢◌, ◌⊎◌, ◌<◌, ℕ, ◌-◌, List, [], ◌∷◌, ◌++◌, Result, Ok, Err}
 use Rattle.sas_core.specs.Plain.{IsPlain}
+use Rattle.sas_lines.specs.EndedLines.{EndedLines}
 use Rattle.sas_reader.specs.declared.fault.Kind.{Kind}
 use Rattle.sas_reader.specs.declared.fault.Kind.TheVariants as kinds
 use Rattle.sas_task_file.specs.declared.places.Event.{Event}
@@ -97,13 +98,13 @@ abbrev pub NotesLine : TaskJudge → ℕ → TaskJudge → Type 0
 NotesLine j number k = (k.tracker ≡ after_move (row_of j).moves k.said.number j.tracker)
     × (k.counts ≡ after_count (row_of j).moves number k.said.number j.counts)
 
--- The bytes are a line, then LF, then the rest. The line leads to the content with what it adds,
--- and is an item of a list.
+-- The bytes are a line, its end, and the rest. The line leads to the content with what it adds, and
+-- is an item of a list.
 pub record MovesAhead (j : TaskJudge) (bytes : List ℕ) (k : TaskJudge) (event : Event)
     (rest : List ℕ) : Type 0 where
   pub line : List ℕ
   pub plain : IsPlain line
-  pub before : bytes ≡ line ++ 10 ∷ rest
+  pub before : EndedLines (line ∷ []) rest bytes
   pub item : (row_of j).moves ≡ moves.Item
   pub moves : JudgesLine j line k (Ok event)
   pub counts : k.counts ≡ j.counts

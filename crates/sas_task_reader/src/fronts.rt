@@ -68,6 +68,7 @@ pub fn variable_front(
 
 /// Returns the extent of a whole mutex group at the beginning of the bytes, if `read_group` finds one. The content of `gathered` is
 /// unspecified afterwards. Returns `Memory` if out of memory.
+#[inline(always)]
 pub fn group_front(
     ranges: &Items<u32>,
     bytes: &[u8],
@@ -83,6 +84,7 @@ pub fn group_front(
 
 /// Returns the extent of a whole operator at the beginning of the bytes, if `read_operator` finds one. The content of `gathered` is
 /// unspecified afterwards. Returns `Memory` if out of memory.
+#[inline(always)]
 pub fn operator_front(
     ranges: &Items<u32>,
     bytes: &[u8],
@@ -109,6 +111,7 @@ pub fn operator_front(
 
 /// Returns the extent of a whole rule at the beginning of the bytes, if `read_rule` finds one. The content of `gathered` is unspecified
 /// afterwards. Returns `Memory` if out of memory.
+#[inline(always)]
 pub fn rule_front(
     ranges: &Items<u32>,
     bytes: &[u8],

@@ -3,6 +3,7 @@ ghost use Rattle.std.specs.Prelude.{◌≡◌, ◌≢◌};
 
 use crate::keeper::Keeper;
 use crate::task_judge::{Section, TaskJudge};
+use sas_lines::without_return;
 use sas_reader::{Front, Kind, Machine};
 use sas_task_file::WrongWord;
 use std::alloc::Global;
@@ -99,7 +100,7 @@ impl<K: Keeper> TaskMachine<K> {
         let mut lines = 0;
         let mut rest = bytes;
         while let Some((event, behind)) = self.judge.take_ahead(rest) {
-            let line = &rest[..rest.len() - behind.len() - 1];
+            let line = without_return(&rest[..rest.len() - behind.len() - 1]);
             self.kept.keep(line, event, &mut self.judge.said)?;
             lines += 1;
             rest = behind;

@@ -1,18 +1,19 @@
 // Stores only the text of a task file.
 ghost use Rattle.std.specs.Prelude.{◌≡◌, ◌++◌, ◌≤◌, [], length, take, OnOk, IfErr};
+ghost use Rattle.sas_lines.specs.Lines.{without_returns};
 
 use crate::fronts::{
     NO_VARIABLE, SectionLists, group_front, operator_front, rule_front, variable_front,
 };
 use crate::{Keeper, KeptVariable};
 use sas_core::Items;
-use sas_lines::push_line;
+use sas_lines::{drop_returns, push_line};
 use sas_reader::{Front, Kind};
 use sas_task_file::{Event, LineValues};
 use std::alloc::Global;
 use std::marker::Model;
 
-/// The lines so far, each ended by LF. In a contract its value is this text.
+/// The lines so far, each ended by LF or CR LF. In a contract its value is this text.
 #[derive(Drop)]
 pub struct TaskText {
     text: Vec<u8>,
@@ -39,11 +40,12 @@ impl TaskText {
         }
     }
 
-    /// Returns the text so far.
+    /// Returns the text so far without its CRs.
     pub fn into_text(self) -> Vec<u8>
-        ensures { result.items ≡ self }
+        ensures { result.items ≡ without_returns self }
     {
-        let TaskText { text, .. } = self;
+        let TaskText { mut text, .. } = self;
+        drop_returns(&mut text);
         text
     }
 
@@ -60,9 +62,9 @@ impl TaskText {
 
 impl Keeper for TaskText {
     ghost use Rattle.std.specs.Prelude.{◌≡◌};
-    ghost use Rattle.sas_lines.specs.Lines.{text};
+    ghost use Rattle.sas_lines.specs.Lines.{text, without_returns};
 
-    ghost keeps = { λ lines _ kept. kept ≡ text lines };
+    ghost keeps = { λ lines _ kept. without_returns kept ≡ without_returns (text lines) };
 
     fn keep(&mut self, line: &[u8], _event: Event, _said: &mut LineValues) -> Result<(), Kind> {
         push_line(&mut self.text, line)?;

@@ -73,7 +73,7 @@ impl TaskJudge {
         Some((Event::Effect, rest))
     }
 
-    /// Accepts the first line of the bytes, which ends with LF, if it is one of many alike and is allowed here. Returns what it adds, and
+    /// Accepts the first line of the bytes if it is one of many alike and is allowed here. Returns what it adds, and
     /// the bytes after it. Otherwise returns `None` and changes nothing; then `take` has to judge the line.
     #[inline(always)]
     pub fn take_ahead<'a>(&mut self, bytes: &'a [u8]) -> Option<(Event, &'a [u8])>

@@ -1,5 +1,5 @@
 use Rattle.sas_task_file.proofs.Imports.{refl, arith}
-use Rattle.sas_task_file.proofs.LinesReading.{rule_is_ahead, all_appended}
+use Rattle.sas_task_file.proofs.LinesReading.{rule_is_ahead, all_appended, one_line, rest_fits}
 use Rattle.sas_task_file.proofs.sections.read_rule.Goals as goal
 
 pub returns-clause-found : goal.returns-clause-found
@@ -9,3 +9,8 @@ returns-clause-found c =
       facts.are,
       rule_is_ahead c.args.ranges.now c.in-Some-head_before.head facts.items _ c.in-Some.ensures (all_appended _ _ facts) c.in-Some-head_before.ensures refl (omega (arith, facts.many)),
     )
+
+pub overflow_sub-front : goal.overflow_sub-front
+overflow_sub-front c =
+    let facts = rw c.in-Some-2.is at c.in_ok-count.ensures.found in
+    omega (arith, rest_fits (one_line c.in-Some.ensures), rest_fits facts.lines.lines, rest_fits c.in-Some-head_before.ensures.1)

@@ -17,7 +17,7 @@ pub returns-in-Err : goal.returns-in-Err
 returns-in-Err g c =
     let step = c.in-Err.ensures.advances in
     let none : c.args.self.now.fault ≡ None = c.in_default.is in
-    let next = c.take_piece.new.self in
+    let next = c.take_all.new.self in
     let f : Fault = record { line = next.lines + 1; kind = c.in-Err.kind } in
     record {
       answer = refl;
@@ -38,7 +38,7 @@ returns-in-Ok g c =
     let step = c.in-Ok.ensures.advances in
     let all = c.in-Ok.ensures.all in
     let none : c.args.self.now.fault ≡ None = c.in_default.is in
-    let still : c.take_piece.new.self.fault ≡ None = step.fault ∙ none in
+    let still : c.take_all.new.self.fault ≡ None = step.fault ∙ none in
     record {
       answer = sym (ap answer still);
       kept = λ f e. let x : None ≡ Some f = sym none ∙ e in absurd cc;
@@ -47,7 +47,7 @@ returns-in-Ok g c =
       count = omega (arith, step.took.count, all);
       limit = step.limit;
       stands = λ bytes s.
-          stands_accepted g.M.Machine.behavior c.take_piece.new.self (bytes ++ c.args.piece.now) still
-          (subst (λ (x : List ℕ). Accepted g.M.Machine.behavior c.take_piece.new.self (bytes ++ x)) (take_all _ c.args.piece.now (omega (arith, all)))
+          stands_accepted g.M.Machine.behavior c.take_all.new.self (bytes ++ c.args.piece.now) still
+          (subst (λ (x : List ℕ). Accepted g.M.Machine.behavior c.take_all.new.self (bytes ++ x)) (take_all _ c.args.piece.now (omega (arith, all)))
           (step.took.accepted bytes (accepted_of g.M.Machine.behavior c.args.self.now bytes none s)));
     }

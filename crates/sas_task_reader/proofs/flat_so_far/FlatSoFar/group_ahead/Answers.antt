@@ -2,6 +2,7 @@ use Rattle.sas_task_reader.proofs.Imports.{ap, ◌∙◌, the_view, lists_opened
 use Rattle.sas_task_reader.specs.Sections.{behind_group}
 use Rattle.sas_task_file.specs.declared.so_far.SoFar.{SoFar}
 use Rattle.sas_task_reader.proofs.StoredParts.{with_groups, one_group_more}
+use Rattle.sas_task_reader.proofs.StoredText.{some_bytes}
 use Rattle.sas_task_reader.proofs.flat_so_far.FlatSoFar.group_ahead.Goals as goal
 
 pub returns-in_ok-close-in-Ok-Some-clause-took : goal.returns-in_ok-close-in-Ok-Some-clause-took
@@ -16,3 +17,8 @@ returns-in_ok-close-in-Ok-Some-clause-took c = λ some.
 pub returns-in_ok-missed-in_default-clause-none : goal.returns-in_ok-missed-in_default-clause-none
 returns-in_ok-missed-in_default-clause-none c = λ none.
     ap (with_groups (the_view c.self.inside)) (c.cut.ensures.is ∙ lists_opened _ _ _ c.self.invariant.1 c.read_group.ensures.kept) ∙ c.self.view_is
+
+pub returns-in_ok-close-in-Ok-Some-clause-none : goal.returns-in_ok-close-in-Ok-Some-clause-none
+returns-in_ok-close-in-Ok-Some-clause-none c = λ none.
+    let (facts, is, ahead) = rw c.in-Ok-Some.field-0-is at c.in-Ok-Some.ensures.found in
+    absurd (some_bytes _ _ c.args.bytes.now c.in-Ok-Some.front ahead.1 none)

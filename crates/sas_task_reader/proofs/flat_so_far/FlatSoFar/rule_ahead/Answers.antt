@@ -2,6 +2,7 @@ use Rattle.sas_task_reader.proofs.Imports.{[], ◌∷◌, ◌++◌, length, sym,
 use Rattle.sas_task_reader.specs.Sections.{behind_rule}
 use Rattle.sas_task_file.specs.declared.so_far.SoFar.{SoFar}
 use Rattle.sas_task_reader.proofs.StoredParts.{with_rules, another_rule}
+use Rattle.sas_task_reader.proofs.StoredText.{some_bytes}
 use Rattle.sas_task_reader.proofs.flat_so_far.FlatSoFar.rule_ahead.Goals as goal
 
 pub invariant_of-self-in-Some-1 : goal.invariant_of-self-in-Some-1
@@ -47,3 +48,8 @@ pub returns-in_ok-missed-in_default-clause-none : goal.returns-in_ok-missed-in_d
 returns-in_ok-missed-in_default-clause-none c = λ none.
     let lists = c.cut.ensures.is ∙ lists_opened _ _ _ c.self.invariant.3 c.read_rule.ensures.kept in
     ap (with_rules (the_view c.self.inside)) (ap (λ l. effects_of l (lists_in c.cut.new.self)) c.in_ok-reserve.ensures.items ∙ ap (effects_of c.self.inside.heads.items) lists) ∙ c.self.view_is
+
+pub returns-in_ok-push-in-Ok-Some-clause-none : goal.returns-in_ok-push-in-Ok-Some-clause-none
+returns-in_ok-push-in-Ok-Some-clause-none c = λ none.
+    let (facts, is, ahead) = rw c.in-Ok-Some.field-0-is at c.in-Ok-Some.ensures.found in
+    absurd (some_bytes _ _ c.args.bytes.now c.in-Ok-Some.found.front ahead.1 none)

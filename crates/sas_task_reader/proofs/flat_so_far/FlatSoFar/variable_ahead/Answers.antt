@@ -2,6 +2,7 @@ use Rattle.sas_task_reader.proofs.Imports.{refl, sym, ap, ◌∙◌, the_view, v
 use Rattle.sas_task_reader.specs.Sections.{behind_variable}
 use Rattle.sas_task_file.specs.declared.so_far.SoFar.{SoFar}
 use Rattle.sas_task_reader.proofs.StoredParts.{with_variables, one_variable_more}
+use Rattle.sas_task_reader.proofs.StoredText.{some_bytes}
 use Rattle.sas_task_reader.proofs.flat_so_far.FlatSoFar.variable_ahead.Goals as goal
 
 pub returns-in_default-push-clause-took : goal.returns-in_default-push-clause-took
@@ -22,3 +23,8 @@ returns-in_ok-missed-in_default-clause-none c = λ none.
     let old = c.self.inside.variables in
     let begun = variables_opened old (record old { values = c.read_variable.new.names }) refl refl refl c.self.invariant.0 c.read_variable.ensures.kept in
     ap (with_variables (the_view c.self.inside)) (c.cut-in_default.ensures.is ∙ begun.is) ∙ c.self.view_is
+
+pub returns-in_default-push-clause-none : goal.returns-in_default-push-clause-none
+returns-in_default-push-clause-none c = λ none.
+    let (values, names, many, ahead) = rw c.in-Ok-Some.field-0-is at c.in-Ok-Some.ensures.found in
+    absurd (some_bytes _ _ c.args.bytes.now c.in-Ok-Some.found.front ahead.1 none)

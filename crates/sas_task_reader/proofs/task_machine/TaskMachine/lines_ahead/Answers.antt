@@ -10,7 +10,7 @@ pub loop-event-preserved : goal.loop-event-preserved
 loop-event-preserved g c =
     let l = c.loop-event in
     next_line _ c.args.self.now c.args.bytes.now l.self l.lines l.rest.now l.invariant c.take_ahead.new.self _ c.keep.new.self c.in-Some.event _ c.in-Some.behind.now
-    (taken_line l.self.judge c.take_ahead.new.self l.rest.now c.in-Some.behind.now c.in-Some.event c.in-Some.ensures.some) c.in_ok-keep.ensures.kept
+    (taken_line l.self.judge c.take_ahead.new.self l.rest.now c.in-Some.behind.now c.in-Some.event c.in-Some.ensures.some _ c.without_return-line.ensures) c.in_ok-keep.ensures.kept
 
 pub returns : goal.returns
 returns g c =
