@@ -133,14 +133,16 @@ impl LongChains {
         Ok(())
     }
 
-    /// Returns the long chain that begins with this operator, if there is one.
+    /// Returns whether there is no long chain.
     #[inline(always)]
+    pub fn is_empty(&self) -> bool {
+        self.chains.is_empty()
+    }
+
+    /// Returns the long chain that begins with this operator, if there is one.
     pub fn get(&self, first: u32) -> Option<&LongChain>
         ensures { IfSome result (λ chain. tree.get nat_cmp self.now.chains first ≡ Some chain.now) }
     {
-        if self.chains.is_empty() {
-            return None;
-        }
         self.chains.get(&first)
     }
 }

@@ -54,9 +54,9 @@ pub struct PlanOperators<'f> {
 }
 
 impl<'f> PlanOperators<'f> {
-    /// Returns the first applicable operator, among this one and the later ones of the same name.
-    #[inline(always)]
-    pub fn first_applicable<T: Grounded>(
+    /// `first_applicable` where there are long chains. It isn't inlined, so that a step without them stays short.
+    #[inline(never)]
+    fn first_among_long<T: Grounded>(
         &self,
         task: &Layered<T>,
         state: &State,
@@ -71,6 +71,27 @@ impl<'f> PlanOperators<'f> {
         match self.long.get(first) {
             Some(chain) => chain.first_applicable(task, state),
             None => first_applicable(task, self.nexts, state, first),
+        }
+    }
+
+    /// Returns the first applicable operator, among this one and the later ones of the same name.
+    #[inline(always)]
+    pub fn first_applicable<T: Grounded>(
+        &self,
+        task: &Layered<T>,
+        state: &State,
+        first: u32,
+    ) -> Option<u32>
+        requires chain { IsChain task.now first self.now.nexts.now }
+        requires long { AreLongChains task.now self.now.long.now }
+        requires first { first < length task.now.operators }
+        requires state { IsState task.now.variables state.now }
+        ensures { IsFirstChosen task.now state.now first result }
+    {
+        if self.long.is_empty() {
+            first_applicable(task, self.nexts, state, first)
+        } else {
+            self.first_among_long(task, state, first)
         }
     }
 }

@@ -1,6 +1,6 @@
 -- The chain that is found has all operators of the name.
 use Rattle.sas_run.proofs.LongSearch.{chosen_among}
-use Rattle.sas_run.proofs.step_operators.PlanOperators.first_applicable.Goals as goal
+use Rattle.sas_run.proofs.step_operators.PlanOperators.first_among_long.Goals as goal
 
 pub first_applicable-requires-clause-chain : goal.first_applicable-requires-clause-chain
 first_applicable-requires-clause-chain g c = (c.requires.long.each c.args.first c.in-Some.chain.now c.in-Some.ensures).0
