@@ -9,3 +9,4 @@ pub mod Progress
 pub mod Device
 pub mod Inputs
 pub mod Trial
+pub mod Packing

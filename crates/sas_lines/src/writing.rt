@@ -1,9 +1,7 @@
 // Appends numbers and lines to a text.
-ghost use Rattle.sas_lines.specs.Lines.{without_returns};
 ghost use Rattle.std.specs.Prelude.{◌≡◌, ◌+◌, ◌<◌, [], ◌∷◌, ◌++◌, length, OnOk, OnErr, decimal};
 ghost use Rattle.std.specs.Vec.{vec_len, vec_capacity};
 
-use crate::separators::first_place;
 use itoa::Buffer;
 use std::alloc::AllocError;
 
@@ -28,14 +26,4 @@ pub fn push_line(out: &mut Vec<u8>, line: &[u8]) -> Result<(), AllocError>
     out.extend_from_slice(line)?;
     out.push(b'\n')?;
     Ok(())
-}
-
-/// Removes all CRs from the text.
-pub fn drop_returns(text: &mut Vec<u8>)
-    ensures { text.new.items ≡ without_returns text.old.items }
-{
-    match first_place(b'\r', text.as_slice()) {
-        Some(_) => text.retain(|&byte| byte != b'\r'),
-        None => {}
-    }
 }
