@@ -83,8 +83,9 @@ fn pack_most(text: &mut [u8], start: Places) -> Places
     requires gap { start.read < length text.old → start.kept + LANES ≤ start.read }
     ensures { Packs text.old start text.new result }
 {
+    let last = text.len().saturating_sub(LANES);
     let mut at = start;
-    while text.len() - at.read >= LANES {
+    while at.read < last {
         at = pack_lanes(text, at);
     }
     at
