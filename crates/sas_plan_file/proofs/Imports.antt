@@ -1,12 +1,12 @@
 -- What the proofs use of other crates, and of the definitions of this one.
-pub use Rattle.std.proofs.Common.{◌≡◌, ℕ, Bool, ◌-◌, true, false, List, ◌++◌, length, take, drop, sym, ap, ◌∙◌, arith, length-append, Option, None, Some, nat_eq, ◌⊎◌, inl, inr, suc, ◌+◌, ◌<◌, ◌≤◌, [], ◌∷◌, get_or, refl, subst, Ok, append_assoc, codes, map, IsTrue, ◌↔◌, Err}
+pub use Rattle.std.proofs.Common.{set, ◌≡◌, ℕ, Bool, ◌-◌, true, false, List, ◌++◌, length, take, drop, sym, ap, ◌∙◌, arith, length-append, Option, None, Some, nat_eq, ◌⊎◌, inl, inr, suc, ◌+◌, ◌<◌, ◌≤◌, [], ◌∷◌, get_or, refl, subst, Ok, append_assoc, codes, map, IsTrue, ◌↔◌, Err}
 pub use Rattle.std.proofs.Math.ListN.{get_or-append}
 pub use Rattle.std.proofs.Math.Logic.{∥∥₁_map}
 pub use Rattle.std.proofs.Math.Seq.{drop-append_seam, take-append_seam}
 pub use Rattle.std.proofs.lemmas.Bool.{false_from_ne_true}
 pub use Rattle.std.proofs.lemmas.Fmt.{decimal_injective, length-decimal-le}
 pub use Rattle.std.proofs.lemmas.Grind.{flat_map-append}
-pub use Rattle.std.proofs.lemmas.List.{take-append-drop, length-take-le, get_or-take, take_at, drop_more, append-nil, append_cancel_left, append_cancel_right, take_rest, take_all}
+pub use Rattle.std.proofs.lemmas.List.{take-append-drop, length-take-le, get_or-take, take_at, take_more, set_at, append-nil, append_cancel_left, append_cancel_right, same_from_push, map-append, take_all}
 pub use Rattle.std.specs.Cmp.Lexicographic.{pointwise, same_text, other_text}
 pub use Rattle.std.specs.Fmt.{decimal}
 pub use Rattle.std.specs.List.{AllByRecursion}
@@ -18,8 +18,9 @@ pub use Rattle.sas_core.specs.Plain.{IsPlain}
 pub use Rattle.sas_core.specs.PlanParts.{PlanParts}
 pub use Rattle.sas_core.specs.WellNamed.{WellNamed}
 pub use Rattle.sas_core.specs.declared.plan.CostKind.{CostKind}
-pub use Rattle.sas_lines.proofs.Splitting.{lines-one, unfinished-one, return_length}
-pub use Rattle.sas_lines.proofs.Words.{NoSpace, NoSpace-decimal}
+pub use Rattle.sas_lines.proofs.Splitting.{return_length}
+pub use Rattle.sas_lines.proofs.Words.{NoSpace, NoSpace-decimal, joined-words}
+pub use Rattle.sas_lines.specs.Spelling.{joined}
 pub use Rattle.sas_lines.specs.Lines.{text, without_return}
 pub use Rattle.sas_lines.specs.EndedLines.{EndedLines}
 pub use Rattle.sas_lines.proofs.Beginnings.{front_of_lines}
@@ -30,7 +31,7 @@ pub use Rattle.sas_reader.proofs.Conversion.{Follows, reads_of_format, some_read
 pub use Rattle.sas_reader.proofs.Ends.{ended_line}
 pub use Rattle.sas_reader.proofs.Every.{laws_of}
 pub use Rattle.sas_reader.proofs.Live.{leads_line}
-pub use Rattle.sas_reader.proofs.Paths.{one_ended, after_ends}
+pub use Rattle.sas_reader.proofs.Paths.{one_ended, after_ends, cut_at, ends_split}
 pub use Rattle.sas_reader.proofs.Plain.{plain, plain-decimal}
 pub use Rattle.sas_reader.proofs.Reading.{end_fault, reads_all, refuses_all, feeds}
 pub use Rattle.sas_reader.proofs.Refusals.{reported_by, explains, reads_explained, refuses_explained}

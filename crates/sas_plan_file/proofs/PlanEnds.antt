@@ -1,8 +1,7 @@
 -- A plan that lacks only its last line end: after its steps, the text is a cost.
-use Rattle.sas_plan_file.proofs.Imports.{Behavior, ◌≡◌, ℕ, ◌+◌, ◌<◌, ◌≤◌, true, false, List, [], ◌∷◌, ◌++◌, length, length-append, length-decimal-le, take, map, refl, sym, ap, subst, ◌∙◌, arith, IsTrue, ◌↔◌, append-nil, decimal, CostKind, PlanParts, IsPlanCost, without_return, return_length, Kind, Excerpt, IsFoundOf, kept_bytes, take_all, Bool, AreAllLines, EndsUnended, StandsBehind, behind_line, behind_text, at_end, LeadsToEnd, Leads, IsRejected, Rejects, after_ends, Follows, PlanLine, step, cost, plan_line_bytes, plan_format, PlanLineFits, plan_line_ok, PlanKind, like_step, like_cost, like_none, cost_front, cost_words, PlanState, going, closed, plan_node, plan_start, PlanRefusal, IsCostLine, TellsLineEnd}
+use Rattle.sas_plan_file.proofs.Imports.{Behavior, ◌≡◌, ℕ, ◌+◌, ◌<◌, ◌≤◌, true, false, List, [], ◌∷◌, ◌++◌, length, length-append, length-decimal-le, map, refl, sym, ap, subst, ◌∙◌, arith, IsTrue, ◌↔◌, append-nil, same_from_push, map-append, decimal, CostKind, PlanParts, without_return, return_length, Kind, Excerpt, IsFoundOf, kept_bytes, take_all, Bool, AreAllLines, StandsBehind, behind_line, behind_text, at_end, LeadsToEnd, Leads, IsRejected, Rejects, after_ends, Follows, PlanLine, step, cost, plan_line_bytes, plan_format, PlanLineFits, plan_line_ok, PlanKind, cost_front, cost_words, PlanState, going, closed, plan_node, plan_start, PlanRefusal, IsCostLine, TellsLineEnd}
 use Rattle.sas_core.specs.declared.plan.CostKind.TheVariants as costs
 use Rattle.sas_reader.specs.declared.fault.Kind.TheVariants as kinds
-use Rattle.sas_plan_file.proofs.PlanFilling.{none, step_lines, steps_line}
 use Rattle.sas_plan_file.proofs.PlanGrammar.{plan_grammar}
 use Rattle.sas_plan_file.proofs.PlanSteps.{led_on}
 
@@ -35,25 +34,22 @@ long_text text found is e is_cost = let long = is.longer.0 e in let short = cost
 
 -- ---- the last line
 
-one_last : (a b : List (List ℕ)) (x y : List ℕ) → a ++ x ∷ [] ≡ b ++ y ∷ [] → x ≡ y
-one_last [] [] x y e = cc
-one_last [] (c ∷ b) x y e = let t : b ++ y ∷ [] ≡ [] = cc in absurd (let z : y ∷ [] ≡ [] = none b (y ∷ []) t in cc)
-one_last (c ∷ a) [] x y e = let t : a ++ x ∷ [] ≡ [] = cc in absurd (let z : x ∷ [] ≡ [] = none a (x ∷ []) t in cc)
-one_last (c ∷ a) (d ∷ b) x y e = one_last a b x y cc
-
 last_is_cost : (ls : List (List ℕ)) (line : List ℕ) → AreAllLines plan_format (ls ++ line ∷ []) → IsCostLine line
 last_is_cost ls line (p, good, is) =
-    (p.cost, p.kind, good.cost, one_last (step_lines p.steps) ls (plan_line_bytes (cost p.cost p.kind)) line (sym (steps_line p.steps p.cost p.kind) ∙ is))
+    let steps = map step p.steps in
+    (p.cost, p.kind, good.cost, (same_from_push (map plan_line_bytes steps) ls _ line (sym (map-append plan_line_bytes steps (cost p.cost p.kind ∷ [])) ∙ is)).1)
 
-lines_of_plan : (ls : List (List ℕ)) (p : PlanParts) → Leads plan_format PlanLineFits plan_node plan_start ls (closed p) → AreAllLines plan_format ls
+pub lines_of_plan : (ls : List (List ℕ)) (p : PlanParts) → Leads plan_format PlanLineFits plan_node plan_start ls (closed p) → AreAllLines plan_format ls
 lines_of_plan ls p h =
     let end = subst (λ (is : List PlanLine). LeadsToEnd plan_format PlanLineFits plan_node plan_start is p) (append-nil h.items) (after_ends plan_format PlanLineFits plan_node plan_start (closed p) p h.items [] h.after refl) in
     let s = plan_grammar.sound h.items p end in
     (p, s.0, ap (map plan_line_bytes) (sym s.1) ∙ h.spells)
 
+pub lines_with_cost : (ls steps : List (List ℕ)) (line : List ℕ) → Leads plan_format PlanLineFits plan_node plan_start ls (going steps) → IsCostLine line → AreAllLines plan_format (ls ++ line ∷ [])
+lines_with_cost ls steps line h (n, kind, small, is) = lines_of_plan (ls ++ line ∷ []) _ (led_on ls steps _ (cost n kind) line h (record { slot = refl; fits = small; good = refl }) is refl)
+
 cost_is_last : (ls : List (List ℕ)) (p : PlanState) (line : List ℕ) → Leads plan_format PlanLineFits plan_node plan_start ls p → ((v : PlanParts) → p ≡ closed v → ⊥) → IsCostLine line → AreAllLines plan_format (ls ++ line ∷ [])
-cost_is_last ls (going steps) line h open_still (n, kind, small, is) =
-    lines_of_plan (ls ++ line ∷ []) _ (led_on ls steps _ (cost n kind) line h (record { slot = refl; fits = small; good = refl }) is refl)
+cost_is_last ls (going steps) line h open_still is = lines_with_cost ls steps line h is
 cost_is_last ls (closed p) line h open_still is = absurd (open_still p refl)
 
 -- ---- a refusal

@@ -1,21 +1,16 @@
 -- Why a line may not stand in a plan.
-use Rattle.sas_plan_file.proofs.Imports.{◌≡◌, ℕ, List, ◌++◌, length, take, get_or, sym, ap, ◌∙◌, arith, IsTrue, codes, decimal, append_cancel_left, take-append_seam, CostKind, Keyword, Name, Shape, IsRejected, PlanLine, step, cost, plan_line_bytes, PlanLineFits, like_step, like_cost, like_none, cost_front, cost_words, BeginsWith, plan_format, Names, Costs, plan_line_ok}
+use Rattle.sas_plan_file.proofs.Imports.{◌≡◌, ℕ, List, ◌++◌, length, take, sym, ap, ◌∙◌, IsTrue, codes, decimal, append_cancel_left, take-append_seam, CostKind, Keyword, Name, Shape, IsRejected, PlanLine, step, cost, plan_line_bytes, PlanLineFits, like_step, like_cost, like_none, cost_front, cost_words, BeginsWith, plan_format, Names, Costs, plan_line_ok}
+use Rattle.sas_plan_file.proofs.PlanLines.{step_not_cost}
 
 begins_with : (front rest line : List ℕ) → line ≡ front ++ rest → BeginsWith front line
 begins_with front rest line e = ap (take (length front)) e ∙ take-append_seam front rest
 
-abbrev first_of : List ℕ → ℕ
-first_of l = get_or l 0 0
-
-apart : (a b : List ℕ) → codes "(" ++ a ≡ cost_front ++ b → ⊥
-apart a b e = let h = ap first_of e in omega (arith, h)
-
 no_step : (line rest : List ℕ) → line ≡ codes "(" ++ rest → ((name : List ℕ) → Names rest name → ⊥) → (i : PlanLine) → PlanLineFits i → IsTrue (plan_line_ok i) → plan_line_bytes i ≡ line → ⊥
 no_step line rest e none (step name) fits ok b = none name (ok, append_cancel_left (codes "(") rest (name ++ codes ")") (sym e ∙ sym b))
-no_step line rest e none (cost n kind) fits ok b = apart rest (decimal n ++ cost_words kind) (sym e ∙ sym b)
+no_step line rest e none (cost n kind) fits ok b = step_not_cost rest (decimal n ++ cost_words kind) (sym e ∙ sym b)
 
 no_cost : (line rest : List ℕ) → line ≡ cost_front ++ rest → ((n : ℕ) (kind : CostKind) → Costs rest n kind → ⊥) → (i : PlanLine) → PlanLineFits i → IsTrue (plan_line_ok i) → plan_line_bytes i ≡ line → ⊥
-no_cost line rest e none (step name) fits ok b = apart (name ++ codes ")") rest (b ∙ e)
+no_cost line rest e none (step name) fits ok b = step_not_cost (name ++ codes ")") rest (b ∙ e)
 no_cost line rest e none (cost n kind) fits ok b = none n kind (fits, append_cancel_left cost_front rest (decimal n ++ cost_words kind) (sym e ∙ sym b))
 
 no_line : (line : List ℕ) → (BeginsWith (codes "(") line → ⊥) → (BeginsWith cost_front line → ⊥) → (i : PlanLine) → plan_line_bytes i ≡ line → ⊥

@@ -1,19 +1,13 @@
 -- A line of a plan has one meaning, and its fault has one kind.
-use Rattle.sas_plan_file.proofs.Imports.{◌≡◌, ℕ, List, [], ◌∷◌, ◌++◌, get_or, refl, sym, ap, ◌∙◌, arith, codes, decimal, decimal_injective, append_cancel_right, append_cancel_left, CostKind, IsPlanCost, NoSpace, NoSpace-decimal, Kind, Keyword, Name, Shape, PlanLine, step, cost, plan_line_bytes, PlanLineFits, PlanKind, like_step, like_cost, like_none, cost_words, cost_front, BeginsWith}
+use Rattle.sas_plan_file.proofs.Imports.{◌≡◌, ℕ, List, [], ◌∷◌, ◌++◌, get_or, refl, sym, ap, ◌∙◌, arith, codes, decimal, decimal_injective, append_cancel_right, append_cancel_left, CostKind, IsPlanCost, NoSpace, NoSpace-decimal, joined, joined-words, Kind, Keyword, Name, Shape, PlanLine, step, cost, plan_line_bytes, PlanLineFits, PlanKind, like_step, like_cost, like_none, cost_words, cost_front, BeginsWith}
 use Rattle.sas_core.specs.declared.plan.CostKind.TheVariants as costs
+use Rattle.sas_lines.proofs.Words.{same_first as same_words_first}
 
 -- ---- the digits of a cost
 
 -- the bytes before the first space, and those after it
-pub same_first : (w v a b : List ℕ) → NoSpace w → NoSpace v → w ++ 32 ∷ a ≡ v ++ 32 ∷ b → (w ≡ v) × (a ≡ b)
-same_first [] [] a b h g e = (refl, cc)
-same_first [] (x ∷ v) a b h g e = absurd (g.0 (let q : x ≡ 32 = cc in q))
-same_first (x ∷ w) [] a b h g e = absurd (h.0 (let q : x ≡ 32 = cc in q))
-same_first (x ∷ w) (y ∷ v) a b h g e =
-    let q : x ≡ y = cc in
-    let t : w ++ 32 ∷ a ≡ v ++ 32 ∷ b = cc in
-    let s = same_first w v a b h.1 g.1 t in
-    (ap (λ (z : ℕ). z ∷ w) q ∙ ap (λ (z : List ℕ). y ∷ z) s.0, s.1)
+same_first : (w v a b : List ℕ) → NoSpace w → NoSpace v → w ++ 32 ∷ a ≡ v ++ 32 ∷ b → (w ≡ v) × (a ≡ b)
+same_first w v a b h g e = let s = same_words_first w v a b h g e in (s.0, sym (joined-words a) ∙ ap joined s.1 ∙ joined-words b)
 
 -- ---- one meaning
 
@@ -38,13 +32,13 @@ same_cost m n k l f g e = same_cost_end m n k l f g (append_cancel_left cost_fro
 abbrev first_of : List ℕ → ℕ
 first_of l = get_or l 0 0
 
-pub step_not_cost : (v : List ℕ) (n : ℕ) (k : CostKind) → plan_line_bytes (step v) ≡ plan_line_bytes (cost n k) → ⊥
-step_not_cost v n k e = let h = ap first_of e in omega (arith, h)
+pub step_not_cost : (a b : List ℕ) → codes "(" ++ a ≡ cost_front ++ b → ⊥
+step_not_cost a b e = let h = ap first_of e in omega (arith, h)
 
 pub one_plan_line : (i j : PlanLine) → PlanLineFits i → PlanLineFits j → plan_line_bytes i ≡ plan_line_bytes j → i ≡ j
 one_plan_line (step v) (step w) f g e = ap step (same_step v w e)
-one_plan_line (step v) (cost n k) f g e = absurd (step_not_cost v n k e)
-one_plan_line (cost n k) (step v) f g e = absurd (step_not_cost v n k (sym e))
+one_plan_line (step v) (cost n k) f g e = absurd (step_not_cost _ _ e)
+one_plan_line (cost n k) (step v) f g e = absurd (step_not_cost _ _ (sym e))
 one_plan_line (cost m k) (cost n l) f g e = same_cost m n k l f g e
 
 -- ---- one kind
