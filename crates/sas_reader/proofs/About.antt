@@ -1,7 +1,8 @@
 -- What a fault is about, for any format.
-use Rattle.sas_reader.proofs.Imports.{◌≡◌, ◌≢◌, ℕ, List, [], ◌∷◌, ◌++◌, refl, sym, ap, ◌∙◌, append_assoc, ◌⊎◌, inl, inr, lines, unfinished, Fault, Format, KindAt, too_long, trailing, wrong, FaultOf, EndOf, Node, Grammar, IsAbout, of_line, of_byte, of_end, ConcernsText, AboutLaws}
+use Rattle.sas_reader.proofs.Imports.{◌≡◌, ◌≢◌, ℕ, List, [], ◌∷◌, ◌++◌, refl, sym, ap, ◌∙◌, same_from_push, ◌⊎◌, inl, inr, lines, unfinished, Fault, Format, KindAt, too_long, trailing, wrong, FaultOf, EndOf, Node, Grammar, IsAbout, of_line, of_byte, of_end, ConcernsText, AboutLaws}
 use Rattle.sas_reader.specs.declared.fault.Kind.TheVariants as kinds
-use Rattle.sas_reader.proofs.Whole.{fault_is_dead, no_slot_at_end, one_line, one_place}
+use Rattle.sas_reader.proofs.Live.{fault_stays}
+use Rattle.sas_reader.proofs.Whole.{fault_is_dead, no_slot_at_end, one_place}
 
 about_of : {V I S : Type 0} (F : Format V I S) (limit : ℕ) (bytes : List ℕ) (f : Fault) → f.kind ≢ kinds.TooLong → (h : FaultOf F limit bytes f) → KindAt F limit h.before h.byte f.kind → (a : List (List ℕ)) × (t : List ℕ) × IsAbout F limit bytes f a t
 about_of F limit bytes f ne h (too_long l k) = absurd (ne k)
@@ -16,9 +17,8 @@ module _ {T V I S : Type 0} (F : Format V I S) (Fits : I → Type 0) (node : T �
   one_about : (limit : ℕ) (bytes : List ℕ) (f : Fault) (a b : List (List ℕ)) (t u : List ℕ) → IsAbout F limit bytes f a t → IsAbout F limit bytes f b u → (a ≡ b) × (t ≡ u)
   one_about limit bytes f a b t u (of_line h ha ht s n k) (of_line j ja jt r m l) =
       let p = one_place F Fits node start g limit bytes f h j in
-      let same : a ≡ b = ha ∙ ap lines p.0 ∙ sym ja in
       let front : h.before ++ h.byte ∷ [] ≡ j.before ++ j.byte ∷ [] = ap (λ (x : List ℕ). x ++ h.byte ∷ []) p.0 ∙ ap (λ (y : ℕ). j.before ++ y ∷ []) p.1 in
-      (same, one_line b t u (ap (λ (x : List (List ℕ)). x ++ t ∷ []) (sym same) ∙ sym ht ∙ ap lines front ∙ jt))
+      same_from_push a b t u (sym ht ∙ ap lines front ∙ jt)
   one_about limit bytes f a b t u (of_line h ha ht s n k) (of_byte j ja jt v r l) =
       let p = one_place F Fits node start g limit bytes f h j in
       absurd (no_slot_at_end F Fits node start g a s v n r.good (sym r.lines ∙ ap lines (sym p.0) ∙ sym ha))
@@ -34,13 +34,10 @@ module _ {T V I S : Type 0} (F : Format V I S) (Fits : I → Type 0) (node : T �
   one_about limit bytes f a b t u (of_line j ja jt s n k) (of_end h ha ht) = absurd (fault_is_dead F Fits node start g limit bytes f j h.live)
   one_about limit bytes f a b t u (of_byte j ja jt v r k) (of_end h ha ht) = absurd (fault_is_dead F Fits node start g limit bytes f j h.live)
 
-  longer : (limit : ℕ) (bytes more : List ℕ) (f : Fault) → FaultOf F limit bytes f → FaultOf F limit (bytes ++ more) f
-  longer limit bytes more f h = record { before = h.before; byte = h.byte; after = h.after ++ more; whole = ap (λ (b : List ℕ). b ++ more) h.whole ∙ append_assoc h.before (h.byte ∷ h.after) more; live = h.live; dead = h.dead; line = h.line; kind = h.kind }
-
   pub about_stays : (limit : ℕ) (bytes more : List ℕ) (f : Fault) (a : List (List ℕ)) (t : List ℕ) → FaultOf F limit bytes f → IsAbout F limit bytes f a t → IsAbout F limit (bytes ++ more) f a t
-  unfolding longer
-  about_stays limit bytes more f a t d (of_line h ha ht s n k) = of_line (longer limit bytes more f h) ha ht s n k
-  about_stays limit bytes more f a t d (of_byte h ha ht v r k) = of_byte (longer limit bytes more f h) ha ht v r k
+  unfolding fault_stays
+  about_stays limit bytes more f a t d (of_line h ha ht s n k) = of_line (fault_stays F limit bytes more f h) ha ht s n k
+  about_stays limit bytes more f a t d (of_byte h ha ht v r k) = of_byte (fault_stays F limit bytes more f h) ha ht v r k
   about_stays limit bytes more f a t d (of_end h ha ht) = absurd (fault_is_dead F Fits node start g limit bytes f d h.live)
 
   pub about_laws_of : AboutLaws F

@@ -85,9 +85,15 @@ module _ {M : Type 0} (B : Behavior M) where
 
   -- ---- the promises of a step
 
+  pub takes : (old new : Reader M) (piece : List ℕ) (n : ℕ) → new.fault ≡ old.fault → new.limit ≡ old.limit → TookFront B old new piece n → TakesFrontOrStops B old piece new (Ok n)
+  takes old new piece n fault limit h = record { took = h; stopped = tt; fault = fault; limit = limit }
+
+  pub stops : (old new : Reader M) (piece : List ℕ) (k : Kind) → new.fault ≡ old.fault → new.limit ≡ old.limit → Stopped B old new piece k → TakesFrontOrStops B old piece new (Err k)
+  stops old new piece k fault limit h = record { took = tt; stopped = h; fault = fault; limit = limit }
+
   -- nothing was taken
-  pub took_none : (r : Reader M) (piece : List ℕ) → TookFront B r r piece 0
-  took_none r piece = record { within = omega arith; count = omega arith; accepted = λ bytes h. subst (Accepted B r) (sym (append-nil bytes)) h }
+  pub took_none : (r : Reader M) (piece : List ℕ) → TakesFrontOrStops B r piece r (Ok 0)
+  took_none r piece = takes r r piece 0 refl refl (record { within = omega arith; count = omega arith; accepted = λ bytes h. subst (Accepted B r) (sym (append-nil bytes)) h })
 
   -- the first lines of the piece were taken, and nothing was pending
   pub took_lines : (r s : Reader M) (piece : List ℕ) (first : List (List ℕ)) (n : ℕ) → r.pending.pending ≡ [] → LinesStandFirst piece first n → ((before : List (List ℕ)) → B.led_by before r.machine → B.led_by (before ++ first) s.machine)
@@ -173,23 +179,19 @@ module _ {M : Type 0} (B : Behavior M) where
   stopped_wider : (old new : Reader M) (piece : List ℕ) (room : ℕ) (k : Kind) → Stopped B old new (take room piece) k → Stopped B old new piece k
   stopped_wider old new piece room k h = record {
     kind = h.kind;
-    fault = λ ne bytes a. fault_wider B old.limit bytes piece room (record { line = new.lines + 1; kind = k }) new.machine new.found (h.fault ne bytes a);
+    fault = λ ne bytes a.
+        let f : Fault = record { line = new.lines + 1; kind = k } in
+        subst (λ (x : List ℕ). FaultBehind B old.limit bytes x f new.machine new.found) (take-append-drop room piece) (fault_wider B old.limit bytes (take room piece) (drop room piece) f new.machine new.found (h.fault ne bytes a));
     memory = λ e bytes a. due_wider B old.limit bytes piece room (h.memory e bytes a);
   }
 
   pub advances_wider : (old new : Reader M) (piece front : List ℕ) (room : ℕ) (r : Result ℕ Kind) → front ≡ take room piece → TakesFrontOrStops B old front new r → TakesFrontOrStops B old piece new r
-  advances_wider old new piece front room (Ok n) e h =
-      record { took = took_wider old new piece room n (subst (λ (x : List ℕ). TookFront B old new x n) e h.took); stopped = tt; fault = h.fault; limit = h.limit }
-  advances_wider old new piece front room (Err k) e h =
-      record { took = tt; stopped = stopped_wider old new piece room k (subst (λ (x : List ℕ). Stopped B old new x k) e h.stopped); fault = h.fault; limit = h.limit }
-
-  -- the error that is passed on when a step stops
-  pub advances_no_more : (old new : Reader M) (piece : List ℕ) (r : Result ℕ Kind) (k : Kind) → r ≡ Err k → TakesFrontOrStops B old piece new (Err k) → TakesFrontOrStops B old piece new r
-  advances_no_more old new piece r k e h = subst (λ (x : Result ℕ Kind). TakesFrontOrStops B old piece new x) (sym e) h
+  advances_wider old new piece front room (Ok n) e h = takes old new piece n h.fault h.limit (took_wider old new piece room n (subst (λ (x : List ℕ). TookFront B old new x n) e h.took))
+  advances_wider old new piece front room (Err k) e h = stops old new piece k h.fault h.limit (stopped_wider old new piece room k (subst (λ (x : List ℕ). Stopped B old new x k) e h.stopped))
 
   -- ---- after a prefix of the piece that was taken
 
-  pub took_behind : (old mid new : Reader M) (piece : List ℕ) (i n : ℕ) → TookFront B old mid piece i → TookFront B mid new (rest i piece) n → TookFront B old new piece (i + n)
+  took_behind : (old mid new : Reader M) (piece : List ℕ) (i n : ℕ) → TookFront B old mid piece i → TookFront B mid new (rest i piece) n → TookFront B old new piece (i + n)
   took_behind old mid new piece i n a b =
       let w : n ≤ length (drop i piece) = subst (λ (x : List ℕ). n ≤ length x) (rest_is i piece) b.within in
       record {
@@ -198,7 +200,7 @@ module _ {M : Type 0} (B : Behavior M) where
         accepted = λ bytes h. subst (Accepted B new) (joined bytes piece i n) (b.accepted (bytes ++ take i piece) (a.accepted bytes h));
       }
 
-  pub stopped_behind : (old mid new : Reader M) (piece : List ℕ) (i : ℕ) (k : Kind) → TookFront B old mid piece i → mid.limit ≡ old.limit → Stopped B mid new (rest i piece) k → Stopped B old new piece k
+  stopped_behind : (old mid new : Reader M) (piece : List ℕ) (i : ℕ) (k : Kind) → TookFront B old mid piece i → mid.limit ≡ old.limit → Stopped B mid new (rest i piece) k → Stopped B old new piece k
   stopped_behind old mid new piece i k a same b = record {
     kind = b.kind;
     fault = λ ne bytes h.
@@ -210,3 +212,12 @@ module _ {M : Type 0} (B : Behavior M) where
         (subst (λ (l : ℕ). LineIsDue B l (bytes ++ take i piece) (drop i piece)) same
         (subst (LineIsDue B mid.limit (bytes ++ take i piece)) (rest_is i piece) (b.memory e (bytes ++ take i piece) (a.accepted bytes h))));
   }
+
+  -- a step after another
+  pub goes_on : (old mid new : Reader M) (piece : List ℕ) (i n : ℕ) → TakesFrontOrStops B old piece mid (Ok i) → TakesFrontOrStops B mid (rest i piece) new (Ok n) → TakesFrontOrStops B old piece new (Ok (i + n))
+  goes_on old mid new piece i n a b = takes old new piece (i + n) (b.fault ∙ a.fault) (b.limit ∙ a.limit) (took_behind old mid new piece i n a.took b.took)
+
+  -- and one that stops, whose error is passed on
+  pub stops_behind : (old mid new : Reader M) (piece : List ℕ) (i : ℕ) (r : Result ℕ Kind) (k : Kind) → r ≡ Err k → TakesFrontOrStops B old piece mid (Ok i) → TakesFrontOrStops B mid (rest i piece) new (Err k) → TakesFrontOrStops B old piece new r
+  stops_behind old mid new piece i r k is a b =
+      subst (TakesFrontOrStops B old piece new) (sym is) (stops old new piece k (b.fault ∙ a.fault) (b.limit ∙ a.limit) (stopped_behind old mid new piece i k a.took a.limit b.stopped))

@@ -65,7 +65,7 @@ module _ {T V I S M : Type 0} (F : Format V I S) (Fits : I → Type 0) (node : T
 
   pub fault_of_format : (limit : ℕ) (bytes : List ℕ) (f : Fault) (now : M) (found : Excerpt) → FaultIn B limit bytes f now found → FaultOf F limit bytes f
   fault_of_format limit bytes f now found h =
-      subst (λ (b : List ℕ). FaultOf F limit b f) (append_assoc h.before (h.byte ∷ []) h.after ∙ sym h.whole) (fault_stays F limit (one_more h.before h.byte) h.after f (stopped limit h.machine h.before h.byte f now found h.reached h.line h.stops))
+      subst (λ (b : List ℕ). FaultOf F limit b f) (append_assoc h.front (h.byte ∷ []) h.after ∙ sym h.whole) (fault_stays F limit (one_more h.front h.byte) h.after f (stopped limit h.machine h.front h.byte f now found h.reached h.line h.stops))
 
   pub refusal : (limit : ℕ) (bytes : List ℕ) (r : Refusal M) → IsRefused B limit bytes r → ReadsAs F limit bytes (Err r.fault)
   refusal limit bytes r (inl h) = inl (fault_of_format limit bytes r.fault r.machine r.found h)

@@ -2,14 +2,14 @@
 pub use lib.Count.{count_trailing_zeros}
 pub use lib.Lanes.{chunk, mask_l}
 pub use mir.Syntax.{w8}
-pub use Rattle.std.proofs.Common.{leb, ◌≡◌, ◌≢◌, ℕ, List, [], ◌∷◌, ◌++◌, refl, sym, ap, ◌∙◌, append_assoc, ◌⊎◌, inl, inr, ◌+◌, ◌-◌, ◌≤◌, ◌<◌, Bool, true, false, not, length, take, drop, subst, arith, length-append, length-drop, Result, Ok, Err, ◌*◌, ◌/◌, ◌^◌, cond, ◌==◌, if◌then◌else◌, zero, suc, get_or, map, ap₂, Option, Some, None, IsTrue, ◌&&◌, eqb, IfOk, IsErr, IsErrAnd, rules, ◌↔◌}
+pub use Rattle.std.proofs.Common.{leb, ◌≡◌, ◌≢◌, ℕ, List, [], ◌∷◌, ◌++◌, refl, sym, ap, ◌∙◌, append_assoc, ◌⊎◌, inl, inr, ◌+◌, ◌-◌, ◌≤◌, ◌<◌, Bool, true, false, not, length, take, drop, subst, arith, length-append, length-drop, Result, Ok, Err, ◌==◌, get_or, map, ap₂, Option, Some, None, IsTrue, ◌&&◌, eqb, IfOk, IsErr, IsErrAnd, rules, ◌↔◌}
 pub use Rattle.std.proofs.KnownBytes.{Consumes-nil, Consumes-trans, Consumes-kept}
 pub use Rattle.std.proofs.Math.Dec.{ltb}
 pub use Rattle.std.proofs.Math.Nat.{min_comm}
 pub use Rattle.std.proofs.Math.Seq.{take-add, take-append-add}
 pub use Rattle.std.proofs.lemmas.Bool.{leb-false, ne_eqb, lt-ltb, ltb-true, eqb-true, eqb-false, false≢true}
 pub use Rattle.std.proofs.lemmas.Bool.Decides.{eqb_tells}
-pub use Rattle.std.proofs.lemmas.List.{append-nil, length-take, take_all, take-append-drop, length-take-le, take_at, drop_more, take-append-le, nil_from_length, append_cancel_left, take_min}
+pub use Rattle.std.proofs.lemmas.List.{append-nil, length-take, take_all, take-append-drop, length-take-le, take_at, drop_more, take-append-le, nil_from_length, same_from_push, length_push, take_min}
 pub use Rattle.std.proofs.lemmas.List.Elements.{All-from_get_or}
 pub use Rattle.std.proofs.lemmas.List.Sums.{list_all-from_AllPass}
 pub use Rattle.std.proofs.lemmas.Simd.{run_in_chunk_le, run_in_chunk_fails, leading_from_mask_l, trailing_mask_l, length-chunk, bitmask_splat}

@@ -1,14 +1,10 @@
 -- What a path through the states implies for the bytes, for any format with a grammar.
-use Rattle.sas_reader.proofs.Imports.{◌≡◌, ℕ, ◌+◌, ◌≤◌, ◌≢◌, Bool, List, [], ◌∷◌, ◌++◌, length, map, refl, sym, ap, subst, ◌∙◌, append_assoc, arith, inl, inr, length-append, append-nil, eqb_tells, without_return, lines, unfinished, lines-none, unfinished-none, lines-plain, unfinished-plain, lines-end, unfinished-end, Fault, Kind, End, Trailing, TooLong, lines_of, Reads, Format, IsBegun, Live, MayFollow, too_long, trailing, wrong, FaultOf, EndOf, Node, ended, before, OneLine, After, LeadsToEnd, IsRejected, Rejects, Leads, Grammar}
+use Rattle.sas_reader.proofs.Imports.{◌≡◌, ℕ, ◌+◌, ◌≤◌, ◌≢◌, Bool, List, [], ◌∷◌, ◌++◌, length, map, refl, sym, ap, subst, ◌∙◌, append_assoc, arith, inl, inr, length-append, length_push, append-nil, eqb_tells, without_return, lines, unfinished, lines-none, unfinished-none, lines-plain, unfinished-plain, lines-end, unfinished-end, Fault, Kind, End, Trailing, TooLong, lines_of, Reads, Format, IsBegun, Live, MayFollow, KindAt, too_long, trailing, wrong, FaultOf, EndOf, Node, ended, before, OneLine, After, LeadsToEnd, IsRejected, Rejects, Leads, Grammar}
 use Rattle.sas_reader.proofs.Paths.{Path, cut_at, map-append, ended_stops, after_append, after_ends, ends_split, ends_after, same_path}
 
 -- one more byte
 abbrev pub one_more : List ℕ → ℕ → List ℕ
 one_more bytes byte = bytes ++ byte ∷ []
-
-not_nil : (xs : List ℕ) (x : ℕ) → xs ++ x ∷ [] ≡ [] → ⊥
-not_nil [] x e = absurd cc
-not_nil (y ∷ xs) x e = absurd cc
 
 module _ {T V I S : Type 0} (F : Format V I S) (Fits : I → Type 0) (node : T → Node T V I S) (start : T) where
   -- ---- paths
@@ -67,17 +63,11 @@ module _ {T V I S : Type 0} (F : Format V I S) (Fits : I → Type 0) (node : T �
 
   -- ---- the fault at one byte
 
+  fault_at : (limit : ℕ) (p : T) (bytes : List ℕ) (byte : ℕ) (f : Fault) → Path F Fits node start p bytes → length bytes ≤ limit → f.line ≡ length (lines bytes) + 1 → (Live F limit (one_more bytes byte) → ⊥) → KindAt F limit bytes byte f.kind → FaultOf F limit (one_more bytes byte) f
+  fault_at limit p bytes byte f h l n dead k = record { before = bytes; byte = byte; after = []; whole = refl; live = live limit p bytes l h; dead = dead; line = n; kind = k }
+
   pub fault_long : (limit : ℕ) (p : T) (bytes : List ℕ) (byte : ℕ) (f : Fault) → Path F Fits node start p bytes → length bytes ≡ limit → f.line ≡ length (lines bytes) + 1 → f.kind ≡ TooLong → FaultOf F limit (one_more bytes byte) f
-  fault_long limit p bytes byte f h l n k = record {
-    before = bytes;
-    byte = byte;
-    after = [];
-    whole = refl;
-    line = n;
-    live = live limit p bytes (omega arith) h;
-    dead = λ x. let s : length (one_more bytes byte) ≤ limit = x.short in omega (arith, length-append bytes (byte ∷ []));
-    kind = too_long (omega arith) k;
-  }
+  fault_long limit p bytes byte f h l n k = fault_at limit p bytes byte f h (omega arith) n (λ x. let s : length (one_more bytes byte) ≤ limit = x.short in omega (arith, length-append bytes (byte ∷ []))) (too_long (omega arith) k)
 
   pub reads_done : (p : T) (v : V) (bytes : List ℕ) → node p ≡ ended v → Path F Fits node start p bytes → Reads F.texts bytes v
   reads_done p v bytes e h =
@@ -90,20 +80,11 @@ module _ {T V I S : Type 0} (F : Format V I S) (Fits : I → Type 0) (node : T �
         | inl y ↦ no_line p (lines bytes) (without_return (unfinished bytes)) h.leads (λ i is w a _. ended_stops F Fits (node p) v i (λ r. LeadsToEnd F Fits node r is w) d a) (subst (IsBegun F) (ap (λ (b : ℕ). lines (one_more bytes b)) y.1 ∙ lines-end bytes) x.begun)
         | inr n ↦
             let r = reads_done p v bytes d h in
-            not_nil (unfinished bytes) byte (sym (unfinished-plain bytes byte n.1) ∙ x.whole v r.good (sym r.lines ∙ sym (lines-plain bytes byte n.1)))
+            omega (arith, length_push (unfinished bytes) byte, ap length (sym (unfinished-plain bytes byte n.1) ∙ x.whole v r.good (sym r.lines ∙ sym (lines-plain bytes byte n.1))))
       ]
 
   pub fault_done : (limit : ℕ) (p : T) (v : V) (bytes : List ℕ) (byte : ℕ) (f : Fault) → node p ≡ ended v → Path F Fits node start p bytes → length bytes + 1 ≤ limit → f.line ≡ length (lines bytes) + 1 → f.kind ≡ Trailing → FaultOf F limit (one_more bytes byte) f
-  fault_done limit p v bytes byte f d h l n k = record {
-    before = bytes;
-    byte = byte;
-    after = [];
-    whole = refl;
-    line = n;
-    live = live limit p bytes (omega arith) h;
-    dead = done_dead limit p v bytes byte d h;
-    kind = trailing l v (reads_done p v bytes d h) k;
-  }
+  fault_done limit p v bytes byte f d h l n k = fault_at limit p bytes byte f h (omega arith) n (done_dead limit p v bytes byte d h) (trailing l v (reads_done p v bytes d h) k)
 
   -- a state before a line: every completion begins with a line of its slot
   begins : (p : T) (s : S) (ok : I → Bool) (next : I → T) (v : V) (is : List I) → node p ≡ before s ok next → LeadsToEnd F Fits node p is v → (i : I) × (js : List I) × (is ≡ i ∷ js) × (F.slot_of i ≡ s)
@@ -121,16 +102,8 @@ module _ {T V I S : Type 0} (F : Format V I S) (Fits : I → Type 0) (node : T �
   line_dead limit p s ok next bytes k e h j x = no_line p (lines bytes) (without_return (unfinished bytes)) h.leads (λ i is v a q. j.none i ((subst (λ n. OneLine F Fits n i (λ r. LeadsToEnd F Fits node r is v)) e a).0) q) (subst (IsBegun F) (lines-end bytes) x.begun)
 
   pub fault_line : (limit : ℕ) (p : T) (s : S) (ok : I → Bool) (next : I → T) (bytes : List ℕ) (f : Fault) → node p ≡ before s ok next → Path F Fits node start p bytes → IsRejected F Fits s ok (without_return (unfinished bytes)) f.kind → length bytes + 1 ≤ limit → f.line ≡ length (lines bytes) + 1 → FaultOf F limit (one_more bytes 10) f
-  fault_line limit p s ok next bytes f e h j l n = record {
-    before = bytes;
-    byte = 10;
-    after = [];
-    whole = refl;
-    line = n;
-    live = live limit p bytes (omega arith) h;
-    dead = line_dead limit p s ok next bytes f.kind e h j;
-    kind = wrong l (without_return (unfinished bytes)) (lines-end bytes) s (next_slot p s ok next (lines bytes) e h.leads) j.kind;
-  }
+  fault_line limit p s ok next bytes f e h j l n =
+      fault_at limit p bytes 10 f h (omega arith) n (line_dead limit p s ok next bytes f.kind e h j) (wrong l (without_return (unfinished bytes)) (lines-end bytes) s (next_slot p s ok next (lines bytes) e h.leads) j.kind)
 
   -- a line that the node rejects
   pub rejected_as : (n : Node T V I S) (line : List ℕ) (k : Kind) → Rejects F Fits n line k → (s : S) × (ok : I → Bool) × (next : I → T) × (n ≡ before s ok next) × IsRejected F Fits s ok line k
@@ -151,5 +124,5 @@ module _ {T V I S : Type 0} (F : Format V I S) (Fits : I → Type 0) (node : T �
   }
 
 -- more bytes don't change a fault
-pub fault_stays : {V I S : Type 0} (F : Format V I S) (limit : ℕ) (bytes more : List ℕ) (f : Fault) → FaultOf F limit bytes f → FaultOf F limit (bytes ++ more) f
+unfoldable pub fault_stays : {V I S : Type 0} (F : Format V I S) (limit : ℕ) (bytes more : List ℕ) (f : Fault) → FaultOf F limit bytes f → FaultOf F limit (bytes ++ more) f
 fault_stays F limit bytes more f h = record { before = h.before; byte = h.byte; after = h.after ++ more; whole = ap (λ (b : List ℕ). b ++ more) h.whole ∙ append_assoc h.before (h.byte ∷ h.after) more; live = h.live; dead = h.dead; line = h.line; kind = h.kind }

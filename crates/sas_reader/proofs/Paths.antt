@@ -1,4 +1,5 @@
 -- The same lines lead to one state.
+pub use Rattle.std.proofs.lemmas.List.{map-append}
 use Rattle.sas_reader.proofs.Imports.{◌≡◌, ℕ, Bool, List, [], ◌∷◌, ◌++◌, map, refl, sym, ap, subst, ◌∙◌, lines, unfinished, Format, Node, ended, before, IsAllowed, OneLine, After, LeadsToEnd, Leads, Grammar}
 
 -- ---- the lines of a list, cut after a prefix
@@ -18,10 +19,6 @@ cut_at spelled (l ∷ front) back (i ∷ is) e =
     let others : map spelled is ≡ front ++ back = cc in
     let c = cut_at spelled front back is others in
     record { before = i ∷ c.before; after = c.after; whole = ap (λ x. i ∷ x) c.whole; front_is = ap (λ (x : List ℕ). x ∷ map spelled c.before) one ∙ ap (λ (x : List (List ℕ)). l ∷ x) c.front_is; back_is = c.back_is }
-
-pub map-append : {I : Type 0} (f : I → List ℕ) (xs ys : List I) → map f (xs ++ ys) ≡ map f xs ++ map f ys
-map-append f [] ys = refl
-map-append f (x ∷ xs) ys = ap (λ (l : List (List ℕ)). f x ∷ l) (map-append f xs ys)
 
 pub record SamePath {T I : Type 0} (q r : T) (is js : List I) : Type 0 where
   pub state : q ≡ r

@@ -117,13 +117,13 @@ module _ {M : Type 0} (B : Behavior M) where
       }
 
   -- a fault in a prefix of a piece
-  pub fault_wider : (limit : ℕ) (bytes piece : List ℕ) (m : ℕ) (f : Fault) (now : M) (found : Excerpt) → FaultBehind B limit bytes (take m piece) f now found → FaultBehind B limit bytes piece f now found
-  fault_wider limit bytes piece m f now found h = record {
+  pub fault_wider : (limit : ℕ) (bytes front rest : List ℕ) (f : Fault) (now : M) (found : Excerpt) → FaultBehind B limit bytes front f now found → FaultBehind B limit bytes (front ++ rest) f now found
+  fault_wider limit bytes front rest f now found h = record {
     machine = h.machine;
     front = h.front;
     byte = h.byte;
-    after = h.after ++ drop m piece;
-    whole = sym (take-append-drop m piece) ∙ ap (λ (x : List ℕ). x ++ drop m piece) h.whole ∙ append_assoc h.front (h.byte ∷ h.after) (drop m piece);
+    after = h.after ++ rest;
+    whole = ap (λ (x : List ℕ). x ++ rest) h.whole ∙ append_assoc h.front (h.byte ∷ h.after) rest;
     reached = h.reached;
     line = h.line;
     stops = h.stops;

@@ -13,33 +13,33 @@ module _ {T V I S M : Type 0} (F : Format V I S) (Fits : I → Type 0) (node : T
     pub kept : IsFoundOf text found
     pub stands : StandsBehind B accepted text f.kind now
 
-  fault_reported : (limit : ℕ) (bytes : List ℕ) (f : Fault) (now : M) (found : Excerpt) → ConcernsText f.kind → (h : FaultIn B limit bytes f now found) → Stops B limit h.machine h.before h.byte f.kind now found → Answer limit bytes f now found
+  fault_reported : (limit : ℕ) (bytes : List ℕ) (f : Fault) (now : M) (found : Excerpt) → ConcernsText f.kind → (h : FaultIn B limit bytes f now found) → Stops B limit h.machine h.front h.byte f.kind now found → Answer limit bytes f now found
   fault_reported limit bytes f now found reported h (full l k) = absurd (reported.1 k)
   fault_reported limit bytes f now found reported h (over l d k stays is) =
-      let a = follows (lines h.before) h.machine h.reached.led in
-      let path = path_of F Fits node start g B follows h.machine h.before h.reached in
+      let a = follows (lines h.front) h.machine h.reached.led in
+      let path = path_of F Fits node start g B follows h.machine h.front h.reached in
       let v = a.value d in
-      let reads = reads_done F Fits node start g a.state v.0 h.before v.1 path in
-      let fault : FaultOf F limit bytes f = record { before = h.before; byte = h.byte; after = h.after; whole = h.whole; live = live F Fits node start g limit a.state h.before (omega (arith, l)) path; dead = done_dead F Fits node start g limit a.state v.0 h.before h.byte v.1 path; line = h.line; kind = trailing l v.0 reads k } in
+      let reads = reads_done F Fits node start g a.state v.0 h.front v.1 path in
+      let fault : FaultOf F limit bytes f = record { before = h.front; byte = h.byte; after = h.after; whole = h.whole; live = live F Fits node start g limit a.state h.front (omega (arith, l)) path; dead = done_dead F Fits node start g limit a.state v.0 h.front h.byte v.1 path; line = h.line; kind = trailing l v.0 reads k } in
       record {
-        accepted = lines h.before;
+        accepted = lines h.front;
         text = h.byte ∷ [];
         about = of_byte fault refl refl v.0 reads k;
         kept = is;
-        stands = behind_text (subst (λ (m : M). B.led_by (lines h.before) m) (sym stays) h.reached.led) (subst B.ended (sym stays) d) k;
+        stands = behind_text (subst (λ (m : M). B.led_by (lines h.front) m) (sym stays) h.reached.led) (subst B.ended (sym stays) d) k;
       }
   fault_reported limit bytes f now found reported h (rejected l going b r behind is) =
-      let line = without_return (unfinished h.before) in
-      let a = follows (lines h.before) h.machine h.reached.led in
-      let path = path_of F Fits node start g B follows h.machine h.before h.reached in
+      let line = without_return (unfinished h.front) in
+      let a = follows (lines h.front) h.machine h.reached.led in
+      let path = path_of F Fits node start g B follows h.machine h.front h.reached in
       let refused = a.refuses line f.kind going r in
       let j = rejected_as F Fits node start g (node a.state) line f.kind refused in
-      let ended : lines (h.before ++ h.byte ∷ []) ≡ lines h.before ++ line ∷ [] = ap (λ (y : ℕ). lines (h.before ++ y ∷ [])) b ∙ lines-end h.before in
-      let next = next_slot F Fits node start g a.state j.0 j.1 j.2 (lines h.before) j.3 a.leads in
-      let dead = line_dead F Fits node start g limit a.state j.0 j.1 j.2 h.before f.kind j.3 path j.4 in
-      let fault : FaultOf F limit bytes f = record { before = h.before; byte = h.byte; after = h.after; whole = h.whole; live = live F Fits node start g limit a.state h.before (omega (arith, l)) path; dead = subst (λ (y : ℕ). Live F limit (h.before ++ y ∷ []) → ⊥) (sym b) dead; line = h.line; kind = wrong l line ended j.0 next j.4.kind } in
+      let ended : lines (h.front ++ h.byte ∷ []) ≡ lines h.front ++ line ∷ [] = ap (λ (y : ℕ). lines (h.front ++ y ∷ [])) b ∙ lines-end h.front in
+      let next = next_slot F Fits node start g a.state j.0 j.1 j.2 (lines h.front) j.3 a.leads in
+      let dead = line_dead F Fits node start g limit a.state j.0 j.1 j.2 h.front f.kind j.3 path j.4 in
+      let fault : FaultOf F limit bytes f = record { before = h.front; byte = h.byte; after = h.after; whole = h.whole; live = live F Fits node start g limit a.state h.front (omega (arith, l)) path; dead = subst (λ (y : ℕ). Live F limit (h.front ++ y ∷ []) → ⊥) (sym b) dead; line = h.line; kind = wrong l line ended j.0 next j.4.kind } in
       record {
-        accepted = lines h.before;
+        accepted = lines h.front;
         text = line;
         about = of_line fault refl ended j.0 next j.4.kind;
         kept = is;

@@ -1,6 +1,6 @@
 -- The laws of any format with a grammar.
 use Rattle.std.proofs.lemmas.Grind.{common_steps}
-use Rattle.sas_reader.proofs.Imports.{◌≡◌, ◌≢◌, ℕ, ◌+◌, ◌≤◌, List, [], ◌∷◌, ◌++◌, length, map, refl, sym, ap, subst, ◌∙◌, append_assoc, arith, ◌⊎◌, inl, inr, length-append, Ok, Err, append-nil, append_cancel_left, eqb_tells, lines, unfinished, lines-plain, unfinished-plain, lines-end, Fault, Kind, TooLong, lines_of, Reads, Format, Live, MayFollow, KindAt, too_long, trailing, wrong, FaultOf, EndOf, Node, ended, After, LeadsToEnd, Grammar, OneValue, OneSlot, NoSlotAtEnd, FaultIsDead, OneFault, TextIsLive, FaultIsNoText, OneReading}
+use Rattle.sas_reader.proofs.Imports.{◌≡◌, ◌≢◌, ℕ, ◌+◌, ◌≤◌, List, [], ◌∷◌, ◌++◌, length, map, refl, sym, ap, subst, ◌∙◌, append_assoc, arith, ◌⊎◌, inl, inr, length-append, Ok, Err, append-nil, same_from_push, eqb_tells, lines, unfinished, lines-plain, unfinished-plain, lines-end, Fault, Kind, TooLong, lines_of, Reads, Format, Live, MayFollow, KindAt, too_long, trailing, wrong, FaultOf, EndOf, Node, ended, After, LeadsToEnd, Grammar, OneValue, OneSlot, NoSlotAtEnd, FaultIsDead, OneFault, TextIsLive, FaultIsNoText, OneReading}
 use Rattle.sas_reader.proofs.Paths.{cut_at, ended_stops, same_path, ends_split, ends_after, slot_at, takes_at, one_ended}
 
 -- ---- how bytes can be extended: with more lines, or with a longer rest
@@ -24,10 +24,6 @@ grows : (b c : List ℕ) → Grown b c
 grows b [] = record { more = []; lines_are = ap lines (append-nil b) ∙ sym (append-nil (lines b)); rest_is = λ e. ap unfinished (append-nil b) ∙ sym (append-nil (unfinished b)) }
 grows b (x ∷ c) = grows-by b c x (grows (b ++ x ∷ []) c)
 
-append_none : (xs : List ℕ) (x : ℕ) (c : List ℕ) → xs ++ x ∷ c ≡ [] → ⊥
-append_none [] x c e = absurd cc
-append_none (y ∷ xs) x c e = absurd cc
-
 -- ---- byte lists with a fault at a byte, cut before that byte
 
 record Longer (d : List ℕ) (x : ℕ) (e : List ℕ) : Type 0 where
@@ -46,9 +42,6 @@ meet (z ∷ d) (w ∷ e) x y a b q =
       | inr (inl m) ↦ inr (inl (record { more = m.more; is = ap (λ (v : ℕ). v ∷ e) (sym h) ∙ ap (λ (v : List ℕ). z ∷ v) m.is }))
       | inr (inr m) ↦ inr (inr (record { more = m.more; is = ap (λ (v : ℕ). v ∷ d) h ∙ ap (λ (v : List ℕ). w ∷ v) m.is }))
     ]
-
-pub one_line : (ls : List (List ℕ)) (a b : List ℕ) → ls ++ a ∷ [] ≡ ls ++ b ∷ [] → a ≡ b
-one_line ls a b e = let c = append_cancel_left ls (a ∷ []) (b ∷ []) e in cc
 
 same_fault : (f g : Fault) → f.line ≡ g.line → f.kind ≡ g.kind → f ≡ g
 same_fault f g a b = ap (λ (x : ℕ). let r : Fault = record { line = x; kind = f.kind } in r) a ∙ ap (λ (x : Kind). let r : Fault = record { line = g.line; kind = x } in r) b
@@ -83,7 +76,7 @@ module _ {T V I S : Type 0} (F : Format V I S) (Fits : I → Type 0) (node : T �
       ends u.0 v w c.after l more u.2 (subst (λ x. LeadsToEnd F Fits node x c.after w) s.state t.2) c.back_is
 
   ended_here : (limit : ℕ) (b : List ℕ) (x : ℕ) (c : List ℕ) (v : V) (more : List (List ℕ)) → F.texts.Good v → lines_of F.texts v ≡ lines b → lines (b ++ x ∷ c) ≡ lines b ++ more → (more ≡ [] → unfinished (b ++ x ∷ c) ≡ unfinished b ++ x ∷ c) → Live F limit (b ++ x ∷ c) → ⊥
-  ended_here limit b x c v [] h e l f a = append_none (unfinished b) x c (sym (f refl) ∙ a.whole v h (e ∙ sym (append-nil (lines b)) ∙ sym l))
+  ended_here limit b x c v [] h e l f a = omega (arith, length-append (unfinished b) (x ∷ c), ap length (sym (f refl) ∙ a.whole v h (e ∙ sym (append-nil (lines b)) ∙ sym l)))
   ended_here limit b x c v (m ∷ more) h e l f a =
       let w = a.begun in
       no_more v w.0 m (more ++ w.1) h w.2 (w.3 ∙ ap (λ (y : List (List ℕ)). y ++ w.1) (l ∙ ap (λ (y : List (List ℕ)). y ++ m ∷ more) (sym e)) ∙ append_assoc (lines_of F.texts v) (m ∷ more) w.1)
@@ -162,7 +155,7 @@ module _ {T V I S : Type 0} (F : Format V I S) (Fits : I → Type 0) (node : T �
   one_kind limit bytes x k j (wrong l line h s n e) (too_long m f) = absurd (omega arith)
   one_kind limit bytes x k j (wrong l line h s n e) (trailing m v r f) = absurd (no_slot_at_end (lines bytes) s v n r.good (sym r.lines))
   one_kind limit bytes x k j (wrong l line h s n e) (wrong m other i t o f) =
-      g.one_kind s line k j e (subst (λ y. F.KindOf y line j) (one_slot (lines bytes) t s o n) (subst (λ (y : List ℕ). F.KindOf t y j) (one_line (lines bytes) other line (sym i ∙ h)) f))
+      g.one_kind s line k j e (subst (λ y. F.KindOf y line j) (one_slot (lines bytes) t s o n) (subst (λ (y : List ℕ). F.KindOf t y j) (same_from_push (lines bytes) (lines bytes) other line (sym i ∙ h)).1 f))
 
   not_longer : (limit : ℕ) (bytes : List ℕ) (f h : Fault) (a : FaultOf F limit bytes f) (b : FaultOf F limit bytes h) → Longer a.before a.byte b.before → ⊥
   not_longer limit bytes f h a b m = a.dead (live-front limit (a.before ++ a.byte ∷ []) m.more (subst (Live F limit) m.is b.live))

@@ -63,17 +63,22 @@ module _ {M : Type 0} (B : Behavior M) where
         → IsFoundOf (without_return (unfinished bytes)) found
         → Stops limit machine bytes byte k now found
 
-  -- the bytes have this fault with this text, and the machine is in this state after it
-  pub record FaultIn (limit : ℕ) (bytes : List ℕ) (f : Fault) (now : M)
+  -- a piece after these bytes has this fault with this text, and the machine is in this state
+  -- after it
+  pub record FaultBehind (limit : ℕ) (bytes piece : List ℕ) (f : Fault) (now : M)
       (found : Excerpt) : Type 0 where
     pub machine : M
-    pub before : List ℕ
+    pub front : List ℕ
     pub byte : ℕ
     pub after : List ℕ
-    pub whole : bytes ≡ before ++ byte ∷ after
-    pub reached : Reached machine before
-    pub line : f.line ≡ length (lines before) + 1
-    pub stops : Stops limit machine before byte f.kind now found
+    pub whole : piece ≡ front ++ byte ∷ after
+    pub reached : Reached machine (bytes ++ front)
+    pub line : f.line ≡ length (lines (bytes ++ front)) + 1
+    pub stops : Stops limit machine (bytes ++ front) byte f.kind now found
+
+  -- the same for bytes from the start
+  abbrev pub FaultIn : ℕ → List ℕ → Fault → M → Excerpt → Type 0
+  FaultIn limit bytes f now found = FaultBehind limit [] bytes f now found
 
   abbrev pub StandsAt : Option Fault → Reader M → List ℕ → Type 0
   StandsAt None r bytes = Accepted r bytes
@@ -110,18 +115,6 @@ module _ {M : Type 0} (B : Behavior M) where
     pub within : n ≤ length piece
     pub count : new.taken ≡ old.taken + n
     pub accepted : (bytes : List ℕ) → Accepted old bytes → Accepted new (bytes ++ take n piece)
-
-  -- like `FaultIn`, for a piece after these bytes that has the faulty byte
-  pub record FaultBehind (limit : ℕ) (bytes piece : List ℕ) (f : Fault) (now : M)
-      (found : Excerpt) : Type 0 where
-    pub machine : M
-    pub front : List ℕ
-    pub byte : ℕ
-    pub after : List ℕ
-    pub whole : piece ≡ front ++ byte ∷ after
-    pub reached : Reached machine (bytes ++ front)
-    pub line : f.line ≡ length (lines (bytes ++ front)) + 1
-    pub stops : Stops limit machine (bytes ++ front) byte f.kind now found
 
   -- the reader stopped in the piece: a byte of it may not follow, or it ran out of memory while a
   -- line is expected

@@ -1,5 +1,6 @@
-use Rattle.sas_reader.proofs.Imports.{ℕ, ◌+◌, ◌≡◌, List, ◌++◌, refl, sym, ap, subst, ◌∙◌, arith, take_all, Some, None, Fault, answer, Accepted, FaultIn}
-use Rattle.sas_reader.proofs.Standing.{accepted_of, stands_accepted, stands_fault, stands_more, fault_in_piece}
+use Rattle.sas_reader.proofs.Imports.{ℕ, ◌+◌, ◌≡◌, List, [], ◌++◌, refl, sym, ap, subst, ◌∙◌, arith, take_all, Some, None, Fault, answer, Accepted, FaultIn}
+use Rattle.sas_reader.proofs.Standing.{accepted_of, stands_accepted, stands_fault, stands_more}
+use Rattle.sas_reader.proofs.Pieces.{fault_behind}
 use Rattle.sas_reader.proofs.reader.Reader.feed.Goals as goal
 
 pub returns-in-Some : goal.returns-in-Some
@@ -29,7 +30,7 @@ returns-in-Err g c =
       stands = λ bytes s.
           stands_fault g.M.Machine.behavior _ _ (bytes ++ c.args.piece.now) refl (λ ne.
           subst (λ (l : ℕ). FaultIn g.M.Machine.behavior l (bytes ++ c.args.piece.now) f next.machine next.found) (sym step.limit)
-          (fault_in_piece g.M.Machine.behavior c.args.self.now.limit bytes c.args.piece.now f next.machine next.found
+          (fault_behind g.M.Machine.behavior c.args.self.now.limit [] (bytes ++ c.args.piece.now) bytes c.args.piece.now f next.machine next.found refl
           (step.stopped.fault ne bytes (accepted_of g.M.Machine.behavior c.args.self.now bytes none s))));
     }
 

@@ -1,50 +1,35 @@
 use Rattle.std.proofs.lemmas.Grind.{common_steps}
 use Rattle.sas_reader.proofs.Imports.{◌∙◌, sym, subst, ℕ, List, refl, arith, IsFoundOf}
-use Rattle.sas_reader.proofs.Advancing.{accepted_part, accepted_line, stopped_at, takes_some}
+use Rattle.sas_reader.proofs.Advancing.{takes, stops, accepted_part, accepted_line, stopped_at, takes_some}
 use Rattle.sas_reader.proofs.Pieces.{takes_bound}
 use Rattle.sas_reader.proofs.reader.Reader.take_cut_line.Goals as goal
 
 pub returns-then-not-fed-clause-advances : goal.returns-then-not-fed-clause-advances
 returns-then-not-fed-clause-advances g c =
     let fed = c.in_ok-fed.ensures in
-    record {
-      took = record {
-        within = takes_bound _ _ _ fed.taken;
-        count = refl;
-        accepted = λ bytes h. accepted_part g.M.Machine.behavior c.args.self.now _ bytes c.args.piece.now c.in_ok-fed.fed.taken c.in_ok-fed.fed.complete h c.requires.going c.if-not-fed.true
-            (record { taken = fed.taken; lines = fed.lines; rest = fed.pending }) refl refl refl;
-      };
-      stopped = tt;
-      fault = refl;
-      limit = refl;
-    }
+    takes g.M.Machine.behavior _ _ _ _ refl refl (record {
+      within = takes_bound _ _ _ fed.taken;
+      count = refl;
+      accepted = λ bytes h. accepted_part g.M.Machine.behavior c.args.self.now _ bytes c.args.piece.now c.in_ok-fed.fed.taken c.in_ok-fed.fed.complete h c.requires.going c.if-not-fed.true
+          (record { taken = fed.taken; lines = fed.lines; rest = fed.pending }) refl refl refl;
+    })
 
 pub returns-in-Err-clause-advances : goal.returns-in-Err-clause-advances
 returns-in-Err-clause-advances g c =
     let fed = c.in_ok-fed.ensures in
-    record {
-      took = tt;
-      stopped = stopped_at g.M.Machine.behavior c.args.self.now _ c.args.piece.now c.line.result.now c.in_ok-fed.fed.taken c.in_ok-fed.fed.complete c.feed.new.self _ c.requires.some c.requires.going c.if-not-fed.false
-          (record { taken = fed.taken; lines = fed.lines; rest = fed.pending }) c.line.ensures c.requires.room c.in-Err.ensures.kind c.in-Err.ensures.rejects c.in-Err.ensures.stopped
-          (subst (λ (x : List ℕ). IsFoundOf x c.of-self.result) (c.line-in-Err.ensures ∙ sym c.line.ensures) c.of-self.ensures) refl;
-      fault = refl;
-      limit = refl;
-    }
+    stops g.M.Machine.behavior _ _ _ _ refl refl (stopped_at g.M.Machine.behavior c.args.self.now _ c.args.piece.now c.line.result.now c.in_ok-fed.fed.taken c.in_ok-fed.fed.complete c.feed.new.self _ c.requires.some c.requires.going c.if-not-fed.false
+    (record { taken = fed.taken; lines = fed.lines; rest = fed.pending }) c.line.ensures c.requires.room c.in-Err.ensures.kind c.in-Err.ensures.rejects c.in-Err.ensures.stopped
+    (subst (λ (x : List ℕ). IsFoundOf x c.of-self.result) (c.line-in-Err.ensures ∙ sym c.line.ensures) c.of-self.ensures) refl)
 
 pub returns-in-Ok-clause-advances : goal.returns-in-Ok-clause-advances
 returns-in-Ok-clause-advances g c =
     let fed = c.in_ok-fed.ensures in
-    record {
-      took = record {
-        within = takes_bound _ _ _ fed.taken;
-        count = refl;
-        accepted = λ bytes h. accepted_line g.M.Machine.behavior c.args.self.now _ bytes c.args.piece.now c.line.result.now c.in_ok-fed.fed.taken c.in_ok-fed.fed.complete c.accept.new.self c.feed.new.self h c.if-not-fed.false
-            (record { taken = fed.taken; lines = fed.lines; rest = fed.pending }) fed.complete c.line.ensures c.in-Ok.ensures.led refl refl refl refl;
-      };
-      stopped = tt;
-      fault = refl;
-      limit = refl;
-    }
+    takes g.M.Machine.behavior _ _ _ _ refl refl (record {
+      within = takes_bound _ _ _ fed.taken;
+      count = refl;
+      accepted = λ bytes h. accepted_line g.M.Machine.behavior c.args.self.now _ bytes c.args.piece.now c.line.result.now c.in_ok-fed.fed.taken c.in_ok-fed.fed.complete c.accept.new.self c.feed.new.self h c.if-not-fed.false
+          (record { taken = fed.taken; lines = fed.lines; rest = fed.pending }) fed.complete c.line.ensures c.in-Ok.ensures.led refl refl refl refl;
+    })
 
 pub returns-in_err-fed-clause-advances : goal.returns-in_err-fed-clause-advances
 returns-in_err-fed-clause-advances g c = grind (arith, common_steps)

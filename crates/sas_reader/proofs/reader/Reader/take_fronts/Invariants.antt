@@ -1,15 +1,13 @@
-use Rattle.sas_reader.proofs.Imports.{length, ◌-◌, ◌≡◌, ◌≤◌, ◌+◌, [], TookFront}
+use Rattle.sas_reader.proofs.Imports.{length, ◌-◌, ◌≡◌, ◌≤◌, ◌+◌, [], Ok, TakesFrontOrStops}
 use Rattle.sas_reader.proofs.reader.Reader.take_fronts.Given as goal
 
 -- `at` bytes were taken, and nothing is pending
 abbrev pub invariant-loop-at : goal.invariant-loop-at
 invariant-loop-at g l =
     record {
-      took : TookFront g.M.Machine.behavior l.initial.self l.self l.within l.at;
+      took : TakesFrontOrStops g.M.Machine.behavior l.initial.self l.within l.self (Ok l.at);
       room : l.initial.self.taken + length l.within ≤ l.initial.self.limit;
       whole : l.self.pending.pending ≡ [];
-      fault : l.self.fault ≡ l.initial.self.fault;
-      limit : l.self.limit ≡ l.initial.self.limit;
     }
 
 abbrev pub decreases-loop-at : goal.decreases-loop-at
