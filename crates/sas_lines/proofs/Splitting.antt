@@ -57,14 +57,11 @@ lines-part bytes w h =
     let n = Without-append 10 (unfinished bytes) w (unfinished-plain_all bytes) h in
     lines-append bytes w ∙ ap (λ (l : List (List ℕ)). lines bytes ++ l) (lines-without (unfinished bytes ++ w) n) ∙ append-nil (lines bytes)
 
-pub unfinished-part : (bytes w : List ℕ) → NoEnd w → unfinished (bytes ++ w) ≡ unfinished bytes ++ w
-unfinished-part bytes w h = unfinished-append bytes w ∙ unfinished-without (unfinished bytes ++ w) (Without-append 10 (unfinished bytes) w (unfinished-plain_all bytes) h)
-
 pub lines-plain : (bytes : List ℕ) (byte : ℕ) → byte ≢ 10 → lines (bytes ++ byte ∷ []) ≡ lines bytes
 lines-plain bytes byte h = lines-part bytes (byte ∷ []) (h, tt)
 
 pub unfinished-plain : (bytes : List ℕ) (byte : ℕ) → byte ≢ 10 → unfinished (bytes ++ byte ∷ []) ≡ unfinished bytes ++ byte ∷ []
-unfinished-plain bytes byte h = unfinished-part bytes (byte ∷ []) (h, tt)
+unfinished-plain bytes byte h = unfinished-append bytes (byte ∷ []) ∙ unfinished-without (unfinished bytes ++ byte ∷ []) (Without-append 10 (unfinished bytes) (byte ∷ []) (unfinished-plain_all bytes) (h, tt))
 
 -- ---- up to a line end
 

@@ -9,11 +9,8 @@ NoSpace bytes = Without 32 bytes
 pub words-first : (w rest : List ℕ) → NoSpace w → segments 32 (w ++ 32 ∷ rest) ≡ w ∷ segments 32 rest
 words-first w rest h = segments-first 32 w rest h
 
-pub words-only : (w : List ℕ) → NoSpace w → segments 32 w ≡ w ∷ []
-words-only w h = segments-only 32 w h
-
 pub words-joined : (w : List ℕ) (ws : List (List ℕ)) → NoSpace w → AllByRecursion NoSpace ws → segments 32 (joined (w ∷ ws)) ≡ w ∷ ws
-words-joined w [] h g = words-only w h
+words-joined w [] h g = segments-only 32 w h
 words-joined w (v ∷ ws) h g = words-first w (joined (v ∷ ws)) h ∙ ap (λ (l : List (List ℕ)). w ∷ l) (words-joined v ws g.0 g.1)
 
 -- words without a space can be separated again from what they are joined to
