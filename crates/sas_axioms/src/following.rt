@@ -100,8 +100,8 @@ fn fall<T: Grounded>(
         if has_lost(layered, rule, work, state) {
             let var = layered.rule_change(rule).var;
             let value = layered.initial_value(var);
-            set_to(indexed, Fact { var, value }, work, state, touched)?;
             make_ready(indexed.setting.get(var as usize), &mut work.agenda)?;
+            set_to(indexed, Fact { var, value }, work, state, touched)?;
         } else {
             work.agenda.make_ready(rule)?;
         }

@@ -57,8 +57,8 @@ all_fired : (p : Parts) (start layer end : ℕ) (s counters : List ℕ) (rules :
 all_fired p start layer end s counters rules are here le last fired rule on none =
     let w = before_end p start layer end counters rules are here le last rule on none in
     let entry : LayerRule = record { layer = layer; rule = rule } in
-    let its : (get_or rules w.0 entry).rule ≡ rule = ap (λ (r : LayerRule). r.rule) w.3 in
-    subst (λ k. get_or s (rule_at p k).var 0 ≡ (rule_at p k).new) its (fired w.0 entry w.1 w.2 (subst (λ k. get_or counters k 0 ≡ 0) (sym its) none))
+    let its : (get_or rules w.0.at entry).rule ≡ rule = ap (λ (r : LayerRule). r.rule) w.0.is in
+    subst (λ k. get_or s (rule_at p k).var 0 ≡ (rule_at p k).new) its (fired w.0.at entry w.0.from_start w.1 (subst (λ k. get_or counters k 0 ≡ 0) (sym its) none))
 
 pub returns-else-rules-next-clause-at_work : goal.returns-else-rules-next-clause-at_work
 returns-else-rules-next-clause-at_work g c =

@@ -1,12 +1,8 @@
--- A rule that has no open conditions and doesn't have to fire has fired, or is on another layer.
-use Rattle.sas_axioms.proofs.Imports.{arith}
+-- The variable of the rule exists.
+use Rattle.sas_axioms.proofs.Imports.{length, refl}
 use Rattle.sas_axioms.proofs.RuleChanges.{change_within}
 use Rattle.sas_axioms.proofs.firing.has_to_fire.Goals as goal
 
-pub value-requires : goal.value-requires
-value-requires g c =
-    omega (
-      arith,
-      change_within c.args.layered.now c.task-task.ensures.well_ranged c.args.rule c.requires.rule.1.exists c.rule_change-change.result (rw c.task-task.ensures.task at c.rule_change-change.ensures),
-      c.requires.state.one_each,
-    )
+pub layer-requires : goal.layer-requires
+layer-requires g c =
+    rw c.task-task.ensures.task (change_within c.args.layered.now c.task-task.ensures.well_ranged c.args.rule c.requires.1.exists c.rule_change-change.result (rw c.task-task.ensures.task at c.rule_change-change.ensures) (length c.args.layered.now.variables) refl)

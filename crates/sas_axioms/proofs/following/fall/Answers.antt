@@ -2,7 +2,8 @@
 use Rattle.sas_axioms.proofs.Imports.{◌≡◌, ◌⊎◌, ℕ, ◌<◌, true, ◌∷◌, [], length, get_or, set, is_some, refl, sym, ap, subst, ◌∙◌, inl, inr, arith, All, Contains, heap_items, length-append, Change, rule_at, IsState, IsOnLayer, default_of, differs, on_layer_within, state_set, differs_not, Agenda, IsOnAgenda, work_left, IsFalling, IsRuleOn, IsHolding}
 use Rattle.sas_axioms.proofs.RulesOf.{rules_on, rule_under}
 use Rattle.sas_axioms.proofs.FallingSteps.{falling_passed, falling_fell, risen_from_fallen, fallen_is, fallen_state, less_in_the_end}
-use Rattle.sas_axioms.proofs.Tracking.{awaited_on, holding_when_zero, off_step, covered_step, same_more, same_but}
+use Rattle.sas_axioms.proofs.Tracking.{awaited_on, holding_when_zero, off_step, covered_step, same_but}
+use Rattle.sas_axioms.proofs.CountingEntries.{same_more}
 use Rattle.sas_axioms.proofs.following.fall.Goals as goal
 use Rattle.sas_axioms.proofs.following.fall.Given.{Over}
 use Rattle.sas_axioms.proofs.following.fall.Goals.{In-Some}
@@ -35,6 +36,9 @@ initial_value-value-requires g c = rw (c.indexed.view_is, ap (λ (x : Change). x
 pub set_to-requires-clause-counts : goal.set_to-requires-clause-counts
 set_to-requires-clause-counts g c = (some g (goal.at.set_to-requires-clause-counts g c).In-Some).track.counts
 
+pub set_to-requires-clause-ordered : goal.set_to-requires-clause-ordered
+set_to-requires-clause-ordered g c = rw c.in_ok-make_ready.ensures.noted c.in-Some.ensures.some.ordered
+
 pub set_to-requires-clause-derived : goal.set_to-requires-clause-derived
 set_to-requires-clause-derived g c = rw (ap (λ (x : Change). x.var) (rw c.indexed.view_is at c.rule_change-var.ensures)) (ap is_some (on g (goal.at.set_to-requires-clause-derived g c).In-Some).on)
 
@@ -63,27 +67,10 @@ returns-in_err-set_to-clause-off g c =
     off_step p c.args.work.now.layer c.loop-rule.work.layer c.args.state.now c.loop-rule.state c.set_to.new.state _ _ inv.same.layer inv.off
     (subst (λ v. IsOnLayer p c.loop-rule.work.layer v) (sym e) (on g i).on) c.set_to.ensures.state
 
-pub returns-in_err-make_ready-clause-off : goal.returns-in_err-make_ready-clause-off
-returns-in_err-make_ready-clause-off g c =
-    let p = c.args.indexed.now in
-    let inv = c.loop-rule.invariant in
-    let i = (goal.at.returns-in_err-make_ready-clause-off g c).In-Some in
-    let e = ap (λ (x : Change). x.var) (rw c.indexed.view_is at c.rule_change-var.ensures) in
-    off_step p c.args.work.now.layer c.loop-rule.work.layer c.args.state.now c.loop-rule.state c.set_to.new.state _ _ inv.same.layer inv.off
-    (subst (λ v. IsOnLayer p c.loop-rule.work.layer v) (sym e) (on g i).on) c.set_to.ensures.state
-
 pub returns-in_err-set_to-clause-covered : goal.returns-in_err-set_to-clause-covered
 returns-in_err-set_to-clause-covered g c =
     let p = c.args.indexed.now in
     let i = (goal.at.returns-in_err-set_to-clause-covered g c).In-Some in
-    let e = ap (λ (x : Change). x.var) (rw c.indexed.view_is at c.rule_change-var.ensures) in
-    covered_step p c.loop-rule.work.layer c.args.state.now c.loop-rule.state c.set_to.new.state _ _ c.args.touched.now c.loop-rule.touched c.set_to.new.touched
-    c.loop-rule.invariant.covered (subst (λ v. IsOnLayer p c.loop-rule.work.layer v) (sym e) (on g i).on) c.set_to.ensures.state c.set_to.ensures.noted
-
-pub returns-in_err-make_ready-clause-covered : goal.returns-in_err-make_ready-clause-covered
-returns-in_err-make_ready-clause-covered g c =
-    let p = c.args.indexed.now in
-    let i = (goal.at.returns-in_err-make_ready-clause-covered g c).In-Some in
     let e = ap (λ (x : Change). x.var) (rw c.indexed.view_is at c.rule_change-var.ensures) in
     covered_step p c.loop-rule.work.layer c.args.state.now c.loop-rule.state c.set_to.new.state _ _ c.args.touched.now c.loop-rule.touched c.set_to.new.touched
     c.loop-rule.invariant.covered (subst (λ v. IsOnLayer p c.loop-rule.work.layer v) (sym e) (on g i).on) c.set_to.ensures.state c.set_to.ensures.noted
@@ -123,9 +110,9 @@ loop-rule-preserved-in-Continue-branch-2 g c =
       off = off_step p c.args.work.now.layer work.layer c.args.state.now s (set s (rule_at p rule).var (default_of p (rule_at p rule).var)) (rule_at p rule).var (default_of p (rule_at p rule).var) inv.same.layer inv.off is.on refl;
       covered = covered_step p work.layer c.args.state.now s (set s (rule_at p rule).var (default_of p (rule_at p rule).var)) (rule_at p rule).var (default_of p (rule_at p rule).var)
           c.args.touched.now c.loop-rule.touched c.set_to.new.touched inv.covered is.on refl (rw var_is at c.set_to.ensures.noted);
-      falling = λ s0 falling. falling_fell p s0 s rule work _ c.set_to.new.work c.make_ready.new.agenda c.get.result.now (rw c.indexed.view_is at c.indexed.invariant).layered (inv.falling s0 falling) c.in-Some.ensures.some
-          (omega (arith, within g i, b.track.state.one_each)) state c.set_to.ensures.same moves all each c.in_ok-make_ready.ensures;
-      left = inl (less work.agenda c.args.work.now.agenda c.make_ready.new.agenda inv.left (let a = c.in-Some.ensures.left in let d = moves.left in let e = c.in_ok-make_ready.ensures.left in omega arith));
+      falling = λ s0 falling. falling_fell p s0 s rule work _ c.make_ready.new.agenda c.set_to.new.work c.get.result.now (rw c.indexed.view_is at c.indexed.invariant).layered (inv.falling s0 falling) c.in-Some.ensures.some
+          (omega (arith, within g i, b.track.state.one_each)) state c.in_ok-make_ready.ensures c.set_to.ensures.same moves all each;
+      left = inl (less work.agenda c.args.work.now.agenda c.set_to.new.work.agenda inv.left (let a = c.in-Some.ensures.left in let d = moves.left in let e = c.in_ok-make_ready.ensures.left in omega arith));
     }
 
 pub loop-rule-preserved : goal.loop-rule-preserved
@@ -161,24 +148,13 @@ loop-rule-init g c = record {
 
 pub returns-in_err-set_to-clause-same : goal.returns-in_err-set_to-clause-same
 returns-in_err-set_to-clause-same g c =
-    same_more c.args.work.now _ c.set_to.new.work (same_but c.args.work.now c.loop-rule.work c.take.new.self c.loop-rule.invariant.same) c.set_to.ensures.same
-
-pub returns-in_err-make_ready-clause-same : goal.returns-in_err-make_ready-clause-same
-returns-in_err-make_ready-clause-same g c =
-    same_but c.args.work.now c.set_to.new.work c.make_ready.new.agenda
-    (same_more c.args.work.now _ c.set_to.new.work (same_but c.args.work.now c.loop-rule.work c.take.new.self c.loop-rule.invariant.same) c.set_to.ensures.same)
+    same_more c.args.work.now _ c.set_to.new.work (same_but c.args.work.now c.loop-rule.work c.make_ready.new.agenda c.loop-rule.invariant.same) c.set_to.ensures.same
 
 pub returns-in_err-set_to-clause-state : goal.returns-in_err-set_to-clause-state
 returns-in_err-set_to-clause-state g c =
     fallen_state c.args.indexed.now c.loop-rule.state c.set_to.new.state c.in-Some.rule c.initial_value-value.result c.rule_change-var.result
     (rw c.indexed.view_is at c.rule_change-var.ensures) (rw c.indexed.view_is at c.initial_value-value.ensures) c.set_to.ensures.state (rw c.indexed.view_is at c.indexed.invariant).ranged
     (within g (goal.at.returns-in_err-set_to-clause-state g c).In-Some) c.loop-rule.invariant.state
-
-pub returns-in_err-make_ready-clause-state : goal.returns-in_err-make_ready-clause-state
-returns-in_err-make_ready-clause-state g c =
-    fallen_state c.args.indexed.now c.loop-rule.state c.set_to.new.state c.in-Some.rule c.initial_value-value.result c.rule_change-var.result
-    (rw c.indexed.view_is at c.rule_change-var.ensures) (rw c.indexed.view_is at c.initial_value-value.ensures) c.set_to.ensures.state (rw c.indexed.view_is at c.indexed.invariant).ranged
-    (within g (goal.at.returns-in_err-make_ready-clause-state g c).In-Some) c.loop-rule.invariant.state
 
 pub returns-clause-left : goal.returns-clause-left
 returns-clause-left g c =

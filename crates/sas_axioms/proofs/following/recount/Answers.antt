@@ -38,7 +38,7 @@ loop-condition-preserved g c =
     let exists : (get_or ws i no_entry).rule < length w0.counters = omega (arith, (only i no_entry lt).1.exists, c.requires.counts.1.one_each) in
     elim c.match-count_after.branch [
       | in-Some+in_ok-count_to w ↦ rw w.work-is
-          (entry_counted p moved ws i w0 work lt inv w.in-Some.count w.count_to.new.work exists (rw c.indexed.view_is at w.in_ok-count_to.ensures.counts) w.in-Some.ensures.some)
+          (entry_counted p moved ws i w0 work lt inv w.in-Some.count w.count_to.new.work exists w.count_to.ensures.same (rw c.indexed.view_is at w.in_ok-count_to.ensures.counts) w.in-Some.ensures.some)
       | in_default w ↦ rw w.work-is (entry_passed p moved ws i w0 work lt inv w.in_default.ensures.none)
     ]
 

@@ -1,6 +1,6 @@
 -- The rules are removed one by one: each sets its variable, or needs not.
 use Rattle.sas_axioms.proofs.Imports.{◌≡◌, ℕ, ◌<◌, true, List, length, get_or, set, is_some, refl, sym, ap, subst, ◌∙◌, arith, Change, rule_at, IsOnLayer, on_layer_within, length-set, get_or-set_other, differs, differs_true, IsRising, IsRuleOn, IsHolding}
-use Rattle.sas_axioms.proofs.RisingSteps.{rising_passed, rising_set, fires, risen_in_the_end}
+use Rattle.sas_axioms.proofs.RisingSteps.{rising_passed, rising_set, fires}
 use Rattle.sas_axioms.proofs.Tracking.{awaited_on, holding_when_zero, zero_when_holding, off_step, covered_step, room_same, room_but, room_more}
 use Rattle.sas_axioms.proofs.following.rise.Goals as goal
 use Rattle.sas_axioms.proofs.following.rise.Given.{Over}
@@ -122,7 +122,7 @@ loop-rule-preserved g c =
 pub returns-clause-risen : goal.returns-clause-risen
 returns-clause-risen g c s rising =
     let same = c.in_default.ensures.same in
-    rw same (risen_in_the_end c.args.indexed.now s c.loop-rule.state c.loop-rule.work (rw c.indexed.view_is at c.indexed.invariant).layered (c.loop-rule.invariant.rising s rising) (rw same at c.in_default.ensures.none) (rw same at c.in_default.ensures.empty))
+    rw same record { rising = c.loop-rule.invariant.rising s rising; behind = rw same at c.in_default.ensures.none; empty = rw same at c.in_default.ensures.empty }
 
 pub loop-rule-init : goal.loop-rule-init
 loop-rule-init g c = record {
