@@ -1,5 +1,5 @@
 -- The first noted rule is on the lowest layer, and what changes of the agenda preserve.
-use Rattle.sas_axioms.proofs.Imports.{◌≡◌, ◌⊎◌, ℕ, zero, suc, ◌+◌, ◌≤◌, false, List, [], ◌∷◌, ◌++◌, length, get_or, refl, sym, ap, subst, inl, inr, arith, All, Contains, IsPermutation, is_lt, heap_items, IsUpperBound, leb_tells, All-nil, All-cons, Contains-get_or, Contains-permutation, contains_head, contains_tail, contains_cases, IsPermutation-sym, length_permutation, Reverse, Agenda, LayerRule, layer_cmp, entry_for, IsOnAgenda, AddsToAgenda, work_left, NotesMore, IsRuleOn, Parts}
+use Rattle.sas_axioms.proofs.Imports.{◌≡◌, ℕ, suc, ◌+◌, ◌≤◌, false, List, [], ◌∷◌, length, get_or, sym, ap, subst, inl, inr, arith, All, Contains, IsPermutation, is_lt, heap_items, IsUpperBound, leb_tells, All-nil, All-cons, Contains-get_or, Contains-permutation, contains_head, contains_tail, contains_cases, IsPermutation-sym, length_permutation, Reverse, Agenda, LayerRule, layer_cmp, entry_for, IsOnAgenda, AddsToAgenda, work_left, NotesMore, IsRuleOn, Parts}
 
 not_before : (a b : LayerRule) → is_lt (layer_cmp b a) ≡ false → a.layer ≤ b.layer
 not_before a b h = elim (leb_tells (suc b.layer) a.layer) [

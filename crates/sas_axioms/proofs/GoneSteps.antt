@@ -1,5 +1,5 @@
 -- Updating the counters for the basic variables that changed, one at a time.
-use Rattle.sas_axioms.proofs.Imports.{◌≡◌, ◌≢◌, ℕ, zero, suc, ◌<◌, List, [], ◌∷◌, length, get_or, set, refl, sym, ◌∙◌, ap, subst, inl, inr, arith, All, heap_items, cases_eq, get_or-set_same, get_or-set_other, set-get_or, All-nil, All-cons, All-head, All-tail, All-contains, Reverse, Fact, Parts, rule_at, IsState, HaveGone, IsBasic, IsOnLayer, IsSettledAt, Holds, differs_same, Work, LayerRule, IsEmpty, IsHolding, SourcesHold, AreGiven, CountsChange, IsFollowed, IsBetween, IsRuleOn, settled_where_empty}
+use Rattle.sas_axioms.proofs.Imports.{◌≡◌, ◌≢◌, ℕ, zero, suc, ◌<◌, List, [], ◌∷◌, length, get_or, set, refl, sym, ◌∙◌, ap, subst, inl, inr, arith, All, cases_eq, get_or-set_same, get_or-set_other, set-get_or, All-nil, All-cons, All-head, All-tail, Reverse, Fact, Parts, rule_at, IsState, HaveGone, IsBasic, IsOnLayer, IsSettledAt, Holds, differs_same, Work, LayerRule, IsEmpty, SourcesHold, CountsChange, IsFollowed, IsBetween, IsRuleOn, settled_where_empty}
 use Rattle.std.proofs.lemmas.Grind.{same_number_lists}
 use Rattle.sas_axioms.proofs.FallingSteps.{noted_moved}
 use Rattle.sas_axioms.proofs.Sources.{sources_same, given_at_default}

@@ -1,5 +1,5 @@
 -- The rules of a layer that hold set their variables, one by one.
-use Rattle.sas_axioms.proofs.Imports.{◌≡◌, ◌≢◌, ◌⊎◌, ◌↔◌, ℕ, ◌+◌, ◌<◌, ◌≤◌, true, List, [], length, get_or, set, refl, sym, ◌∙◌, ap, subst, inl, inr, arith, heap_items, cases_eq, cases_lt, get_or-set_same, get_or-set_other, length-set, All-nil, All-contains, Reverse, Parts, rule_at, WellRanged, IsOnLayer, IsLayered, differs, IsSettledAt, SameOff, Fired, fired_there, differs_true, differs_same, Work, Agenda, LayerRule, entry_for, IsOnAgenda, IsAwaited, NoLowerLayer, AreBehind, RemovesFromAgenda, SameWork, CountsChange, IsUpdatedTo, IsBetween, IsFalling, IsRising, HasRisen, IsFollowed, IsRuleOn, IsHolding, HaveSources, SourcesHold, AreGiven, settled_off, no_effect}
+use Rattle.sas_axioms.proofs.Imports.{◌≡◌, ◌≢◌, ◌⊎◌, ◌↔◌, ℕ, ◌+◌, ◌<◌, ◌≤◌, true, List, [], length, get_or, set, refl, sym, ◌∙◌, ap, subst, inl, inr, arith, heap_items, cases_eq, cases_lt, get_or-set_same, get_or-set_other, length-set, All-nil, All-contains, Reverse, Parts, rule_at, WellRanged, IsOnLayer, IsLayered, differs, IsSettledAt, SameOff, Fired, fired_there, differs_true, differs_same, Work, Agenda, LayerRule, entry_for, IsOnAgenda, IsAwaited, NoLowerLayer, RemovesFromAgenda, SameWork, CountsChange, IsUpdatedTo, IsBetween, IsFalling, IsRising, HasRisen, IsFollowed, IsRuleOn, IsHolding, HaveSources, SourcesHold, AreGiven, settled_off, no_effect}
 use Rattle.sas_axioms.proofs.FallingSteps.{noted_taken, updated_taken, noted_moved, same_moved, still_awaited}
 use Rattle.sas_axioms.proofs.Sources.{forced_when_given, sources_same, given_off, given_when_fired, differs_where_holding, settled_when_given}
 use Rattle.sas_axioms.proofs.Tracking.{with_agenda, awaited_on, track_taken, asks_down, track_moved, track_set}

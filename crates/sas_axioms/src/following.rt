@@ -245,7 +245,7 @@ fn recount<T: Grounded>(
     Ok(())
 }
 
-/// Sets the counter of the rule. Notes the rule if it begins or ceases to hold.
+/// Sets the counter of the rule. If the rule can fire and begins or ceases to hold, notes it.
 fn count_to<T: Grounded>(
     layered: &Layered<T>,
     rule: u32,
@@ -261,26 +261,9 @@ fn count_to<T: Grounded>(
     let held = work.counters.as_slice()[rule as usize] == 0;
     work.counters.set(rule as usize, count);
     if held != (count == 0) {
-        note_rule(layered, rule, &mut work.agenda)?;
+        if let Some(layer) = firing_layer(layered, rule) {
+            work.agenda.note(LayerRule { layer, rule })?;
+        }
     }
     Ok(())
-}
-
-/// Notes the rule if it can fire.
-fn note_rule<T: Grounded>(
-    layered: &Layered<T>,
-    rule: u32,
-    agenda: &mut Agenda,
-) -> Result<(), OverBudget>
-    requires exists { rule < length layered.now.rules }
-    requires ordered { IsOrdered agenda.old }
-    ensures noted { OnOk result ((layer : ℕ) → IsRuleOn layered.now layer rule
-        → IsOnAgenda agenda.new layer rule) }
-    ensures notes { OnOk result (NotesMore layered.now (λ r. r ≡ rule) agenda.old agenda.new) }
-    ensures left { OnOk result (work_left agenda.new ≤ work_left agenda.old + 2) }
-{
-    match firing_layer(layered, rule) {
-        Some(layer) => agenda.note(LayerRule { layer, rule }),
-        None => Ok(()),
-    }
 }
