@@ -1,5 +1,5 @@
 -- Resetting the variables of a layer one by one, and the rules that depend on them.
-use Rattle.sas_axioms.proofs.Imports.{◌≡◌, ◌≢◌, ◌⊎◌, ℕ, ◌+◌, ◌<◌, ◌≤◌, true, List, [], ◌∷◌, length, get_or, set, sym, ◌∙◌, ap, subst, inl, inr, arith, All, Contains, cases_eq, get_or-set_same, get_or-set_other, All-nil, All-cons, Contains-append_left, Contains-append_right, Contains-push, All-contains, Reverse, Parts, Change, change_of, WellRanged, rule_at, IsState, IsOnLayer, default_of, Agenda, Work, LayerRule, entry_for, IsOnAgenda, IsAwaited, AreBehind, RemovesFromAgenda, IsMadeReady, AreMadeReady, work_left, SameFrom, IsUpdatedTo, ChangesAreNoted, SameWork, CountsChange, IsFalling, IsRising, IsHolding, IsRuleOn, IsLayered, differs, state_set, differs_same, differs_not, heap_items}
+use Rattle.sas_axioms.proofs.Imports.{◌≡◌, ◌≢◌, ◌⊎◌, ℕ, ◌+◌, ◌<◌, ◌≤◌, true, List, [], ◌∷◌, length, get_or, set, sym, ◌∙◌, ap, subst, inl, inr, arith, All, Contains, cases_eq, get_or-set_same, get_or-set_other, All-nil, All-cons, Contains-append_left, Contains-append_right, Contains-push, All-contains, Reverse, Parts, Change, change_of, rule_at, IsState, IsOnLayer, default_of, Agenda, Work, LayerRule, entry_for, IsOnAgenda, IsAwaited, AreBehind, RemovesFromAgenda, IsMadeReady, AreMadeReady, work_left, SameFrom, IsUpdatedTo, ChangesAreNoted, SameWork, CountsChange, IsFalling, IsRising, IsHolding, IsRuleOn, IsLayered, differs, differs_same, differs_not, heap_items}
 use Rattle.sas_axioms.proofs.OneLayer.{one_layer}
 use Rattle.sas_axioms.proofs.Sources.{sources_fall}
 use Rattle.sas_axioms.proofs.Tracking.{with_agenda, awaited_on, track_taken, track_ready, asks_down, track_moved}
@@ -174,14 +174,9 @@ risen_from_fallen p s0 s w falling behind = record {
         let lt : w.layer < w.layer = All-contains (λ (e : Reverse LayerRule). w.layer < e.0.layer) (heap_items w.agenda.noted) (entry_for w.layer other) behind noted in absurd (omega arith)
 
 -- the variable of a rule gets its default
-module _ (p : Parts) (s s' : List ℕ) (rule value : ℕ) (change : Change) (of_rule : change ≡ change_of (rule_at p rule)) (is_default : value ≡ default_of p change.var)
-    (is_set : s' ≡ set s change.var value) where
-  pub fallen_is : s' ≡ set s (rule_at p rule).var (default_of p (rule_at p rule).var)
-  fallen_is = is_set ∙ (ap (λ x. set s change.var x) is_default ∙ ap (λ (c : Change). set s c.var (default_of p c.var)) of_rule)
-
-  pub fallen_state : WellRanged p → (rule_at p rule).var < length p.variables → IsState p.variables s → IsState p.variables s'
-  fallen_state ranged within state = rw fallen_is
-      (state_set p s (rule_at p rule).var (default_of p (rule_at p rule).var) state (ranged.init.in_range (rule_at p rule).var within))
+pub fallen_is : (p : Parts) (s s' : List ℕ) (rule value : ℕ) (change : Change) → change ≡ change_of (rule_at p rule) → value ≡ default_of p change.var → s' ≡ set s change.var value
+    → s' ≡ set s (rule_at p rule).var (default_of p (rule_at p rule).var)
+fallen_is p s s' rule value change of_rule is_default is_set = is_set ∙ (ap (λ x. set s change.var x) is_default ∙ ap (λ (c : Change). set s c.var (default_of p c.var)) of_rule)
 
 -- less is left in the end: what was noted on the layer was taken off
 pub less_in_the_end : (layer rule : ℕ) (a0 a : Agenda) → IsOnAgenda a0 layer rule → AreBehind layer a → (work_left a < work_left a0) ⊎ (a ≡ a0) → work_left a < work_left a0

@@ -4,7 +4,7 @@
 // its default, then each variable whose source depended on that one, and so on. The remaining variables have sources that hold, and no
 // source depends on its own variable, so no two rules support only each other. Then the rules that hold set their variables, including
 // those that were reset.
-ghost use Rattle.std.specs.Prelude.{◌≡◌, ◌≢◌, ◌+◌, ◌<◌, ◌≤◌, ℕ, List, length, OnOk, IsTrue, IsFalse, slice_index, slice_set};
+ghost use Rattle.std.specs.Prelude.{◌≡◌, ◌≢◌, ◌+◌, ◌<◌, ◌≤◌, ℕ, List, length, OnOk, OnErr, IsTrue, IsFalse, slice_index, slice_set};
 ghost use Rattle.sas_core.specs.Grounded.{rule_at};
 ghost use Rattle.sas_core.specs.Variables.{IsDerived, IsState};
 ghost use Rattle.sas_meaning.specs.Following.{HaveGone};
@@ -191,7 +191,8 @@ fn has_to_set<T: Grounded>(layered: &Layered<T>, rule: u32, work: &Work, state: 
     work.counters.as_slice()[rule as usize] == 0 && state.value(change.var) != change.new
 }
 
-/// Sets the variable to another value, adds it to `touched`, and updates the counters of the rules with conditions on it.
+/// Updates the counters of the rules with conditions on the variable for another value, sets it to that value, and adds it to `touched`. On
+/// `Err`, state and `touched` are unchanged.
 fn set_to<T: Grounded>(
     indexed: &IndexedRules<'_, '_, T>,
     fact: Fact,
@@ -203,8 +204,10 @@ fn set_to<T: Grounded>(
     requires ordered { IsOrdered work.old.agenda }
     requires derived { IsDerived indexed.now.variables fact.var }
     requires other { slice_index state.old fact.var ≢ fact.value }
-    ensures state { state.new ≡ slice_set state.old fact.var fact.value }
-    ensures noted { AddsTouched fact.var touched.old touched.new }
+    ensures state { OnOk result (state.new ≡ slice_set state.old fact.var fact.value) }
+    ensures noted { OnOk result (AddsTouched fact.var touched.old touched.new) }
+    ensures unchanged { OnErr result (state.new ≡ state.old) }
+    ensures untouched { OnErr result (touched.new ≡ touched.old) }
     ensures same { SameWork work.old work.new }
     ensures moves { OnOk result
         (CountsChange indexed.now fact.var state.old work.old state.new work.new) }
@@ -213,9 +216,10 @@ fn set_to<T: Grounded>(
         former: state.value(fact.var),
         value: fact.value,
     };
+    recount(indexed, fact.var, moved, work)?;
     state.set(fact);
     touched.note(fact.var);
-    recount(indexed, fact.var, moved, work)
+    Ok(())
 }
 
 /// Updates the counters of the rules with conditions on the variable. Notes the rules that begin or cease to hold.
