@@ -1,5 +1,5 @@
 -- The counters of a worklist.
-use Rattle.sas_axioms.proofs.Imports.{◌≡◌, ◌≢◌, ℕ, ◌+◌, ◌<◌, ◌≤◌, ◌==◌, ◌⊎◌, true, cond, List, [], ◌∷◌, ◌++◌, length, get_or, set, refl, sym, ◌∙◌, ap, subst, inl, inr, arith, cases_eq, eqb_tells, get_or-set_same, get_or-set_other, length-set, length-append, vec_capacity, Fact, Parts, rule_at, IsState, WellRanged, Holds, AllHold, IsOnLayer, on_layer_within, default_of, IsRuleOn, AreGiven, open_conditions, occurrences, asking, ValueChange, RuleCondition, waiting_at, IsFullIndex, Work, value_seen, IsRunning, AreCountedBy, HaveFired, WorkHasRoom, IsAtWork, WorkGoesOn, FiresRule, IsLayered, differs, IsSettledAt, AtDefault, equal_places, All, All-nil, All-cons, All-head, All-tail, Fired, fired_there, rule_new, differs_true, differs_same, differs_not, fact_within, forced_at_default, no_effect}
+use Rattle.sas_axioms.proofs.Imports.{◌≡◌, ◌≢◌, ℕ, ◌+◌, ◌<◌, ◌≤◌, ◌==◌, ◌⊎◌, true, cond, List, [], ◌∷◌, ◌++◌, length, get_or, set, refl, sym, ◌∙◌, ap, subst, inl, inr, arith, cases_eq, eqb_tells, get_or-set_same, get_or-set_other, length-set, length-append, vec_capacity, Fact, Parts, rule_at, IsState, WellRanged, Holds, AllHold, IsOnLayer, on_layer_within, default_of, IsRuleOn, open_conditions, occurrences, asking, ValueChange, RuleCondition, waiting_at, IsFullIndex, Work, value_seen, IsRunning, AreCountedBy, HaveFired, IsFiring, IsAtWork, WorkGoesOn, FiresRule, IsLayered, differs, IsSettledAt, AtDefault, equal_places, All, All-nil, All-cons, All-head, All-tail, Fired, fired_there, rule_new, differs_true, differs_same, differs_not, fact_within, forced_at_default, no_effect}
 use Rattle.sas_axioms.proofs.AllConditions.{can_recount, open_changed}
 use Rattle.sas_axioms.proofs.CountingEntries.{CanRecount, CountersSoFar, counters_after, left_over}
 use Rattle.sas_axioms.proofs.Sources.{given_when_fired, settled_when_set}
@@ -34,10 +34,10 @@ module _ (t : Parts) (s : List ℕ) (w : Work) (k : ℕ) (ranged : WellRanged t)
   fires = fired_there t w.layer s k no_effect ranged layered run.state run.forced on.exists (record { on = on.on; can = on.can; hold = hold; new = changes })
 
   -- by these writes
-  pub fires_by : (s' : List ℕ) (w' : Work) → length w.sources ≡ length t.variables → w'.sources ≡ set w.sources (rule_at t k).var k
+  pub fires_by : (s' : List ℕ) (w' : Work) → w'.sources ≡ set w.sources (rule_at t k).var k
       → s' ≡ set s (rule_at t k).var (rule_at t k).new → w'.stack.items ≡ w.stack.items ++ (rule_at t k).var ∷ []
       → w'.layer ≡ w.layer → w'.counters ≡ w.counters → vec_capacity w.stack ≤ vec_capacity w'.stack → FiresRule t k s w s' w'
-  fires_by s' w' places sources-is s-is stack-is layer counters capacity = record {
+  fires_by s' w' sources-is s-is stack-is layer counters capacity = record {
     goes_on = record {
       layer = layer;
       off = rw s-is fires.off;
@@ -46,10 +46,11 @@ module _ (t : Parts) (s : List ℕ) (w : Work) (k : ℕ) (ranged : WellRanged t)
       left = rw (s-is, stack-is) (let fewer = fires.fewer in let len = length-append w.stack.items ((rule_at t k).var ∷ []) in omega arith);
     };
     counters = counters;
-    sources = ap length sources-is ∙ length-set w.sources (rule_at t k).var k;
-    given = λ was. rw (s-is, sources-is) (given_when_fired t w.layer k s w.sources layered on was hold fires.default within (let one = run.state.one_each in omega (arith, within, places)));
-    room = capacity;
-    running = rw (s-is, stack-is) record { state = fires.state; forced = fires.forced; fired = fired; once = once; room = room };
+    firing = λ was. record {
+      room = record { one_each = ap length counters ∙ was.room.one_each; variables = omega (arith, was.room.variables, capacity); sources = ap length sources-is ∙ length-set w.sources (rule_at t k).var k ∙ was.room.sources };
+      running = rw (layer, s-is, stack-is) record { state = fires.state; forced = fires.forced; fired = fired; once = once; room = room };
+      given = rw (layer, s-is, sources-is) (given_when_fired t w.layer k s w.sources layered on was.given hold fires.default within (let one = run.state.one_each in omega (arith, within, was.room.sources)));
+    };
     seen = rw (s-is, stack-is) seen_same;
     fired = λ _. rw s-is (get_or-set_same s (rule_at t k).var (rule_at t k).new 0 within);
     kept = rw s-is kept;
@@ -251,18 +252,8 @@ running_at_default t layer s state at = record {
     equal_places-le (x ∷ xs) (y ∷ ys) = let ih = equal_places-le xs ys in elim (eqb_tells x y) [ inl w ↦ rw w.0 (omega arith) | inr w ↦ rw w.0 (omega arith) ]
 
 -- a rule that fires nothing
-pub fires_nothing : (t : Parts) (s : List ℕ) (w : Work) (k : ℕ) → IsRunning t w.layer s w.stack.items → (IsRuleOn t w.layer k → get_or s (rule_at t k).var 0 ≡ (rule_at t k).new) → FiresRule t k s w s w
-fires_nothing t s w k running fired = record {
-  goes_on = goes_on_still t s w;
-  counters = refl;
-  sources = refl;
-  given = λ given. given;
-  room = omega arith;
-  running = running;
-  seen = λ v. refl;
-  fired = fired;
-  kept = λ v differs. refl;
-}
+pub fires_nothing : (t : Parts) (s : List ℕ) (w : Work) (k : ℕ) → (IsRuleOn t w.layer k → get_or s (rule_at t k).var 0 ≡ (rule_at t k).new) → FiresRule t k s w s w
+fires_nothing t s w k fired = record { goes_on = goes_on_still t s w; counters = refl; firing = λ was. was; seen = λ v. refl; fired = fired; kept = λ v differs. refl }
 
 -- ---- the entries of a popped variable
 
@@ -270,11 +261,17 @@ fires_nothing t s w k running fired = record {
 pub record Releasing (t : Parts) (moved : ValueChange) (waiting : List RuleCondition) (i : ℕ) (s0 : List ℕ) (w0 : Work) (s : List ℕ) (w : Work) : Type 0 where
   pub counters : CountersSoFar moved waiting i w0.counters w.counters
   pub goes_on : WorkGoesOn t s0 w0 s w
-  pub room : WorkHasRoom t w
-  pub running : IsRunning t w0.layer s w.stack.items
-  pub given : AreGiven t w0.layer s w.sources
+  pub firing : IsFiring t s w.stack.items w
   pub fired : HaveFired t w0.layer s w.counters
   pub seen : (v : ℕ) → value_seen t s w.stack.items v ≡ value_seen t s0 w0.stack.items v
+
+firing_set : (t : Parts) (s : List ℕ) (w : Work) (counters : List ℕ) (k n : ℕ) → counters ≡ set w.counters k n → IsFiring t s w.stack.items w
+    → IsFiring t s w.stack.items (record { layer = w.layer; counters = counters; stack = w.stack; sources = w.sources; agenda = w.agenda })
+firing_set t s w counters k n is was = record {
+  room = record { one_each = ap length is ∙ (length-set w.counters k n ∙ was.room.one_each); variables = was.room.variables; sources = was.room.sources };
+  running = was.running;
+  given = was.given;
+}
 
 -- the counter of a rule is set, and the rule doesn't have to fire
 pub released_on : (t : Parts) (moved : ValueChange) (waiting : List RuleCondition) (i : ℕ) (s0 : List ℕ) (w0 : Work) (s : List ℕ) (w : Work) (counters : List ℕ) (k n : ℕ)
@@ -283,9 +280,7 @@ pub released_on : (t : Parts) (moved : ValueChange) (waiting : List RuleConditio
 released_on t moved waiting i s0 w0 s w counters k n so_far next within is here = record {
   counters = next;
   goes_on = record { layer = so_far.goes_on.layer; off = so_far.goes_on.off; sources = so_far.goes_on.sources; left = so_far.goes_on.left };
-  room = record { one_each = ap length is ∙ (length-set w.counters k n ∙ so_far.room.one_each); variables = so_far.room.variables; sources = so_far.room.sources };
-  running = so_far.running;
-  given = so_far.given;
+  firing = firing_set t s w counters k n is so_far.firing;
   fired = rw is (fired_set t w0.layer s w.counters k n within here so_far.fired);
   seen = so_far.seen;
 }
@@ -299,13 +294,7 @@ released_fired t moved waiting i s0 w0 s w counters k n s' w' so_far next within
   counters = rw f.counters next;
   goes_on = goes_on_more t s0 w0 s (record { layer = w.layer; counters = counters; stack = w.stack; sources = w.sources; agenda = w.agenda }) s' w'
       (record { layer = so_far.goes_on.layer; off = so_far.goes_on.off; sources = so_far.goes_on.sources; left = so_far.goes_on.left }) f.goes_on;
-  room = record {
-    one_each = ap length f.counters ∙ (ap length is ∙ (length-set w.counters k n ∙ so_far.room.one_each));
-    variables = omega (arith, so_far.room.variables, f.room);
-    sources = f.sources ∙ so_far.room.sources;
-  };
-  running = rw so_far.goes_on.layer at f.running;
-  given = rw so_far.goes_on.layer at (f.given (rw so_far.goes_on.layer so_far.given));
+  firing = f.firing (firing_set t s w counters k n is so_far.firing);
   fired = rw (f.counters, is) (fired_set t w0.layer s' w.counters k n within (λ none on. f.fired (subst (λ m. IsRuleOn t m k) (sym so_far.goes_on.layer) on))
       (fired_kept t w0.layer s s' w.counters f.kept so_far.fired));
   seen = λ v. f.seen v ∙ so_far.seen v;
@@ -318,19 +307,19 @@ moved_to t s v = record { former = default_of t v; value = get_or s v 0 }
 module _ (t : Parts) (index : List (List RuleCondition)) (v : ℕ) (s0 : List ℕ) (w0 : Work) (layered : IsLayered t) (is_index : IsFullIndex t index) (popped : IsAtWork t s0 (w0.stack.items ++ v ∷ []) w0) where
   pub can_release : WellRanged t → CanRecount (moved_to t s0 v) (waiting_at index v) w0.counters
   can_release ranged =
-      can_recount t index v is_index (value_seen t s0 (w0.stack.items ++ v ∷ [])) w0.counters popped.room.one_each popped.counts ranged
-      (moved_to t s0 v) (seen_before t w0.layer s0 w0.stack.items v popped.running) (popped_differs t w0.layer s0 w0.stack.items v popped.running)
+      can_recount t index v is_index (value_seen t s0 (w0.stack.items ++ v ∷ [])) w0.counters popped.firing.room.one_each popped.counts ranged
+      (moved_to t s0 v) (seen_before t w0.layer s0 w0.stack.items v popped.firing.running) (popped_differs t w0.layer s0 w0.stack.items v popped.firing.running)
 
   -- a rule of the layer whose counter is at zero has conditions that hold
   pub ready_so_far : (i : ℕ) (s : List ℕ) (w : Work) (counters : List ℕ) (k : ℕ)
       → Releasing t (moved_to t s0 v) (waiting_at index v) i s0 w0 s w → CountersSoFar (moved_to t s0 v) (waiting_at index v) (i + 1) w0.counters counters
       → IsRuleOn t w0.layer k → get_or counters k 0 ≡ 0 → AllHold (λ u. get_or s u 0) (rule_at t k).conditions
   ready_so_far i s w counters k so_far next on none =
-      ready t w0.layer s w.stack.items k layered so_far.running on
-      (let a = next.so_far k (let l = popped.room.one_each in omega (arith, on.exists)) in
+      ready t w.layer s w.stack.items k layered so_far.firing.running (rw so_far.goes_on.layer on)
+      (let a = next.so_far k (let l = popped.firing.room.one_each in omega (arith, on.exists)) in
       let b = left_over k (default_of t v) (i + 1) (waiting_at index v) in
-      let d = popped_counts t w0.layer s0 w0.stack.items v popped.running w0.counters popped.counts w0.layer k on in
-      let e = none_own t w0.layer s0 w0.stack.items v popped.running layered k on in
+      let d = popped_counts t w0.layer s0 w0.stack.items v popped.firing.running w0.counters popped.counts w0.layer k on in
+      let e = none_own t w0.layer s0 w0.stack.items v popped.firing.running layered k on in
       let f = open_same (value_seen t s w.stack.items) (value_seen t s0 w0.stack.items) (rule_at t k).conditions so_far.seen in
       let x = is_index.each w0.layer v (default_of t v) k on in
       let y = is_index.each w0.layer v (get_or s0 v 0) k on in
@@ -339,15 +328,13 @@ module _ (t : Parts) (index : List (List RuleCondition)) (v : ℕ) (s0 : List �
   -- all entries are counted
   pub at_work_again : (i : ℕ) (s : List ℕ) (w : Work) → Releasing t (moved_to t s0 v) (waiting_at index v) i s0 w0 s w → i ≡ length (waiting_at index v) → IsAtWork t s w.stack.items w
   at_work_again i s w so_far all = record {
-    room = so_far.room;
-    running = rw so_far.goes_on.layer so_far.running;
+    firing = so_far.firing;
     counts = λ m k on.
-        (let a = counters_after (moved_to t s0 v) (waiting_at index v) i w0.counters w.counters all so_far.counters k (let l = popped.room.one_each in omega (arith, on.exists)) in
-        let b = popped_counts t w0.layer s0 w0.stack.items v popped.running w0.counters popped.counts m k on in
+        (let a = counters_after (moved_to t s0 v) (waiting_at index v) i w0.counters w.counters all so_far.counters k (let l = popped.firing.room.one_each in omega (arith, on.exists)) in
+        let b = popped_counts t w0.layer s0 w0.stack.items v popped.firing.running w0.counters popped.counts m k on in
         let e = open_same (value_seen t s w.stack.items) (value_seen t s0 w0.stack.items) (rule_at t k).conditions so_far.seen in
         let x = is_index.each m v (default_of t v) k on in
         let y = is_index.each m v (get_or s0 v 0) k on in
         omega arith);
     fired = rw so_far.goes_on.layer so_far.fired;
-    given = rw so_far.goes_on.layer so_far.given;
   }

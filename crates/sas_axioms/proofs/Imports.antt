@@ -51,7 +51,7 @@ pub use Rattle.sas_axioms.specs.Conditions.{asking, waiting_entry, waiting_at, r
 pub use Rattle.sas_axioms.specs.Following.{NotesMore, IsFollowed, SameWork, CountsTo, SameFrom, ChangesAreNoted, CountsChange, IsOnTrack, IsFalling, IsRising, IsBetween, IsUpdatedTo, AsksAbout, HasRisen, KeepsRoom}
 pub use Rattle.sas_axioms.specs.LayerRules.{IsRuleOn, AreReadyFrom, StandsFrom, AreWaiting, IsReadyAt, layer_at, IsLate, AreFirstRules, AreRulesOf, IsLayerSpan}
 pub use Rattle.sas_axioms.specs.Sources.{AreGiven, SameSourcesOff, IsHolding, HaveSources, SourcesHold, IsSourceOf}
-pub use Rattle.sas_axioms.specs.Worklist.{AreCountedBy, value_seen, IsRunning, HaveFired, WorkHasRoom, IsAtWork, WorkGoesOn, FiresRule, LayerBeginsAt, left_to_do}
+pub use Rattle.sas_axioms.specs.Worklist.{AreCountedBy, value_seen, IsRunning, HaveFired, WorkHasRoom, IsFiring, IsAtWork, WorkGoesOn, FiresRule, LayerBeginsAt, left_to_do}
 pub use Rattle.sas_axioms.specs.declared.agenda.Agenda.{Agenda}
 pub use Rattle.sas_axioms.specs.declared.conditions.ValueChange.{ValueChange}
 pub use Rattle.sas_axioms.specs.declared.conditions.RuleCondition.{RuleCondition}

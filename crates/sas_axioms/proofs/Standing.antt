@@ -1,5 +1,5 @@
 -- Where a layer of a worklist begins and ends, and which layers before it are settled.
-use Rattle.sas_axioms.proofs.Imports.{◌≡◌, ◌≢◌, ℕ, ◌+◌, ◌<◌, ◌≤◌, List, length, get_or, get_or_default, sym, ◌∙◌, ap, inl, inr, arith, cases_lt, Parts, LayerRule, rule_at, IsLayered, IsSettledAt, AtDefault, forced_at_default, AreCounted, IsHolding, IsRuleOn, AreFirstRules, AreWaiting, IsLayerSpan, AreReadyFrom, StandsFrom, IsReadyAt, layer_at, LayerBeginsAt, Work, value_seen, IsRunning, AreCountedBy, WorkHasRoom, WorkGoesOn, FiresRule, AreGiven, All, subst, cases_eq, differs_true}
+use Rattle.sas_axioms.proofs.Imports.{◌≡◌, ◌≢◌, ℕ, ◌+◌, ◌<◌, ◌≤◌, List, length, get_or, get_or_default, sym, ◌∙◌, ap, inl, inr, arith, cases_lt, Parts, LayerRule, rule_at, IsLayered, IsSettledAt, AtDefault, forced_at_default, AreCounted, IsHolding, IsRuleOn, AreFirstRules, AreWaiting, IsLayerSpan, AreReadyFrom, StandsFrom, IsReadyAt, layer_at, LayerBeginsAt, Work, value_seen, AreCountedBy, IsFiring, WorkGoesOn, FiresRule, All, subst, cases_eq, differs_true}
 use Rattle.sas_axioms.proofs.Counters.{all_hold_when_none_open, none_open_when_all_hold, counts_seen, goes_on_more}
 use Rattle.sas_axioms.proofs.Sources.{late_waits, settled_when_set}
 
@@ -27,9 +27,7 @@ before_end p start layer end counters rules are here le last rule on none =
 pub record FiringTo (p : Parts) (rules : List LayerRule) (start next : ℕ) (s0 : List ℕ) (w0 : Work) (s : List ℕ) (w : Work) : Type 0 where
   pub goes_on : WorkGoesOn p s0 w0 s w
   pub same : w.counters ≡ w0.counters
-  pub given : AreGiven p w0.layer s w.sources
-  pub room : WorkHasRoom p w
-  pub running : IsRunning p w0.layer s w.stack.items
+  pub firing : IsFiring p s w.stack.items w
   pub counts : AreCountedBy p (value_seen p s w.stack.items) w0.counters
   pub from_start : start ≤ next
   pub within : next ≤ length rules
@@ -53,9 +51,7 @@ module _ (p : Parts) (rules : List LayerRule) (start i : ℕ) (s0 : List ℕ) (w
   one_fired s' w' only f = record {
     goes_on = goes_on_more p s0 w0 s w s' w' to.goes_on f.goes_on;
     same = f.counters ∙ to.same;
-    given = rw to.goes_on.layer at (f.given (rw to.goes_on.layer to.given));
-    room = record { one_each = ap length f.counters ∙ to.room.one_each; variables = omega (arith, to.room.variables, f.room); sources = f.sources ∙ to.room.sources };
-    running = rw to.goes_on.layer at f.running;
+    firing = f.firing to.firing;
     counts = counts_seen p s s' w.stack.items w'.stack.items w0.counters f.seen to.counts;
     from_start = omega (arith, to.from_start);
     within = omega arith;
@@ -75,9 +71,7 @@ module _ (p : Parts) (rules : List LayerRule) (start i : ℕ) (s0 : List ℕ) (w
   one_waits waits = record {
     goes_on = to.goes_on;
     same = to.same;
-    given = to.given;
-    room = to.room;
-    running = to.running;
+    firing = to.firing;
     counts = to.counts;
     from_start = omega (arith, to.from_start);
     within = omega arith;

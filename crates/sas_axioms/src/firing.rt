@@ -14,7 +14,7 @@ ghost use Rattle.sas_axioms.specs.Conditions.{AreCounted};
 ghost use Rattle.sas_axioms.specs.Agenda.{IsEmpty};
 ghost use Rattle.sas_axioms.specs.Sources.{AreGiven, SameSourcesOff};
 ghost use Rattle.sas_axioms.specs.Following.{IsFollowed};
-ghost use Rattle.sas_axioms.specs.Worklist.{IsRunning, WorkHasRoom, IsAtWork, WorkGoesOn, FiresRule, IsFiringReady};
+ghost use Rattle.sas_axioms.specs.Worklist.{IsRunning, WorkHasRoom, IsFiring, IsAtWork, WorkGoesOn, FiresRule, IsFiringReady};
 
 use crate::agenda::{Agenda, OverBudget};
 use crate::conditions::{ValueChange, count_after};
@@ -241,11 +241,9 @@ fn fire_ready<T: Grounded>(
 ) -> usize
     requires layer { work.old.layer ≡ layer_at rules.now start }
     requires rules { AreReadyFrom indexed.now start work.old.layer work.old.counters rules.now }
-    requires room { WorkHasRoom indexed.now work.old }
-    requires running { IsRunning indexed.now work.old.layer state.old work.old.stack.items }
+    requires firing { IsFiring indexed.now state.old work.old.stack.items work.old }
     requires empty { work.old.stack.items ≡ [] }
     requires counts { AreCounted indexed.now state.old work.old.counters }
-    requires given { AreGiven indexed.now work.old.layer state.old work.old.sources }
     ensures at_work { IsAtWork indexed.now state.new work.new.stack.items work.new }
     ensures goes_on { WorkGoesOn indexed.now state.old work.old state.new work.new }
     ensures end { IsLayerSpan rules.now start work.old.layer result }

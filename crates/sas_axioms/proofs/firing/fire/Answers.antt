@@ -26,7 +26,7 @@ returns-then-value-change g c =
     let w = c.args.work.now in
     let e = (rw c.task.ensures.task at c.rule_change-change.ensures) in
     let p = c.args.layered.now in
-    fires_by p c.args.state.now w c.args.rule c.task.ensures.well_ranged c.task.ensures.layered c.requires.running c.requires.rule c.requires.hold (changes g a) _ _ c.requires.room.sources
+    fires_by p c.args.state.now w c.args.rule c.task.ensures.well_ranged c.task.ensures.layered c.requires.running c.requires.rule c.requires.hold (changes g a) _ _
     (c.set-then-value-change.ensures ∙ ap (λ (x : Change). set w.sources x.var c.args.rule) e)
     (c.set.ensures ∙ ap (λ (x : Change). set c.args.state.now x.var x.new) e)
     ((rw (succeeds g a) at c.push.ensures.items) ∙ ap (λ (x : Change). w.stack.items ++ x.var ∷ []) e)
@@ -46,5 +46,5 @@ set-requires-then-value-change g c =
 
 pub returns-else-value-change : goal.returns-else-value-change
 returns-else-value-change g c =
-    fires_nothing c.args.layered.now c.args.state.now c.args.work.now c.args.rule c.requires.running
+    fires_nothing c.args.layered.now c.args.state.now c.args.work.now c.args.rule
     (λ is. subst (λ (x : Change). get_or c.args.state.now x.var 0 ≡ x.new) (rw c.task.ensures.task at c.rule_change-change.ensures) (sym c.value.ensures ∙ c.if-value-change.false))
