@@ -251,10 +251,6 @@ running_at_default t layer s state at = record {
     equal_places-le (x ∷ xs) [] = omega arith
     equal_places-le (x ∷ xs) (y ∷ ys) = let ih = equal_places-le xs ys in elim (eqb_tells x y) [ inl w ↦ rw w.0 (omega arith) | inr w ↦ rw w.0 (omega arith) ]
 
--- a rule that fires nothing
-pub fires_nothing : (t : Parts) (s : List ℕ) (w : Work) (k : ℕ) → (IsRuleOn t w.layer k → get_or s (rule_at t k).var 0 ≡ (rule_at t k).new) → FiresRule t k s w s w
-fires_nothing t s w k fired = record { goes_on = goes_on_still t s w; counters = refl; firing = λ was. was; seen = λ v. refl; fired = fired; kept = λ v differs. refl }
-
 -- ---- the entries of a popped variable
 
 -- the first i entries are counted, and the rules of the layer without open conditions have fired

@@ -1,12 +1,8 @@
 -- Resetting the variables of a layer one by one, and the rules that depend on them.
-use Rattle.sas_axioms.proofs.Imports.{◌≡◌, ◌≢◌, ◌⊎◌, ℕ, ◌+◌, ◌<◌, ◌≤◌, true, List, [], ◌∷◌, length, get_or, set, sym, ◌∙◌, ap, subst, inl, inr, arith, All, Contains, cases_eq, get_or-set_same, get_or-set_other, All-nil, All-cons, Contains-append_left, Contains-append_right, Contains-push, All-contains, Reverse, Parts, Change, change_of, rule_at, IsState, IsOnLayer, default_of, Agenda, Work, LayerRule, entry_for, IsOnAgenda, IsAwaited, AreBehind, RemovesFromAgenda, IsMadeReady, AreMadeReady, work_left, SameFrom, IsUpdatedTo, ChangesAreNoted, SameWork, CountsChange, IsFalling, IsRising, IsHolding, IsRuleOn, IsLayered, differs, differs_same, differs_not, heap_items}
+use Rattle.sas_axioms.proofs.Imports.{◌≡◌, ◌≢◌, ◌⊎◌, ℕ, ◌+◌, ◌<◌, true, List, [], ◌∷◌, length, get_or, set, sym, ◌∙◌, ap, subst, inl, inr, arith, All, Contains, cases_eq, get_or-set_same, get_or-set_other, All-nil, All-cons, Contains-append_left, Contains-append_right, Contains-push, All-contains, Reverse, Parts, Change, change_of, rule_at, IsState, IsOnLayer, default_of, Agenda, Work, LayerRule, entry_for, IsOnAgenda, IsAwaited, AreBehind, RemovesFromAgenda, IsMadeReady, AreMadeReady, work_left, SameFrom, IsUpdatedTo, ChangesAreNoted, SameWork, CountsChange, IsFalling, IsRising, IsHolding, IsRuleOn, IsLayered, differs, differs_same, differs_not, heap_items}
 use Rattle.sas_axioms.proofs.OneLayer.{one_layer}
 use Rattle.sas_axioms.proofs.Sources.{sources_fall}
 use Rattle.sas_axioms.proofs.Tracking.{with_agenda, awaited_on, track_taken, track_ready, asks_down, track_moved}
-
--- no rule is on the layer and on a higher one
-pub not_higher : (p : Parts) (layer m rule : ℕ) → IsRuleOn p layer rule → IsRuleOn p m rule → layer + 1 ≤ m → {A : Type 0} → A
-not_higher p layer m rule a b le = let e : m ≡ layer = one_layer p m layer rule b a in absurd (omega arith)
 
 -- a rule behind the layer stays noted where one of the layer is taken off
 pub noted_taken : (p : Parts) (layer rule : ℕ) (s0 s : List ℕ) (a a' : Agenda) → IsRuleOn p layer rule → RemovesFromAgenda layer rule a a' → ChangesAreNoted p (layer + 1) s0 s a → ChangesAreNoted p (layer + 1) s0 s a'
@@ -14,7 +10,7 @@ noted_taken p layer rule s0 s a a' is takes noted m other le on = elim (noted m 
   | inr same ↦ inr same
   | inl there ↦ elim (takes.noted m other there) [
     | inl still ↦ inl still
-    | inr e ↦ not_higher p layer m rule is (subst (λ r. IsRuleOn p m r) e on) le
+    | inr e ↦ (let same : m ≡ layer = one_layer p m layer rule (subst (λ r. IsRuleOn p m r) e on) is in absurd (omega arith))
   ]
 ]
 

@@ -261,6 +261,7 @@ fn fire_ready<T: Grounded>(
 }
 
 /// Sets the variable of the rule, which is on the layer, to its new value. If this changes the variable, pushes it on the stack.
+#[tactic(auto, using(crate::proofs::RuleChanges::change_within))]
 fn fire<T: Grounded>(layered: &Layered<T>, rule: u32, work: &mut Work, state: &mut State)
     requires rule { IsRuleOn layered.now work.old.layer rule }
     requires room { WorkHasRoom layered.now work.old }
@@ -296,6 +297,7 @@ fn empty_stack<T: Grounded>(indexed: &IndexedRules<'_, '_, T>, work: &mut Work, 
 
 /// Updates the counters of the rules with conditions on the variable, which was the last on the stack. Fires the rules of the layer whose
 /// counter becomes 0.
+#[tactic(auto, using(crate::proofs::Counters::top_within))]
 fn release<T: Grounded>(
     indexed: &IndexedRules<'_, '_, T>,
     var: u32,
@@ -322,6 +324,7 @@ fn release<T: Grounded>(
 
 /// Returns whether a rule that can fire has to fire now: it is on the layer and has no open conditions. `count` is the number of its open
 /// conditions.
+#[tactic(auto, using(crate::proofs::RuleChanges::change_within))]
 fn has_to_fire<T: Grounded>(layered: &Layered<T>, layer: u32, rule: u32, count: u32) -> bool
     requires { (its : ℕ) × IsRuleOn layered.now its rule }
     ensures none { IsTrue result → count ≡ 0 }

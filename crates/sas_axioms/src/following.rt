@@ -27,6 +27,7 @@ use sas_core::{Fact, Grounded};
 use sas_meaning::{ChangedVariables, Layered, State};
 
 /// Updates the counters of the rules with conditions on the variables of `gone`, which are facts that may have become false.
+#[tactic(auto, using(crate::proofs::GoneSteps::counted_nothing))]
 pub fn count_gone<T: Grounded>(
     indexed: &IndexedRules<'_, '_, T>,
     gone: &[Fact],
@@ -110,6 +111,7 @@ fn fall<T: Grounded>(
 }
 
 /// Returns whether the rule is the source of its variable's value but no longer holds.
+#[tactic(auto, using(crate::proofs::RuleChanges::change_within, crate::proofs::RuleChanges::differs_read))]
 fn has_lost<T: Grounded>(layered: &Layered<T>, rule: u32, work: &Work, state: &State) -> bool
     requires rule { (layer : ℕ) × IsRuleOn layered.now layer rule }
     requires state { IsState layered.now.variables state.now }
@@ -176,6 +178,7 @@ fn rise<T: Grounded>(
 }
 
 /// Returns whether the rule holds but its variable doesn't have its value.
+#[tactic(auto, using(crate::proofs::RuleChanges::change_within))]
 fn has_to_set<T: Grounded>(layered: &Layered<T>, rule: u32, work: &Work, state: &State) -> bool
     requires rule { (layer : ℕ) × IsRuleOn layered.now layer rule }
     requires state { IsState layered.now.variables state.now }
@@ -223,6 +226,7 @@ fn set_to<T: Grounded>(
 }
 
 /// Updates the counters of the rules with conditions on the variable. Notes the rules that begin or cease to hold.
+#[tactic(auto, using(crate::proofs::CountingEntries::counted_none))]
 fn recount<T: Grounded>(
     indexed: &IndexedRules<'_, '_, T>,
     var: u32,

@@ -1,7 +1,6 @@
 -- Setting the variable and its source.
-use Rattle.sas_axioms.proofs.Imports.{◌≡◌, ◌≢◌, true, [], ◌∷◌, ◌++◌, get_or, set, refl, sym, ap, subst, ◌∙◌, arith, is_ok, Change, rule_at}
-use Rattle.sas_axioms.proofs.Counters.{fires, fires_by, fires_nothing}
-use Rattle.sas_axioms.proofs.RuleChanges.{change_within}
+use Rattle.sas_axioms.proofs.Imports.{◌≡◌, ◌≢◌, true, [], ◌∷◌, ◌++◌, get_or, set, refl, sym, ap, ◌∙◌, arith, is_ok, Change, rule_at}
+use Rattle.sas_axioms.proofs.Counters.{fires, fires_by}
 use Rattle.sas_axioms.proofs.firing.fire.Goals as goal
 use Rattle.sas_axioms.proofs.firing.fire.Given.{Over}
 use Rattle.sas_axioms.proofs.firing.fire.Goals.{After-push}
@@ -31,20 +30,3 @@ returns-then-value-change g c =
     (c.set.ensures ∙ ap (λ (x : Change). set c.args.state.now x.var x.new) e)
     ((rw (succeeds g a) at c.push.ensures.items) ∙ ap (λ (x : Change). w.stack.items ++ x.var ∷ []) e)
     refl refl (omega arith)
-
-pub value-requires : goal.value-requires
-value-requires g c =
-    change_within c.args.layered.now c.task.ensures.well_ranged c.args.rule c.requires.rule.exists c.rule_change-change.result (rw c.task.ensures.task at c.rule_change-change.ensures) _ c.requires.running.state.one_each
-
-pub set-requires : goal.set-requires
-set-requires g c =
-    change_within c.args.layered.now c.task.ensures.well_ranged c.args.rule c.requires.rule.exists c.rule_change-change.result (rw c.task.ensures.task at c.rule_change-change.ensures) _ c.requires.running.state.one_each
-
-pub set-requires-then-value-change : goal.set-requires-then-value-change
-set-requires-then-value-change g c =
-    change_within c.args.layered.now c.task.ensures.well_ranged c.args.rule c.requires.rule.exists c.rule_change-change.result (rw c.task.ensures.task at c.rule_change-change.ensures) _ c.requires.room.sources
-
-pub returns-else-value-change : goal.returns-else-value-change
-returns-else-value-change g c =
-    fires_nothing c.args.layered.now c.args.state.now c.args.work.now c.args.rule
-    (λ is. subst (λ (x : Change). get_or c.args.state.now x.var 0 ≡ x.new) (rw c.task.ensures.task at c.rule_change-change.ensures) (sym c.value.ensures ∙ c.if-value-change.false))

@@ -1,21 +1,9 @@
 -- One more entry is counted.
 use Rattle.sas_axioms.proofs.Imports.{◌+◌, ◌<◌, length, get_or, refl, ap, ◌∙◌, arith, All, ValueChange, IsOfRule}
-use Rattle.sas_axioms.proofs.Counters.{goes_on_still, popped_running, top_within, can_release, ready_so_far, released_on, released_fired, at_work_again}
+use Rattle.sas_axioms.proofs.Counters.{goes_on_still, popped_running, can_release, ready_so_far, released_on, released_fired, at_work_again}
 use Rattle.sas_axioms.proofs.CountingEntries.{CanRecount, CountersSoFar, no_entry, counters_before, counters_passed, counters_set, its_count, can_count}
 use Rattle.sas_axioms.proofs.firing.release.Goals as goal
 use Rattle.sas_axioms.proofs.firing.release.Goals.{in-Some+then-has_to_fire, in-Some+else-has_to_fire, in_default}
-
-pub initial_value-requires : goal.initial_value-requires
-initial_value-requires g c =
-    rw c.indexed.view_is (top_within c.args.indexed.now c.args.work.now.layer c.args.state.now c.args.work.now.stack.items c.args.var c.requires.firing.running)
-
-pub value-requires : goal.value-requires
-value-requires g c =
-    omega (arith, top_within c.args.indexed.now c.args.work.now.layer c.args.state.now c.args.work.now.stack.items c.args.var c.requires.firing.running, c.requires.firing.running.state.one_each)
-
-pub get-condition-items-requires : goal.get-condition-items-requires
-get-condition-items-requires g c =
-    omega (arith, top_within c.args.indexed.now c.args.work.now.layer c.args.state.now c.args.work.now.stack.items c.args.var c.requires.firing.running, (rw c.indexed.view_is at c.indexed.invariant).full.one_each)
 
 pub loop-condition-init : goal.loop-condition-init
 loop-condition-init g c =

@@ -1,17 +1,8 @@
 -- The counter is set, and the rule is noted with its layer.
-use Rattle.sas_axioms.proofs.Imports.{length, refl, ap, subst, inl, ◌∙◌, length-set, IsOnAgenda}
+use Rattle.sas_axioms.proofs.Imports.{subst, inl, IsOnAgenda}
 use Rattle.sas_axioms.proofs.AgendaOrder.{noted_there, notes_more, notes_left}
 use Rattle.sas_axioms.proofs.OneLayer.{one_layer}
 use Rattle.sas_axioms.proofs.following.count_to.Goals as goal
-
-pub returns-in_err-note-clause-same : goal.returns-in_err-note-clause-same
-returns-in_err-note-clause-same g c = record { layer = refl; stack = refl; one_each = ap length c.set.ensures ∙ length-set c.args.work.now.counters c.args.rule c.args.count; sources = refl }
-
-pub returns-in_ok-note-clause-same : goal.returns-in_ok-note-clause-same
-returns-in_ok-note-clause-same g c = record { layer = refl; stack = refl; one_each = ap length c.set.ensures ∙ length-set c.args.work.now.counters c.args.rule c.args.count; sources = refl }
-
-pub returns-else-held-count-clause-same : goal.returns-else-held-count-clause-same
-returns-else-held-count-clause-same g c = record { layer = refl; stack = refl; one_each = ap length c.set.ensures ∙ length-set c.args.work.now.counters c.args.rule c.args.count; sources = refl }
 
 pub returns-in_ok-note-clause-counts : goal.returns-in_ok-note-clause-counts
 returns-in_ok-note-clause-counts g c =

@@ -2,8 +2,7 @@
 use Rattle.sas_axioms.proofs.Imports.{◌≡◌, ◌⊎◌, ℕ, ◌<◌, true, ◌∷◌, [], length, get_or, set, is_some, refl, sym, ap, subst, ◌∙◌, inl, inr, arith, All, Contains, heap_items, length-append, Change, rule_at, IsState, default_of, differs, on_layer_within, state_set, differs_not, Agenda, IsOnAgenda, work_left, IsFalling, IsRuleOn, IsHolding}
 use Rattle.sas_axioms.proofs.RulesOf.{rules_on, rule_under}
 use Rattle.sas_axioms.proofs.FallingSteps.{falling_passed, falling_fell, risen_from_fallen, fallen_is, less_in_the_end}
-use Rattle.sas_axioms.proofs.Tracking.{awaited_on, holding_when_zero, off_step, covered_step, same_but}
-use Rattle.sas_axioms.proofs.CountingEntries.{same_more}
+use Rattle.sas_axioms.proofs.Tracking.{awaited_on, holding_when_zero, off_step, covered_step}
 use Rattle.sas_axioms.proofs.following.fall.Goals as goal
 use Rattle.sas_axioms.proofs.following.fall.Given.{Over}
 use Rattle.sas_axioms.proofs.following.fall.Goals.{In-Some}
@@ -35,9 +34,6 @@ initial_value-value-requires g c = rw (c.indexed.view_is, ap (λ (x : Change). x
 
 pub set_to-requires-clause-counts : goal.set_to-requires-clause-counts
 set_to-requires-clause-counts g c = (some g (goal.at.set_to-requires-clause-counts g c).In-Some).track.counts
-
-pub set_to-requires-clause-ordered : goal.set_to-requires-clause-ordered
-set_to-requires-clause-ordered g c = rw c.in_ok-make_ready.ensures.noted c.in-Some.ensures.some.ordered
 
 pub set_to-requires-clause-derived : goal.set_to-requires-clause-derived
 set_to-requires-clause-derived g c = rw (ap (λ (x : Change). x.var) (rw c.indexed.view_is at c.rule_change-var.ensures)) (ap is_some (on g (goal.at.set_to-requires-clause-derived g c).In-Some).on)
@@ -119,35 +115,12 @@ loop-rule-preserved g c =
           let r = ap length made.ready in let l = length-append c.take.new.self.ready.items (rule ∷ []) in let n = ap (λ h. length (heap_items h)) made.noted in let m = made.left in omega arith));
     }
 
-pub loop-rule-init : goal.loop-rule-init
-loop-rule-init g c = record {
-  same = record { layer = refl; stack = refl; one_each = refl; sources = refl };
-  state = c.requires.falling.1.track.state;
-  off = λ v _. refl;
-  covered = λ before covers. covers;
-  falling = λ s falling. falling;
-  left = inr refl;
-}
-
-pub returns-in_err-set_to-clause-same : goal.returns-in_err-set_to-clause-same
-returns-in_err-set_to-clause-same g c =
-    same_more c.args.work.now _ c.set_to.new.work (same_but c.args.work.now c.loop-rule.work c.make_ready.new.agenda c.loop-rule.invariant.same) c.set_to.ensures.same
-
 pub returns-clause-left : goal.returns-clause-left
 returns-clause-left g c =
     let inv = c.loop-rule.invariant in
     let same = c.in_default.ensures.same in
     let noted = subst (λ n. IsOnAgenda c.args.work.now.agenda n c.requires.noted.0) (sym inv.same.layer) c.requires.noted.1 in
     less_in_the_end c.loop-rule.work.layer c.requires.noted.0 c.args.work.now.agenda c.take.new.self noted c.in_default.ensures.none (rw same inv.left)
-
-pub loop-rule-smaller-in-Continue-branch-2 : goal.loop-rule-smaller-in-Continue-branch-2
-loop-rule-smaller-in-Continue-branch-2 g c =
-    let a = c.in-Some.ensures.left in let d = c.in_ok-set_to.ensures.moves.left in let e = c.in_ok-make_ready.ensures.left in omega arith
-
-pub loop-rule-smaller : goal.loop-rule-smaller
-loop-rule-smaller g c =
-    let a = c.in-Some.ensures.left in let made = c.in_ok-make_ready-2.ensures in
-    let r = ap length made.ready in let l = length-append c.take.new.self.ready.items (c.in-Some.rule ∷ []) in let n = ap (λ h. length (heap_items h)) made.noted in let m = made.left in omega arith
 
 pub returns-in_err-set_to-clause-covered : goal.returns-in_err-set_to-clause-covered
 returns-in_err-set_to-clause-covered g c = rw (c.in_err-set_to.ensures.unchanged, c.in_err-set_to.ensures.untouched) c.loop-rule.invariant.covered

@@ -1,15 +1,10 @@
 -- One more entry is counted.
 use Rattle.sas_axioms.proofs.Imports.{◌≡◌, ◌<◌, length, get_or, sym, ap, subst, arith, All, IsOfRule, waiting_at}
 use Rattle.sas_axioms.proofs.AllConditions.{can_recount}
-use Rattle.sas_axioms.proofs.CountingEntries.{CanRecount, no_entry, counted_none, can_count, entry_counted, entry_passed}
+use Rattle.sas_axioms.proofs.CountingEntries.{CanRecount, no_entry, can_count, entry_counted, entry_passed}
 use Rattle.sas_axioms.proofs.Recounting.{moved_when_recounted}
 use Rattle.sas_axioms.proofs.following.recount.Goals as goal
 use Rattle.sas_axioms.proofs.following.recount.Goals.{in-Some+in_ok-count_to, in_default}
-
-pub loop-condition-init : goal.loop-condition-init
-loop-condition-init g c =
-    counted_none c.args.indexed.now c.args.moved c.get-waiting.result.now c.args.work.now c.pay.new.self c.requires.ordered
-    c.pay.ensures.noted c.pay.ensures.ready c.in_ok-pay.ensures.left
 
 pub count_after-requires : goal.count_after-requires
 count_after-requires g c =

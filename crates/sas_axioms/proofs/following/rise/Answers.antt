@@ -1,7 +1,7 @@
 -- The rules are removed one by one: each sets its variable, or needs not.
 use Rattle.sas_axioms.proofs.Imports.{◌≡◌, ℕ, ◌<◌, true, List, length, get_or, set, is_some, refl, sym, ap, subst, ◌∙◌, arith, Change, rule_at, IsOnLayer, on_layer_within, length-set, get_or-set_other, differs, differs_true, IsRising, IsRuleOn, IsHolding}
 use Rattle.sas_axioms.proofs.RisingSteps.{rising_passed, rising_set, fires}
-use Rattle.sas_axioms.proofs.Tracking.{awaited_on, holding_when_zero, zero_when_holding, off_step, covered_step, room_same, room_but, room_more}
+use Rattle.sas_axioms.proofs.Tracking.{awaited_on, holding_when_zero, zero_when_holding, off_step, covered_step, room_more}
 use Rattle.sas_axioms.proofs.following.rise.Goals as goal
 use Rattle.sas_axioms.proofs.following.rise.Given.{Over}
 use Rattle.sas_axioms.proofs.following.rise.Goals.{In-Some}
@@ -95,30 +95,10 @@ loop-rule-preserved g c =
       left = let a = inv.left in let d = c.in-Some.ensures.some.left in omega arith;
     }
 
+pub returns-in_err-set_to-clause-covered : goal.returns-in_err-set_to-clause-covered
+returns-in_err-set_to-clause-covered g c = rw (c.in_err-set_to.ensures.unchanged, c.in_err-set_to.ensures.untouched) c.loop-rule.invariant.covered
+
 pub returns-clause-risen : goal.returns-clause-risen
 returns-clause-risen g c s rising =
     let same = c.in_default.ensures.same in
     rw same record { rising = c.loop-rule.invariant.rising s rising; behind = rw same at c.in_default.ensures.none; empty = rw same at c.in_default.ensures.empty }
-
-pub loop-rule-init : goal.loop-rule-init
-loop-rule-init g c = record {
-  room = record { layer = refl; stack = refl; one_each = refl; sources = refl };
-  sources = λ v off. refl;
-  state = c.requires.1.track.state;
-  off = λ v off. refl;
-  covered = λ before covers. covers;
-  rising = λ s rising. rising;
-  left = omega arith;
-}
-
-pub set_to-requires-clause-other : goal.set_to-requires-clause-other
-set_to-requires-clause-other g c = λ same.
-    (rw c.indexed.view_is at c.has_to_set.ensures).other c.if-has_to_set.true (subst (λ (x : Change). get_or c.loop-rule.state x.var 0 ≡ x.new) (rw c.indexed.view_is at c.rule_change-change.ensures) same)
-
-pub returns-in_err-set_to-clause-stands : goal.returns-in_err-set_to-clause-stands
-returns-in_err-set_to-clause-stands g c =
-    room_more c.args.work.now _ c.set_to.new.work (room_but c.args.work.now c.loop-rule.work c.next.new.self c.loop-rule.invariant.room)
-    (room_same _ c.set_to.new.work c.set_to.ensures.same)
-
-pub returns-in_err-set_to-clause-covered : goal.returns-in_err-set_to-clause-covered
-returns-in_err-set_to-clause-covered g c = rw (c.in_err-set_to.ensures.unchanged, c.in_err-set_to.ensures.untouched) c.loop-rule.invariant.covered

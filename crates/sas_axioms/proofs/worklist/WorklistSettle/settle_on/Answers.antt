@@ -1,5 +1,5 @@
 -- A state that was updated is settled.
-use Rattle.sas_axioms.proofs.Imports.{rules, ◌≡◌, ℕ, length, refl, ap, arith, is_some, IsOnLayer, covers_gone, covers_any, IsFollowed}
+use Rattle.sas_axioms.proofs.Imports.{rules, ◌≡◌, ℕ, length, ap, arith, is_some, IsOnLayer, covers_gone, covers_any, IsFollowed}
 use Rattle.sas_axioms.proofs.GoneSteps.{idle_followed}
 use Rattle.sas_axioms.proofs.worklist.WorklistSettle.settle_on.Goals as goal
 use Rattle.sas_axioms.proofs.worklist.WorklistSettle.settle_on.Given.{Over}
@@ -14,9 +14,6 @@ no_layer g c layer v on =
 pub returns-then-is_empty-clause-follows : goal.returns-then-is_empty-clause-follows
 returns-then-is_empty-clause-follows g c =
     idle_followed c.args.layered.now c.requires.follows.0 c.args.state.now c.args.self.now.firing.work (no_layer g c) c.requires.state c.requires.follows.1
-
-pub returns-then-is_empty-clause-settles : goal.returns-then-is_empty-clause-settles
-returns-then-is_empty-clause-settles g c = record { state = c.requires.state; basic = λ v b. refl; settled = (returns-then-is_empty-clause-follows g c).settled }
 
 pub returns-else-is_err-clause-settles : goal.returns-else-is_err-clause-settles
 returns-else-is_err-clause-settles g c =
