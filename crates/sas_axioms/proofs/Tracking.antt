@@ -1,5 +1,5 @@
 -- What is counted and noted goes on to fit the state.
-use Rattle.sas_axioms.proofs.Imports.{◌≡◌, ℕ, ◌≤◌, List, ◌++◌, length, get_or, set, is_some, sym, ap, ◌∙◌, subst, inl, inr, All, Contains, heap_items, All-contains, All-append, Reverse, Parts, rule_at, IsState, IsOnLayer, IsLayered, LooksDown, ChangedVariables, AddsTouched, StillCovers, looks_down, covers_set, SameOff, get_or-set_other, Agenda, Work, LayerRule, IsAwaited, RemovesFromAgenda, AreCounted, IsHolding, AsksAbout, CountsChange, IsOnTrack, SameWork, KeepsRoom, IsRuleOn, no_effect}
+use Rattle.sas_axioms.proofs.Imports.{◌≡◌, ℕ, ◌≤◌, List, ◌++◌, length, get_or, set, is_some, sym, ap, ◌∙◌, subst, inl, inr, All, Contains, heap_items, All-contains, All-append, Reverse, Parts, rule_at, IsState, IsOnLayer, IsLayered, LooksDown, ChangedVariables, AddsTouched, StillCovers, looks_down, covers_set, SameOff, get_or-set_other, Agenda, Work, LayerRule, IsAwaited, RemovesFromAgenda, AreCounted, IsHolding, AsksAbout, CountsChange, IsOnTrack, KeepsRoom, IsRuleOn, no_effect}
 use Rattle.sas_axioms.proofs.Counters.{all_hold_when_none_open, none_open_when_all_hold}
 
 -- what holds of all elements of a list holds of those of one that has no others
@@ -99,17 +99,6 @@ off_step p layer at s0 s s' var value same so_far on is v off = so_far v off ∙
 
 pub covered_step : (p : Parts) (layer : ℕ) (s0 s s' : List ℕ) (var value : ℕ) (t0 t t' : ChangedVariables) → StillCovers p s0 t0 s t → IsOnLayer p layer var → s' ≡ set s var value → AddsTouched var t t' → StillCovers p s0 t0 s' t'
 covered_step p layer s0 s s' var value t0 t t' so_far on is notes before covers = covers_set p s s' var value t t' (ap is_some on) is notes before (so_far before covers)
-
--- another agenda is no other work
-pub same_but : (w w' : Work) (a : Agenda) → SameWork w w' → SameWork w (with_agenda w' a)
-same_but w w' a same = record { layer = same.layer; stack = same.stack; one_each = same.one_each; sources = same.sources }
-
--- and the same work has as much room
-pub room_same : (w w' : Work) → SameWork w w' → KeepsRoom w w'
-room_same w w' same = record { layer = same.layer; stack = same.stack; one_each = same.one_each; sources = ap length same.sources }
-
-pub room_but : (w w' : Work) (a : Agenda) → KeepsRoom w w' → KeepsRoom w (with_agenda w' a)
-room_but w w' a keeps = record { layer = keeps.layer; stack = keeps.stack; one_each = keeps.one_each; sources = keeps.sources }
 
 pub room_more : (w w' w'' : Work) → KeepsRoom w w' → KeepsRoom w' w'' → KeepsRoom w w''
 room_more w w' w'' a b = record { layer = b.layer ∙ a.layer; stack = b.stack ∙ a.stack; one_each = b.one_each ∙ a.one_each; sources = b.sources ∙ a.sources }
