@@ -27,7 +27,6 @@ use sas_core::{Fact, Grounded};
 use sas_meaning::{ChangedVariables, Layered, State};
 
 /// Updates the counters of the rules with conditions on the variables of `gone`, which are facts that may have become false.
-#[tactic(auto, using(crate::proofs::GoneSteps::counted_nothing))]
 pub fn count_gone<T: Grounded>(
     indexed: &IndexedRules<'_, '_, T>,
     gone: &[Fact],

@@ -1,7 +1,7 @@
 -- The facts are processed one by one.
-use Rattle.sas_axioms.proofs.Imports.{◌≡◌, ℕ, ◌+◌, ◌<◌, List, ◌∷◌, length, get_or, set, drop, subst, ◌∙◌, arith, drop_more, at_drop_all, All-head, Fact, Parts, HaveGone, Holds, IsBasic, IsBetween, state_set}
+use Rattle.sas_axioms.proofs.Imports.{◌≡◌, ℕ, ◌+◌, ◌<◌, List, ◌∷◌, length, get_or, set, drop, refl, subst, ◌∙◌, arith, drop_more, at_drop_all, All-head, Fact, Parts, HaveGone, Holds, IsBasic, IsBetween, state_set}
 use Rattle.sas_axioms.proofs.CountingEntries.{same_more}
-use Rattle.sas_axioms.proofs.GoneSteps.{counted_more, gone_one, gone_same, gone_all}
+use Rattle.sas_axioms.proofs.GoneSteps.{counted_nothing, counted_more, gone_one, gone_same, gone_all}
 use Rattle.sas_axioms.proofs.following.count_gone.Goals as goal
 use Rattle.sas_axioms.proofs.following.count_gone.Goals.{then-moved+in_ok-recount, else-moved}
 
@@ -13,6 +13,12 @@ exists_here : (p : Parts) (gone : List Fact) (i : ℕ) → i < length gone → (
 exists_here p gone i lt s s' have =
     let here : HaveGone p (get_or gone i no_fact ∷ drop (i + 1) gone) s s' = rw (drop_more gone i no_fact lt) at have in
     All-head (λ (h : Fact). h.var < length p.variables) (get_or gone i no_fact) (drop (i + 1) gone) here.exist
+
+pub loop-fact-init : goal.loop-fact-init
+loop-fact-init g c = record {
+  same = record { layer = refl; stack = refl; one_each = refl; sources = refl };
+  so_far = λ s followed have. (s, have, counted_nothing c.args.indexed.now s c.args.work.now followed c.requires.empty);
+}
 
 pub recount-requires-clause-counts : goal.recount-requires-clause-counts
 recount-requires-clause-counts g c =

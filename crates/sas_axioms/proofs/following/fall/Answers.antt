@@ -124,3 +124,12 @@ returns-clause-left g c =
 
 pub returns-in_err-set_to-clause-covered : goal.returns-in_err-set_to-clause-covered
 returns-in_err-set_to-clause-covered g c = rw (c.in_err-set_to.ensures.unchanged, c.in_err-set_to.ensures.untouched) c.loop-rule.invariant.covered
+
+pub loop-rule-smaller-in-Continue-branch-2 : goal.loop-rule-smaller-in-Continue-branch-2
+loop-rule-smaller-in-Continue-branch-2 g c =
+    let a = c.in-Some.ensures.left in let d = c.in_ok-set_to.ensures.moves.left in let e = c.in_ok-make_ready.ensures.left in omega arith
+
+pub loop-rule-smaller : goal.loop-rule-smaller
+loop-rule-smaller g c =
+    let a = c.in-Some.ensures.left in let made = c.in_ok-make_ready-2.ensures in
+    let r = ap length made.ready in let l = length-append c.take.new.self.ready.items (c.in-Some.rule ∷ []) in let n = ap (λ h. length (heap_items h)) made.noted in let m = made.left in omega arith
