@@ -1,8 +1,8 @@
 -- The counters of a worklist.
-use Rattle.sas_axioms.proofs.Imports.{◌≡◌, ◌≢◌, ℕ, ◌+◌, ◌<◌, ◌≤◌, ◌==◌, ◌⊎◌, true, cond, List, [], ◌∷◌, ◌++◌, length, get_or, set, refl, sym, ◌∙◌, ap, subst, inl, inr, arith, cases_eq, eqb_tells, get_or-set_same, get_or-set_other, length-set, length-append, vec_capacity, Fact, Effect, Parts, rule_at, IsState, WellRanged, Holds, AllHold, IsOnLayer, on_layer_within, default_of, IsRuleOn, AreGiven, open_conditions, occurrences, asking, ValueChange, RuleCondition, waiting_at, IsFullIndex, Work, value_seen, IsRunning, AreCountedBy, HaveFired, WorkHasRoom, IsAtWork, WorkGoesOn, FiresRule, IsLayered, differs, IsSettledAt, AtDefault, equal_places, All, All-nil, All-cons, All-head, All-tail, Fired, fired_there, rule_new, differs_true, differs_same, differs_not, fact_within, forced_at_default, no_effect}
+use Rattle.sas_axioms.proofs.Imports.{◌≡◌, ◌≢◌, ℕ, ◌+◌, ◌<◌, ◌≤◌, ◌==◌, ◌⊎◌, true, cond, List, [], ◌∷◌, ◌++◌, length, get_or, set, refl, sym, ◌∙◌, ap, subst, inl, inr, arith, cases_eq, eqb_tells, get_or-set_same, get_or-set_other, length-set, length-append, vec_capacity, Fact, Parts, rule_at, IsState, WellRanged, Holds, AllHold, IsOnLayer, on_layer_within, default_of, IsRuleOn, open_conditions, occurrences, asking, ValueChange, RuleCondition, waiting_at, IsFullIndex, Work, value_seen, IsRunning, AreCountedBy, HaveFired, IsFiring, IsAtWork, WorkGoesOn, FiresRule, IsLayered, differs, IsSettledAt, AtDefault, equal_places, All, All-nil, All-cons, All-head, All-tail, Fired, fired_there, rule_new, differs_true, differs_same, differs_not, fact_within, forced_at_default, no_effect}
 use Rattle.sas_axioms.proofs.AllConditions.{can_recount, open_changed}
 use Rattle.sas_axioms.proofs.CountingEntries.{CanRecount, CountersSoFar, counters_after, left_over}
-use Rattle.sas_axioms.proofs.Sources.{settled_when_set}
+use Rattle.sas_axioms.proofs.Sources.{given_when_fired, settled_when_set}
 
 pub occurrences-append : (n : ℕ) (xs ys : List ℕ) → occurrences n (xs ++ ys) ≡ occurrences n xs + occurrences n ys
 occurrences-append n [] ys = omega arith
@@ -21,94 +21,80 @@ seen_shows t s stack v = elim (eqb_tells (occurrences v stack) 0) [
   | inr w ↦ (let ne : occurrences v stack ≢ 0 = w.1 in inr (omega arith, rw w.0 refl))
 ]
 
--- a rule that changes its variable's value, with the variable put on the stack
-pub record Pushed (t : Parts) (layer : ℕ) (s stack : List ℕ) (rule : Effect) : Type 0 where
-  pub fires : Fired t layer s rule
-  pub running : IsRunning t layer (set s rule.var rule.new) (stack ++ rule.var ∷ [])
-  pub seen : (v : ℕ) → value_seen t (set s rule.var rule.new) (stack ++ rule.var ∷ []) v ≡ value_seen t s stack v
-  pub kept : (v : ℕ) → differs t s v ≡ true → get_or (set s rule.var rule.new) v 0 ≡ get_or s v 0
-
 -- the variable of a rule exists
 pub rule_within : (t : Parts) (s : List ℕ) (k : ℕ) → WellRanged t → IsState t.variables s → k < length t.rules → (rule_at t k).var < length s
 rule_within t s k ranged state lt =
     let within = fact_within t (rule_at t k).var (rule_at t k).new (rule_new t ranged k no_effect lt) in
     let len = state.one_each in omega arith
 
-pub pushed : (t : Parts) (layer : ℕ) (s stack : List ℕ) (k : ℕ) → WellRanged t → IsLayered t → IsRunning t layer s stack → IsRuleOn t layer k
-    → AllHold (λ v. get_or s v 0) (rule_at t k).conditions → get_or s (rule_at t k).var 0 ≢ (rule_at t k).new → Pushed t layer s stack (rule_at t k)
-pushed t layer s stack k ranged layered run on_k hold changes = record {
-  fires = f;
-  running = record { state = f.state; forced = f.forced; fired = fired; once = once; room = room };
-  seen = seen_same;
-  kept = kept;
-}
-  where
-    within : (rule_at t k).var < length s
-    within = rule_within t s k ranged run.state on_k.exists
+-- a rule that holds and changes its variable's value, which is put on the stack
+module _ (t : Parts) (s : List ℕ) (w : Work) (k : ℕ) (ranged : WellRanged t) (layered : IsLayered t) (run : IsRunning t w.layer s w.stack.items) (on : IsRuleOn t w.layer k)
+    (hold : AllHold (λ v. get_or s v 0) (rule_at t k).conditions) (changes : get_or s (rule_at t k).var 0 ≢ (rule_at t k).new) where
+  pub fires : Fired t w.layer s (rule_at t k)
+  fires = fired_there t w.layer s k no_effect ranged layered run.state run.forced on.exists (record { on = on.on; can = on.can; hold = hold; new = changes })
 
-    f : Fired t layer s (rule_at t k)
-    f = fired_there t layer s k no_effect ranged layered run.state run.forced on_k.exists (record { on = on_k.on; can = on_k.can; hold = hold; new = changes })
+  -- by these writes
+  pub fires_by : (s' : List ℕ) (w' : Work) → w'.sources ≡ set w.sources (rule_at t k).var k
+      → s' ≡ set s (rule_at t k).var (rule_at t k).new → w'.stack.items ≡ w.stack.items ++ (rule_at t k).var ∷ []
+      → w'.layer ≡ w.layer → w'.counters ≡ w.counters → vec_capacity w.stack ≤ vec_capacity w'.stack → FiresRule t k s w s' w'
+  fires_by s' w' sources-is s-is stack-is layer counters capacity = record {
+    goes_on = record {
+      layer = layer;
+      off = rw s-is fires.off;
+      sources = λ v off. ap (λ (xs : List ℕ). get_or xs v 0) sources-is
+          ∙ get_or-set_other w.sources (rule_at t k).var v k 0 (λ e. off (subst (λ u. IsOnLayer t w.layer u) (sym e) on.on));
+      left = rw (s-is, stack-is) (let fewer = fires.fewer in let len = length-append w.stack.items ((rule_at t k).var ∷ []) in omega arith);
+    };
+    counters = counters;
+    firing = λ was. record {
+      room = record { one_each = ap length counters ∙ was.room.one_each; variables = omega (arith, was.room.variables, capacity); sources = ap length sources-is ∙ length-set w.sources (rule_at t k).var k ∙ was.room.sources };
+      running = rw (layer, s-is, stack-is) record { state = fires.state; forced = fires.forced; fired = fired; once = once; room = room };
+      given = rw (layer, s-is, sources-is) (given_when_fired t w.layer k s w.sources layered on was.given hold fires.default within (let one = run.state.one_each in omega (arith, within, was.room.sources)));
+    };
+    seen = rw (s-is, stack-is) seen_same;
+    fired = λ _. rw s-is (get_or-set_same s (rule_at t k).var (rule_at t k).new 0 within);
+    kept = rw s-is kept;
+  }
+    where
+      within : (rule_at t k).var < length s
+      within = rule_within t s k ranged run.state on.exists
 
-    kept : (v : ℕ) → differs t s v ≡ true → get_or (set s (rule_at t k).var (rule_at t k).new) v 0 ≡ get_or s v 0
-    kept v d = get_or-set_other s (rule_at t k).var v (rule_at t k).new 0 (λ e. differs_not t s v d (subst (λ x. get_or s x 0 ≡ default_of t x) (sym e) f.default))
+      kept : (v : ℕ) → differs t s v ≡ true → get_or (set s (rule_at t k).var (rule_at t k).new) v 0 ≡ get_or s v 0
+      kept v d = get_or-set_other s (rule_at t k).var v (rule_at t k).new 0 (λ e. differs_not t s v d (subst (λ x. get_or s x 0 ≡ default_of t x) (sym e) fires.default))
 
-    not_yet : occurrences (rule_at t k).var stack ≡ 0
-    not_yet = elim (seen_shows t s stack (rule_at t k).var) [ inl w ↦ w.0 | inr w ↦ absurd (differs_not t s (rule_at t k).var (run.fired (rule_at t k).var w.0).1 f.default) ]
+      not_yet : occurrences (rule_at t k).var w.stack.items ≡ 0
+      not_yet = elim (seen_shows t s w.stack.items (rule_at t k).var) [ inl z ↦ z.0 | inr z ↦ absurd (differs_not t s (rule_at t k).var (run.fired (rule_at t k).var z.0).1 fires.default) ]
 
-    fired : (v : ℕ) → 0 < occurrences v (stack ++ (rule_at t k).var ∷ []) → IsOnLayer t layer v × (differs t (set s (rule_at t k).var (rule_at t k).new) v ≡ true)
-    fired v lt = elim (occurrences_pushed v (rule_at t k).var stack) [
-      | inl w ↦ (
-        subst (λ x. IsOnLayer t layer x) w.0 on_k.on,
-        subst (λ x. differs t (set s (rule_at t k).var (rule_at t k).new) x ≡ true) w.0
-            (differs_true t (set s (rule_at t k).var (rule_at t k).new) (rule_at t k).var (λ e. on_k.can (sym (get_or-set_same s (rule_at t k).var (rule_at t k).new 0 within) ∙ e))),
-      )
-      | inr w ↦ (let p = run.fired v (subst (λ n. 0 < n) w.1 lt) in
-          (p.0, differs_same t s (set s (rule_at t k).var (rule_at t k).new) v (sym (kept v p.1)) p.1))
-    ]
-
-    once : (v : ℕ) → occurrences v (stack ++ (rule_at t k).var ∷ []) ≤ 1
-    once v = elim (occurrences_pushed v (rule_at t k).var stack) [
-      | inl w ↦ (let z : occurrences v stack ≡ 0 = subst (λ x. occurrences x stack ≡ 0) w.0 not_yet in let e = w.1 in omega arith)
-      | inr w ↦ (let le = run.once v in let e = w.1 in omega arith)
-    ]
-
-    room : length (stack ++ (rule_at t k).var ∷ []) + equal_places (set s (rule_at t k).var (rule_at t k).new) t.init ≤ length (set s (rule_at t k).var (rule_at t k).new)
-    room = let a = length-append stack ((rule_at t k).var ∷ []) in let b = length-set s (rule_at t k).var (rule_at t k).new in let le = run.room in let lt = f.fewer in omega arith
-
-    seen_same : (v : ℕ) → value_seen t (set s (rule_at t k).var (rule_at t k).new) (stack ++ (rule_at t k).var ∷ []) v ≡ value_seen t s stack v
-    seen_same v = elim (occurrences_pushed v (rule_at t k).var stack) [
-      | inl w ↦ elim (seen_shows t (set s (rule_at t k).var (rule_at t k).new) (stack ++ (rule_at t k).var ∷ []) v) [
-        | inl a ↦ (let x = w.1 in let y = a.0 in absurd (omega arith))
-        | inr a ↦ a.1 ∙ (subst (λ x. default_of t x ≡ value_seen t s stack x) w.0
-            (elim (seen_shows t s stack (rule_at t k).var) [ inl b ↦ sym (b.1 ∙ f.default) | inr b ↦ sym b.1 ]))
+      fired : (v : ℕ) → 0 < occurrences v (w.stack.items ++ (rule_at t k).var ∷ []) → IsOnLayer t w.layer v × (differs t (set s (rule_at t k).var (rule_at t k).new) v ≡ true)
+      fired v lt = elim (occurrences_pushed v (rule_at t k).var w.stack.items) [
+        | inl z ↦ (
+          subst (λ x. IsOnLayer t w.layer x) z.0 on.on,
+          subst (λ x. differs t (set s (rule_at t k).var (rule_at t k).new) x ≡ true) z.0
+              (differs_true t (set s (rule_at t k).var (rule_at t k).new) (rule_at t k).var (λ e. on.can (sym (get_or-set_same s (rule_at t k).var (rule_at t k).new 0 within) ∙ e))),
+        )
+        | inr z ↦ (let p = run.fired v (subst (λ n. 0 < n) z.1 lt) in
+            (p.0, differs_same t s (set s (rule_at t k).var (rule_at t k).new) v (sym (kept v p.1)) p.1))
       ]
-      | inr w ↦ ap (λ n. cond (n == 0) (get_or (set s (rule_at t k).var (rule_at t k).new) v 0) (default_of t v)) w.1
-          ∙ ap (λ x. cond (occurrences v stack == 0) x (default_of t v)) (get_or-set_other s (rule_at t k).var v (rule_at t k).new 0 (λ e. w.0 (sym e)))
-    ]
 
--- the two writes of a rule that fires
-pub fires_by : (t : Parts) (s : List ℕ) (w : Work) (s' : List ℕ) (w' : Work) (k : ℕ) → WellRanged t → IsState t.variables s → IsRuleOn t w.layer k → Pushed t w.layer s w.stack.items (rule_at t k)
-    → (AreGiven t w.layer s w.sources → AreGiven t w.layer (set s (rule_at t k).var (rule_at t k).new) (set w.sources (rule_at t k).var k))
-    → w'.sources ≡ set w.sources (rule_at t k).var k
-    → s' ≡ set s (rule_at t k).var (rule_at t k).new → w'.stack.items ≡ w.stack.items ++ (rule_at t k).var ∷ []
-    → w'.layer ≡ w.layer → w'.counters ≡ w.counters → vec_capacity w.stack ≤ vec_capacity w'.stack → FiresRule t k s w s' w'
-fires_by t s w s' w' k ranged state on p given sources-is s-is stack-is layer counters room = record {
-  goes_on = record {
-    layer = layer;
-    off = rw s-is p.fires.off;
-    sources = λ v off. ap (λ (xs : List ℕ). get_or xs v 0) sources-is
-        ∙ get_or-set_other w.sources (rule_at t k).var v k 0 (λ e. off (subst (λ u. IsOnLayer t w.layer u) (sym e) on.on));
-    left = rw (s-is, stack-is) (let fewer = p.fires.fewer in let len = length-append w.stack.items ((rule_at t k).var ∷ []) in omega arith);
-  };
-  counters = counters;
-  sources = ap length sources-is ∙ length-set w.sources (rule_at t k).var k;
-  given = λ was. rw (s-is, sources-is) (given was);
-  room = room;
-  running = rw (s-is, stack-is) p.running;
-  seen = rw (s-is, stack-is) p.seen;
-  fired = λ _. rw s-is (get_or-set_same s (rule_at t k).var (rule_at t k).new 0 (rule_within t s k ranged state on.exists));
-  kept = rw s-is p.kept;
-}
+      once : (v : ℕ) → occurrences v (w.stack.items ++ (rule_at t k).var ∷ []) ≤ 1
+      once v = elim (occurrences_pushed v (rule_at t k).var w.stack.items) [
+        | inl z ↦ (let none : occurrences v w.stack.items ≡ 0 = subst (λ x. occurrences x w.stack.items ≡ 0) z.0 not_yet in let e = z.1 in omega arith)
+        | inr z ↦ (let le = run.once v in let e = z.1 in omega arith)
+      ]
+
+      room : length (w.stack.items ++ (rule_at t k).var ∷ []) + equal_places (set s (rule_at t k).var (rule_at t k).new) t.init ≤ length (set s (rule_at t k).var (rule_at t k).new)
+      room = let a = length-append w.stack.items ((rule_at t k).var ∷ []) in let b = length-set s (rule_at t k).var (rule_at t k).new in let le = run.room in let lt = fires.fewer in omega arith
+
+      seen_same : (v : ℕ) → value_seen t (set s (rule_at t k).var (rule_at t k).new) (w.stack.items ++ (rule_at t k).var ∷ []) v ≡ value_seen t s w.stack.items v
+      seen_same v = elim (occurrences_pushed v (rule_at t k).var w.stack.items) [
+        | inl z ↦ elim (seen_shows t (set s (rule_at t k).var (rule_at t k).new) (w.stack.items ++ (rule_at t k).var ∷ []) v) [
+          | inl a ↦ (let x = z.1 in let y = a.0 in absurd (omega arith))
+          | inr a ↦ a.1 ∙ (subst (λ x. default_of t x ≡ value_seen t s w.stack.items x) z.0
+              (elim (seen_shows t s w.stack.items (rule_at t k).var) [ inl b ↦ sym (b.1 ∙ fires.default) | inr b ↦ sym b.1 ]))
+        ]
+        | inr z ↦ ap (λ n. cond (n == 0) (get_or (set s (rule_at t k).var (rule_at t k).new) v 0) (default_of t v)) z.1
+            ∙ ap (λ x. cond (occurrences v w.stack.items == 0) x (default_of t v)) (get_or-set_other s (rule_at t k).var v (rule_at t k).new 0 (λ e. z.0 (sym e)))
+      ]
 
 -- ---- one piece of work after another
 
@@ -265,31 +251,23 @@ running_at_default t layer s state at = record {
     equal_places-le (x ∷ xs) [] = omega arith
     equal_places-le (x ∷ xs) (y ∷ ys) = let ih = equal_places-le xs ys in elim (eqb_tells x y) [ inl w ↦ rw w.0 (omega arith) | inr w ↦ rw w.0 (omega arith) ]
 
--- a rule that fires nothing
-pub fires_nothing : (t : Parts) (s : List ℕ) (w : Work) (k : ℕ) → IsRunning t w.layer s w.stack.items → (IsRuleOn t w.layer k → get_or s (rule_at t k).var 0 ≡ (rule_at t k).new) → FiresRule t k s w s w
-fires_nothing t s w k running fired = record {
-  goes_on = goes_on_still t s w;
-  counters = refl;
-  sources = refl;
-  given = λ given. given;
-  room = omega arith;
-  running = running;
-  seen = λ v. refl;
-  fired = fired;
-  kept = λ v differs. refl;
-}
-
 -- ---- the entries of a popped variable
 
 -- the first i entries are counted, and the rules of the layer without open conditions have fired
 pub record Releasing (t : Parts) (moved : ValueChange) (waiting : List RuleCondition) (i : ℕ) (s0 : List ℕ) (w0 : Work) (s : List ℕ) (w : Work) : Type 0 where
   pub counters : CountersSoFar moved waiting i w0.counters w.counters
   pub goes_on : WorkGoesOn t s0 w0 s w
-  pub room : WorkHasRoom t w
-  pub running : IsRunning t w0.layer s w.stack.items
-  pub given : AreGiven t w0.layer s w.sources
+  pub firing : IsFiring t s w.stack.items w
   pub fired : HaveFired t w0.layer s w.counters
   pub seen : (v : ℕ) → value_seen t s w.stack.items v ≡ value_seen t s0 w0.stack.items v
+
+firing_set : (t : Parts) (s : List ℕ) (w : Work) (counters : List ℕ) (k n : ℕ) → counters ≡ set w.counters k n → IsFiring t s w.stack.items w
+    → IsFiring t s w.stack.items (record { layer = w.layer; counters = counters; stack = w.stack; sources = w.sources; agenda = w.agenda })
+firing_set t s w counters k n is was = record {
+  room = record { one_each = ap length is ∙ (length-set w.counters k n ∙ was.room.one_each); variables = was.room.variables; sources = was.room.sources };
+  running = was.running;
+  given = was.given;
+}
 
 -- the counter of a rule is set, and the rule doesn't have to fire
 pub released_on : (t : Parts) (moved : ValueChange) (waiting : List RuleCondition) (i : ℕ) (s0 : List ℕ) (w0 : Work) (s : List ℕ) (w : Work) (counters : List ℕ) (k n : ℕ)
@@ -298,9 +276,7 @@ pub released_on : (t : Parts) (moved : ValueChange) (waiting : List RuleConditio
 released_on t moved waiting i s0 w0 s w counters k n so_far next within is here = record {
   counters = next;
   goes_on = record { layer = so_far.goes_on.layer; off = so_far.goes_on.off; sources = so_far.goes_on.sources; left = so_far.goes_on.left };
-  room = record { one_each = ap length is ∙ (length-set w.counters k n ∙ so_far.room.one_each); variables = so_far.room.variables; sources = so_far.room.sources };
-  running = so_far.running;
-  given = so_far.given;
+  firing = firing_set t s w counters k n is so_far.firing;
   fired = rw is (fired_set t w0.layer s w.counters k n within here so_far.fired);
   seen = so_far.seen;
 }
@@ -314,30 +290,11 @@ released_fired t moved waiting i s0 w0 s w counters k n s' w' so_far next within
   counters = rw f.counters next;
   goes_on = goes_on_more t s0 w0 s (record { layer = w.layer; counters = counters; stack = w.stack; sources = w.sources; agenda = w.agenda }) s' w'
       (record { layer = so_far.goes_on.layer; off = so_far.goes_on.off; sources = so_far.goes_on.sources; left = so_far.goes_on.left }) f.goes_on;
-  room = record {
-    one_each = ap length f.counters ∙ (ap length is ∙ (length-set w.counters k n ∙ so_far.room.one_each));
-    variables = omega (arith, so_far.room.variables, f.room);
-    sources = f.sources ∙ so_far.room.sources;
-  };
-  running = rw so_far.goes_on.layer at f.running;
-  given = rw so_far.goes_on.layer at (f.given (rw so_far.goes_on.layer so_far.given));
-  fired = λ j on none. fired_after j on none;
+  firing = f.firing (firing_set t s w counters k n is so_far.firing);
+  fired = rw (f.counters, is) (fired_set t w0.layer s' w.counters k n within (λ none on. f.fired (subst (λ m. IsRuleOn t m k) (sym so_far.goes_on.layer) on))
+      (fired_kept t w0.layer s s' w.counters f.kept so_far.fired));
   seen = λ v. f.seen v ∙ so_far.seen v;
 }
-  where
-    fired_after : HaveFired t w0.layer s' w'.counters
-    fired_after = rw (f.counters, is)
-        (fired_of_rule)
-      where
-        kept : HaveFired t w0.layer s' w.counters
-        kept = fired_kept t w0.layer s s' w.counters f.kept so_far.fired
-
-        fired_of_rule : HaveFired t w0.layer s' (set w.counters k n)
-        fired_of_rule j on none = elim (cases_eq j k) [
-          | inl e ↦ subst (λ i. get_or s' (rule_at t i).var 0 ≡ (rule_at t i).new) (sym e)
-              (f.fired (subst (λ m. IsRuleOn t m k) (sym so_far.goes_on.layer) (subst (λ i. IsRuleOn t w0.layer i) e on)))
-          | inr ne ↦ kept j on (sym (get_or-set_other w.counters k j n 0 ne) ∙ none)
-        ]
 
 -- the popped variable moved from its default
 abbrev pub moved_to : Parts → List ℕ → ℕ → ValueChange
@@ -346,19 +303,19 @@ moved_to t s v = record { former = default_of t v; value = get_or s v 0 }
 module _ (t : Parts) (index : List (List RuleCondition)) (v : ℕ) (s0 : List ℕ) (w0 : Work) (layered : IsLayered t) (is_index : IsFullIndex t index) (popped : IsAtWork t s0 (w0.stack.items ++ v ∷ []) w0) where
   pub can_release : WellRanged t → CanRecount (moved_to t s0 v) (waiting_at index v) w0.counters
   can_release ranged =
-      can_recount t index v is_index (value_seen t s0 (w0.stack.items ++ v ∷ [])) w0.counters popped.room.one_each popped.counts ranged
-      (moved_to t s0 v) (seen_before t w0.layer s0 w0.stack.items v popped.running) (popped_differs t w0.layer s0 w0.stack.items v popped.running)
+      can_recount t index v is_index (value_seen t s0 (w0.stack.items ++ v ∷ [])) w0.counters popped.firing.room.one_each popped.counts ranged
+      (moved_to t s0 v) (seen_before t w0.layer s0 w0.stack.items v popped.firing.running) (popped_differs t w0.layer s0 w0.stack.items v popped.firing.running)
 
   -- a rule of the layer whose counter is at zero has conditions that hold
   pub ready_so_far : (i : ℕ) (s : List ℕ) (w : Work) (counters : List ℕ) (k : ℕ)
       → Releasing t (moved_to t s0 v) (waiting_at index v) i s0 w0 s w → CountersSoFar (moved_to t s0 v) (waiting_at index v) (i + 1) w0.counters counters
       → IsRuleOn t w0.layer k → get_or counters k 0 ≡ 0 → AllHold (λ u. get_or s u 0) (rule_at t k).conditions
   ready_so_far i s w counters k so_far next on none =
-      ready t w0.layer s w.stack.items k layered so_far.running on
-      (let a = next.so_far k (let l = popped.room.one_each in omega (arith, on.exists)) in
+      ready t w.layer s w.stack.items k layered so_far.firing.running (rw so_far.goes_on.layer on)
+      (let a = next.so_far k (let l = popped.firing.room.one_each in omega (arith, on.exists)) in
       let b = left_over k (default_of t v) (i + 1) (waiting_at index v) in
-      let d = popped_counts t w0.layer s0 w0.stack.items v popped.running w0.counters popped.counts w0.layer k on in
-      let e = none_own t w0.layer s0 w0.stack.items v popped.running layered k on in
+      let d = popped_counts t w0.layer s0 w0.stack.items v popped.firing.running w0.counters popped.counts w0.layer k on in
+      let e = none_own t w0.layer s0 w0.stack.items v popped.firing.running layered k on in
       let f = open_same (value_seen t s w.stack.items) (value_seen t s0 w0.stack.items) (rule_at t k).conditions so_far.seen in
       let x = is_index.each w0.layer v (default_of t v) k on in
       let y = is_index.each w0.layer v (get_or s0 v 0) k on in
@@ -367,15 +324,13 @@ module _ (t : Parts) (index : List (List RuleCondition)) (v : ℕ) (s0 : List �
   -- all entries are counted
   pub at_work_again : (i : ℕ) (s : List ℕ) (w : Work) → Releasing t (moved_to t s0 v) (waiting_at index v) i s0 w0 s w → i ≡ length (waiting_at index v) → IsAtWork t s w.stack.items w
   at_work_again i s w so_far all = record {
-    room = so_far.room;
-    running = rw so_far.goes_on.layer so_far.running;
+    firing = so_far.firing;
     counts = λ m k on.
-        (let a = counters_after (moved_to t s0 v) (waiting_at index v) i w0.counters w.counters all so_far.counters k (let l = popped.room.one_each in omega (arith, on.exists)) in
-        let b = popped_counts t w0.layer s0 w0.stack.items v popped.running w0.counters popped.counts m k on in
+        (let a = counters_after (moved_to t s0 v) (waiting_at index v) i w0.counters w.counters all so_far.counters k (let l = popped.firing.room.one_each in omega (arith, on.exists)) in
+        let b = popped_counts t w0.layer s0 w0.stack.items v popped.firing.running w0.counters popped.counts m k on in
         let e = open_same (value_seen t s w.stack.items) (value_seen t s0 w0.stack.items) (rule_at t k).conditions so_far.seen in
         let x = is_index.each m v (default_of t v) k on in
         let y = is_index.each m v (get_or s0 v 0) k on in
         omega arith);
     fired = rw so_far.goes_on.layer so_far.fired;
-    given = rw so_far.goes_on.layer so_far.given;
   }

@@ -117,6 +117,9 @@ module _ (moved : ValueChange) (waiting : List RuleCondition) (i : ℕ) (cs0 cs 
     pub counters_set : n + waits_for moved.value this ≡ get_or cs this.rule 0 + waits_for moved.former this → CountersSoFar moved waiting (i + 1) cs0 cs'
     counters_set moves = counters_next cs' (ap length set_to ∙ length-set cs this.rule n) (ap (λ x. x + waits_for moved.value this) its_count ∙ moves) other_count
 
+pub same_more : (w w' w'' : Work) → SameWork w w' → SameWork w' w'' → SameWork w w''
+same_more w w' w'' a b = record { layer = b.layer ∙ a.layer; stack = b.stack ∙ a.stack; one_each = b.one_each ∙ a.one_each; sources = b.sources ∙ a.sources }
+
 -- and the rules that begin or cease to hold by that are noted
 pub record CountedEntries (p : Parts) (moved : ValueChange) (waiting : List RuleCondition) (i : ℕ) (w0 w : Work) : Type 0 where
   pub same : SameWork w0 w
@@ -153,7 +156,7 @@ module _ (p : Parts) (moved : ValueChange) (waiting : List RuleCondition) (i : �
     left = let le = counted.left in omega arith;
   }
 
-  module _ (n : ℕ) (w' : Work) (exists : (get_or waiting i no_entry).rule < length w0.counters) (counts : CountsTo p (get_or waiting i no_entry).rule n w w') where
+  module _ (n : ℕ) (w' : Work) (exists : (get_or waiting i no_entry).rule < length w0.counters) (same : SameWork w w') (counts : CountsTo p (get_or waiting i no_entry).rule n w w') where
     here : get_or w'.counters (get_or waiting i no_entry).rule 0 ≡ n
     here = its_count moved waiting i w0.counters w.counters lt counted.counters n w'.counters exists counts.counters
 
@@ -163,13 +166,13 @@ module _ (p : Parts) (moved : ValueChange) (waiting : List RuleCondition) (i : �
     crossed_still : (layer rule : ℕ) → IsRuleOn p layer rule → IsOnAgenda w'.agenda layer rule ⊎ ((get_or w0.counters rule 0 ≡ 0) ↔ (get_or w'.counters rule 0 ≡ 0))
     crossed_still layer rule is = elim (counted.crossed layer rule is) [
       | inl noted ↦ inl (counts.notes.keeps layer rule noted)
-      | inr same ↦ elim (cases_eq (get_or waiting i no_entry).rule rule) [
-        | inr ne ↦ inr ((λ z. other rule ne ∙ same.0 z), (λ z. same.1 (sym (other rule ne) ∙ z)))
+      | inr alike ↦ elim (cases_eq (get_or waiting i no_entry).rule rule) [
+        | inr ne ↦ inr ((λ z. other rule ne ∙ alike.0 z), (λ z. alike.1 (sym (other rule ne) ∙ z)))
         | inl e ↦ elim (counts.crossed layer (subst (λ r. IsRuleOn p layer r) (sym e) is)) [
           | inl noted ↦ inl (subst (λ r. IsOnAgenda w'.agenda layer r) e noted)
           | inr now ↦ inr (
-            (λ z. subst (λ r. get_or w'.counters r 0 ≡ 0) e (here ∙ now.0 (subst (λ r. get_or w.counters r 0 ≡ 0) (sym e) (same.0 z)))),
-            (λ z. same.1 (subst (λ r. get_or w.counters r 0 ≡ 0) e (now.1 (sym here ∙ subst (λ r. get_or w'.counters r 0 ≡ 0) (sym e) z)))),
+            (λ z. subst (λ r. get_or w'.counters r 0 ≡ 0) e (here ∙ now.0 (subst (λ r. get_or w.counters r 0 ≡ 0) (sym e) (alike.0 z)))),
+            (λ z. alike.1 (subst (λ r. get_or w.counters r 0 ≡ 0) e (now.1 (sym here ∙ subst (λ r. get_or w'.counters r 0 ≡ 0) (sym e) z)))),
           )
         ]
       ]
@@ -186,19 +189,11 @@ module _ (p : Parts) (moved : ValueChange) (waiting : List RuleCondition) (i : �
       ready = counts.notes.ready ∙ counted.notes.ready;
     }
 
-    same_still : SameWork w0 w'
-    same_still = record {
-      layer = counts.same.layer ∙ counted.same.layer;
-      stack = counts.same.stack ∙ counted.same.stack;
-      one_each = counts.same.one_each ∙ counted.same.one_each;
-      sources = counts.same.sources ∙ counted.same.sources;
-    }
-
     -- an entry whose rule gets another count
     pub entry_counted : n + waits_for moved.value (get_or waiting i no_entry) ≡ get_or w.counters (get_or waiting i no_entry).rule 0 + waits_for moved.former (get_or waiting i no_entry)
         → CountedEntries p moved waiting (i + 1) w0 w'
     entry_counted moves = record {
-      same = same_still;
+      same = same_more w0 w w' counted.same same;
       counters = counters_set moved waiting i w0.counters w.counters lt counted.counters n w'.counters exists counts.counters moves;
       crossed = crossed_still;
       notes = notes_still;

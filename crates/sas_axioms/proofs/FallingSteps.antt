@@ -1,12 +1,8 @@
 -- Resetting the variables of a layer one by one, and the rules that depend on them.
-use Rattle.sas_axioms.proofs.Imports.{◌≡◌, ◌≢◌, ◌⊎◌, ℕ, ◌+◌, ◌<◌, ◌≤◌, true, List, [], ◌∷◌, length, get_or, set, sym, ◌∙◌, ap, subst, inl, inr, arith, All, Contains, cases_eq, get_or-set_same, get_or-set_other, All-nil, All-cons, Contains-append_left, Contains-append_right, Contains-push, All-contains, Reverse, Parts, Change, change_of, WellRanged, rule_at, IsState, IsOnLayer, default_of, Agenda, Work, LayerRule, entry_for, IsOnAgenda, IsAwaited, AreBehind, RemovesFromAgenda, IsMadeReady, AreMadeReady, work_left, SameFrom, ChangesAreNoted, SameWork, CountsChange, IsFalling, IsRising, IsHolding, IsRuleOn, IsLayered, differs, state_set, differs_same, differs_not, heap_items}
+use Rattle.sas_axioms.proofs.Imports.{◌≡◌, ◌≢◌, ◌⊎◌, ℕ, ◌+◌, ◌<◌, true, List, [], ◌∷◌, length, get_or, set, sym, ◌∙◌, ap, subst, inl, inr, arith, All, Contains, cases_eq, get_or-set_same, get_or-set_other, All-nil, All-cons, Contains-append_left, Contains-append_right, Contains-push, All-contains, Reverse, Parts, Change, change_of, rule_at, IsState, IsOnLayer, default_of, Agenda, Work, LayerRule, entry_for, IsOnAgenda, IsAwaited, AreBehind, RemovesFromAgenda, IsMadeReady, AreMadeReady, work_left, SameFrom, IsUpdatedTo, ChangesAreNoted, SameWork, CountsChange, IsFalling, IsRising, IsHolding, IsRuleOn, IsLayered, differs, differs_same, differs_not, heap_items}
 use Rattle.sas_axioms.proofs.OneLayer.{one_layer}
 use Rattle.sas_axioms.proofs.Sources.{sources_fall}
-use Rattle.sas_axioms.proofs.Tracking.{with_agenda, awaited_on, track_taken, track_ready, track_moved}
-
--- no rule is on the layer and on a higher one
-pub not_higher : (p : Parts) (layer m rule : ℕ) → IsRuleOn p layer rule → IsRuleOn p m rule → layer + 1 ≤ m → {A : Type 0} → A
-not_higher p layer m rule a b le = let e : m ≡ layer = one_layer p m layer rule b a in absurd (omega arith)
+use Rattle.sas_axioms.proofs.Tracking.{with_agenda, awaited_on, track_taken, track_ready, asks_down, track_moved}
 
 -- a rule behind the layer stays noted where one of the layer is taken off
 pub noted_taken : (p : Parts) (layer rule : ℕ) (s0 s : List ℕ) (a a' : Agenda) → IsRuleOn p layer rule → RemovesFromAgenda layer rule a a' → ChangesAreNoted p (layer + 1) s0 s a → ChangesAreNoted p (layer + 1) s0 s a'
@@ -14,9 +10,19 @@ noted_taken p layer rule s0 s a a' is takes noted m other le on = elim (noted m 
   | inr same ↦ inr same
   | inl there ↦ elim (takes.noted m other there) [
     | inl still ↦ inl still
-    | inr e ↦ not_higher p layer m rule is (subst (λ r. IsRuleOn p m r) e on) le
+    | inr e ↦ (let same : m ≡ layer = one_layer p m layer rule (subst (λ r. IsRuleOn p m r) e on) is in absurd (omega arith))
   ]
 ]
+
+pub updated_taken : (p : Parts) (layer rule : ℕ) (s0 s : List ℕ) (w : Work) (a a' : Agenda) → IsRuleOn p layer rule → RemovesFromAgenda layer rule w.agenda a → a'.noted ≡ a.noted
+    → IsUpdatedTo p (layer + 1) s0 s w → IsUpdatedTo p (layer + 1) s0 s (with_agenda w a')
+updated_taken p layer rule s0 s w a a' is takes same to = record {
+  settled = to.settled;
+  same = to.same;
+  noted = rw same (noted_taken p layer rule s0 s w.agenda a is takes to.noted);
+  have = to.have;
+  held = to.held;
+}
 
 -- what two states share, and what they and a third share
 pub noted_moved : (p : Parts) (from var : ℕ) (s0 s s' : List ℕ) (w w' : Work) → CountsChange p var s w s' w' → ChangesAreNoted p from s0 s w.agenda → ChangesAreNoted p from s0 s' w'.agenda
@@ -45,11 +51,7 @@ pub falling_passed : (p : Parts) (s0 s : List ℕ) (rule : ℕ) (w : Work) (a a'
     → (get_or w.sources (rule_at p rule).var 0 ≡ rule → differs p s (rule_at p rule).var ≡ true → IsHolding p s rule) → IsMadeReady rule a a' → IsFalling p s0 s (with_agenda w a')
 falling_passed p s0 s rule w a a' falling takes holds made = record {
   track = track_ready p w.layer s (with_agenda w a) a' (rule ∷ []) (track_taken p w.layer rule s w a falling.track takes) one made.ready made.noted;
-  settled = falling.settled;
-  same = falling.same;
-  noted = λ m other le on. rw made.noted (noted_taken p w.layer rule s0 s w.agenda a is takes falling.noted m other le on);
-  have = falling.have;
-  held = falling.held;
+  to = updated_taken p w.layer rule s0 s w a a' is takes made.noted falling.to;
   sources = λ v on d. elim (falling.sources v on d) [
     | inl hold ↦ inl hold
     | inr noted ↦ elim (takes.noted w.layer (get_or w.sources v 0) noted) [ inl still ↦ inr (rw made.noted still) | inr e ↦ inl (source_holds v on d e) ]
@@ -72,15 +74,14 @@ falling_passed p s0 s rule w a a' falling takes holds made = record {
 
     source_holds : (v : ℕ) → IsOnLayer p w.layer v → differs p s v ≡ true → get_or w.sources v 0 ≡ rule → IsHolding p s (get_or w.sources v 0)
     source_holds v on d e =
-        let its : (rule_at p rule).var ≡ v = subst (λ r. (rule_at p r).var ≡ v) e ((falling.have w.layer).source v on d).sets in
+        let its : (rule_at p rule).var ≡ v = subst (λ r. (rule_at p r).var ≡ v) e ((falling.to.have w.layer).source v on d).sets in
         subst (λ r. IsHolding p s r) (sym e) (holds (subst (λ u. get_or w.sources u 0 ≡ rule) (sym its) e) (subst (λ u. differs p s u ≡ true) (sym its) d))
 
--- its variable falls, and all rules of it are made ready
-module _ (p : Parts) (s0 s : List ℕ) (rule : ℕ) (w : Work) (a : Agenda) (w' : Work) (a' : Agenda) (rules : List ℕ) (layered : IsLayered p) (falling : IsFalling p s0 s w)
+-- all rules of its variable are made ready, and the variable falls
+module _ (p : Parts) (s0 s : List ℕ) (rule : ℕ) (w : Work) (a a' : Agenda) (w' : Work) (rules : List ℕ) (layered : IsLayered p) (falling : IsFalling p s0 s w)
     (takes : RemovesFromAgenda w.layer rule w.agenda a) (within : (rule_at p rule).var < length s) (state : IsState p.variables (set s (rule_at p rule).var (default_of p (rule_at p rule).var)))
-    (same : SameWork (with_agenda w a) w') (moves : CountsChange p (rule_at p rule).var s (with_agenda w a) (set s (rule_at p rule).var (default_of p (rule_at p rule).var)) w')
-    (all : All (λ (r : ℕ). IsRuleOn p w.layer r) rules) (each : (other : ℕ) → IsRuleOn p w.layer other → (rule_at p other).var ≡ (rule_at p rule).var → Contains rules other)
-    (made : AreMadeReady rules w'.agenda a') where
+    (made : AreMadeReady rules a a') (same : SameWork (with_agenda w a') w') (moves : CountsChange p (rule_at p rule).var s (with_agenda w a') (set s (rule_at p rule).var (default_of p (rule_at p rule).var)) w')
+    (all : All (λ (r : ℕ). IsRuleOn p w.layer r) rules) (each : (other : ℕ) → IsRuleOn p w.layer other → (rule_at p other).var ≡ (rule_at p rule).var → Contains rules other) where
   is : IsRuleOn p w.layer rule
   is = awaited_on p w.layer rule s w falling.track takes.was
 
@@ -100,35 +101,35 @@ module _ (p : Parts) (s0 s : List ℕ) (rule : ℕ) (w : Work) (a : Agenda) (w' 
   differed : (v : ℕ) → differs p after v ≡ true → differs p s v ≡ true
   differed v d = differs_same p after s v (kept v d) d
 
-  noted_still : (m other : ℕ) → IsOnAgenda a m other → IsOnAgenda a' m other
-  noted_still m other noted = rw made.noted (moves.notes.keeps m other noted)
+  noted_still : (m other : ℕ) → IsOnAgenda a m other → IsOnAgenda w'.agenda m other
+  noted_still m other noted = moves.notes.keeps m other (let there : IsOnAgenda a' m other = rw made.noted noted in there)
 
-  ready_still : (other : ℕ) → Contains a.ready.items other → Contains a'.ready.items other
-  ready_still other ready = rw made.ready (Contains-append_left w'.agenda.ready.items rules other (rw moves.notes.ready ready))
+  ready_still : (other : ℕ) → Contains a.ready.items other → Contains w'.agenda.ready.items other
+  ready_still other ready = rw moves.notes.ready (let there : Contains a'.ready.items other = rw made.ready (Contains-append_left a.ready.items rules other ready) in there)
 
-  ready_now : (other : ℕ) → IsRuleOn p w.layer other → (rule_at p other).var ≡ var → Contains a'.ready.items other
-  ready_now other on e = rw made.ready (Contains-append_right w'.agenda.ready.items rules other (each other on e))
+  ready_now : (other : ℕ) → IsRuleOn p w.layer other → (rule_at p other).var ≡ var → Contains w'.agenda.ready.items other
+  ready_now other on e = rw moves.notes.ready (let there : Contains a'.ready.items other = rw made.ready (Contains-append_right a.ready.items rules other (each other on e)) in there)
 
-  holds_or_noted : (other : ℕ) → IsRuleOn p w.layer other → IsHolding p s other → IsHolding p after other ⊎ IsOnAgenda a' w.layer other
+  holds_or_noted : (other : ℕ) → IsRuleOn p w.layer other → IsHolding p s other → IsHolding p after other ⊎ IsOnAgenda w'.agenda w.layer other
   holds_or_noted other on hold = elim (moves.crossed w.layer other (omega arith) on) [
-    | inl noted ↦ inr (rw made.noted noted)
+    | inl noted ↦ inr noted
     | inr crossed ↦ inl (crossed.0 hold)
   ]
 
-  source_fell : (v : ℕ) → IsOnLayer p w.layer v → differs p after v ≡ true → IsHolding p after (get_or w.sources v 0) ⊎ IsOnAgenda a' w.layer (get_or w.sources v 0)
+  source_fell : (v : ℕ) → IsOnLayer p w.layer v → differs p after v ≡ true → IsHolding p after (get_or w.sources v 0) ⊎ IsOnAgenda w'.agenda w.layer (get_or w.sources v 0)
   source_fell v on d = elim (falling.sources v on (differed v d)) [
-    | inl hold ↦ holds_or_noted (get_or w.sources v 0) ((falling.have w.layer).source v on (differed v d)).is hold
+    | inl hold ↦ holds_or_noted (get_or w.sources v 0) ((falling.to.have w.layer).source v on (differed v d)).is hold
     | inr noted ↦ elim (takes.noted w.layer (get_or w.sources v 0) noted) [
       | inl still ↦ inr (noted_still w.layer (get_or w.sources v 0) still)
-      | inr e ↦ absurd (other_var v d (sym (subst (λ r. (rule_at p r).var ≡ v) e ((falling.have w.layer).source v on (differed v d)).sets)))
+      | inr e ↦ absurd (other_var v d (sym (subst (λ r. (rule_at p r).var ≡ v) e ((falling.to.have w.layer).source v on (differed v d)).sets)))
     ]
   ]
 
-  fired_fell : (other : ℕ) → IsRuleOn p w.layer other → IsHolding p after other → (differs p after (rule_at p other).var ≡ true) ⊎ IsAwaited a' w.layer other
+  fired_fell : (other : ℕ) → IsRuleOn p w.layer other → IsHolding p after other → (differs p after (rule_at p other).var ≡ true) ⊎ IsAwaited w'.agenda w.layer other
   fired_fell other on hold = elim (cases_eq (rule_at p other).var var) [
     | inl e ↦ inr (inr (ready_now other on e))
     | inr ne ↦ elim (moves.crossed w.layer other (omega arith) on) [
-      | inl noted ↦ inr (inl (rw made.noted noted))
+      | inl noted ↦ inr (inl noted)
       | inr crossed ↦ elim (falling.fired other on (crossed.1 hold)) [
         | inl d ↦ inl (differs_same p s after (rule_at p other).var (sym (get_or-set_other s var (rule_at p other).var (default_of p var) 0 ne)) d)
         | inr awaited ↦ elim (still_awaited w.layer rule w.agenda a takes other awaited) [
@@ -140,15 +141,17 @@ module _ (p : Parts) (s0 s : List ℕ) (rule : ℕ) (w : Work) (a : Agenda) (w' 
     ]
   ]
 
-  pub falling_fell : IsFalling p s0 after (with_agenda w' a')
+  pub falling_fell : IsFalling p s0 after w'
   falling_fell = rw (same.layer, same.sources) record {
-    track = rw (same.layer, same.sources) at (track_ready p w.layer after w' a' rules
-        (track_moved p w.layer var s after (with_agenda w a) w' layered is.on state (track_taken p w.layer rule s w a falling.track takes) moves (ap length same.sources)) all made.ready made.noted);
-    settled = falling.settled;
-    same = same_moved p w.layer var (default_of p var) s0 s is.on falling.same;
-    noted = λ m other le on. rw made.noted (noted_moved p (w.layer + 1) var s0 s after (with_agenda w a) w' moves (noted_taken p w.layer rule s0 s w.agenda a is takes falling.noted) m other le on);
-    have = λ m. sources_fall p m s after w.sources kept (falling.have m);
-    held = λ m lt v on d. falling.held m lt v on (differed v d);
+    track = rw (same.layer, same.sources) at (track_moved p w.layer var s after (with_agenda w a') w' (asks_down p w.layer var layered is.on) state
+        (track_ready p w.layer s (with_agenda w a) a' rules (track_taken p w.layer rule s w a falling.track takes) all made.ready made.noted) moves (ap length same.sources));
+    to = record {
+      settled = falling.to.settled;
+      same = same_moved p w.layer var (default_of p var) s0 s is.on falling.to.same;
+      noted = noted_moved p (w.layer + 1) var s0 s after (with_agenda w a') w' moves (updated_taken p w.layer rule s0 s w a a' is takes made.noted falling.to).noted;
+      have = λ m. sources_fall p m s after w.sources kept (falling.to.have m);
+      held = λ m le v on d. falling.to.held m le v on (differed v d);
+    };
     sources = source_fell;
     fired = fired_fell;
   }
@@ -157,11 +160,7 @@ module _ (p : Parts) (s0 s : List ℕ) (rule : ℕ) (w : Work) (a : Agenda) (w' 
 pub risen_from_fallen : (p : Parts) (s0 s : List ℕ) (w : Work) → IsFalling p s0 s w → AreBehind w.layer w.agenda → IsRising p s0 s w
 risen_from_fallen p s0 s w falling behind = record {
   track = falling.track;
-  settled = falling.settled;
-  same = falling.same;
-  noted = falling.noted;
-  have = falling.have;
-  held = falling.held;
+  to = falling.to;
   hold = λ v on d. elim (falling.sources v on d) [ inl hold ↦ hold | inr noted ↦ not_noted (get_or w.sources v 0) noted ];
   fired = falling.fired;
 }
@@ -171,14 +170,9 @@ risen_from_fallen p s0 s w falling behind = record {
         let lt : w.layer < w.layer = All-contains (λ (e : Reverse LayerRule). w.layer < e.0.layer) (heap_items w.agenda.noted) (entry_for w.layer other) behind noted in absurd (omega arith)
 
 -- the variable of a rule gets its default
-module _ (p : Parts) (s s' : List ℕ) (rule value : ℕ) (change : Change) (of_rule : change ≡ change_of (rule_at p rule)) (is_default : value ≡ default_of p change.var)
-    (is_set : s' ≡ set s change.var value) where
-  pub fallen_is : s' ≡ set s (rule_at p rule).var (default_of p (rule_at p rule).var)
-  fallen_is = is_set ∙ (ap (λ x. set s change.var x) is_default ∙ ap (λ (c : Change). set s c.var (default_of p c.var)) of_rule)
-
-  pub fallen_state : WellRanged p → (rule_at p rule).var < length p.variables → IsState p.variables s → IsState p.variables s'
-  fallen_state ranged within state = rw fallen_is
-      (state_set p s (rule_at p rule).var (default_of p (rule_at p rule).var) state (ranged.init.in_range (rule_at p rule).var within))
+pub fallen_is : (p : Parts) (s s' : List ℕ) (rule value : ℕ) (change : Change) → change ≡ change_of (rule_at p rule) → value ≡ default_of p change.var → s' ≡ set s change.var value
+    → s' ≡ set s (rule_at p rule).var (default_of p (rule_at p rule).var)
+fallen_is p s s' rule value change of_rule is_default is_set = is_set ∙ (ap (λ x. set s change.var x) is_default ∙ ap (λ (c : Change). set s c.var (default_of p c.var)) of_rule)
 
 -- less is left in the end: what was noted on the layer was taken off
 pub less_in_the_end : (layer rule : ℕ) (a0 a : Agenda) → IsOnAgenda a0 layer rule → AreBehind layer a → (work_left a < work_left a0) ⊎ (a ≡ a0) → work_left a < work_left a0

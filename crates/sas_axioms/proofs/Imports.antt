@@ -4,12 +4,12 @@ pub use Rattle.std.proofs.Math.ListN.{length-append}
 pub use Rattle.std.proofs.Math.Seq.{append_snoc}
 pub use Rattle.std.proofs.lemmas.Bool.{cases_eq, eq-eqb, cases_lt, eqb-true, ne_eqb, and_parts, and_from}
 pub use Rattle.std.proofs.lemmas.Bool.Decides.{leb_tells, eqb_tells, Decides-eqb, Decides-not}
-pub use Rattle.std.proofs.lemmas.List.{get_or-set_same, get_or-set_other, length-set, get_or_default, drop_all, drop_more, get_or-drop, length-drop, get_or_push, get_or_append_left, append-nil, at_drop_all}
-pub use Rattle.std.proofs.lemmas.List.Elements.{All-nil, All-cons, Contains-get_or, Contains-append_left, Contains-push, Contains-push_cases, All-tail, All-append, All-weaker, All-push, All-head, All-contains, Contains-append_right, All-from_recursion}
+pub use Rattle.std.proofs.lemmas.List.{get_or-set_same, get_or-set_other, set-get_or, length-set, get_or_default, drop_all, drop_more, get_or-drop, length-drop, get_or_push, get_or_append_left, append-nil, at_drop_all}
+pub use Rattle.std.proofs.lemmas.List.Elements.{All-nil, All-cons, Contains-get_or, Contains-append_left, Contains-push, Contains-push_cases, All-tail, All-append, All-weaker, All-push, All-head, All-contains, All-contains_itself, Contains-append_right, All-from_recursion}
 pub use Rattle.std.proofs.lemmas.List.Sorted.{Contains-permutation, IsPermutation-sym, length_permutation, IsNonDecreasingBy-from_sort_by_key, All-permutation}
 pub use Rattle.std.proofs.lemmas.Result.{on_ok_weaker, IfOk-weaker}
 pub use Rattle.std.specs.BinaryHeap.{heap_items, IsUpperBound}
-pub use Rattle.std.specs.List.{All, Contains, AllPairs}
+pub use Rattle.std.specs.List.{All, Contains}
 pub use Rattle.std.specs.List.Sorted.{IsPermutation, IsNonDecreasingBy}
 pub use Rattle.std.specs.Option.{option_eq}
 pub use Rattle.std.specs.Ordering.{is_lt}
@@ -31,6 +31,7 @@ pub use Rattle.sas_flat.specs.declared.by_key.Entry.{Entry}
 pub use Rattle.sas_meaning.proofs.DerivedVariables.{not_basic, derived_within}
 pub use Rattle.sas_meaning.proofs.Forced.{condition_within, Fired, fired_there, rule_new, differs_true, differs_not, differs_same, fact_within, state_set}
 pub use Rattle.sas_meaning.proofs.Layers.{looks_down, layer_decides, on_layer_within, given_on}
+pub use Rattle.sas_meaning.proofs.Members.{contains_head, contains_tail, contains_cases}
 pub use Rattle.sas_meaning.proofs.Places.{places_to, places_one_more, places_all, place_is, is_place}
 pub use Rattle.sas_meaning.proofs.Rules.{new_value_is}
 pub use Rattle.sas_meaning.proofs.Settling.{default_off, forced_at_default, settled_when_fired, settled_where_empty, settled_off, basic_off}
@@ -47,10 +48,10 @@ pub use Rattle.sas_meaning.specs.declared.changed_variables.ChangedVariables.{Ch
 pub use Rattle.sas_axioms.specs.Agenda.{layer_cmp, entry_for, IsOnAgenda, AddsToAgenda, work_left, IsOrdered, IsAwaited, AreBehind, RemovesFromAgenda, IsMadeReady, AreMadeReady, IsEmpty, NoLowerLayer, Lowest}
 pub use Rattle.sas_axioms.specs.ByLayers.{SettlesNext, SettlesLayer}
 pub use Rattle.sas_axioms.specs.Conditions.{asking, waiting_entry, waiting_at, released, occurrences, open_conditions, IsOfRule, entries, IsFullIndex, AreCounted, IsCounted, waits_for, CanCount}
-pub use Rattle.sas_axioms.specs.Following.{NotesMore, IsFollowed, SameWork, CountsTo, SameFrom, ChangesAreNoted, CountsChange, IsOnTrack, IsFalling, IsRising, CountedSoFar, IsBetween, AsksAbout, HasRisen, KeepsRoom}
-pub use Rattle.sas_axioms.specs.LayerRules.{IsRuleOn, AreReadyFrom, AreWaiting, IsReadyAt, layer_at, IsLate, AreFirstRules, AreRulesOf, IsLayerSpan}
+pub use Rattle.sas_axioms.specs.Following.{NotesMore, IsFollowed, SameWork, CountsTo, SameFrom, ChangesAreNoted, CountsChange, IsOnTrack, IsFalling, IsRising, IsBetween, IsUpdatedTo, AsksAbout, HasRisen, KeepsRoom}
+pub use Rattle.sas_axioms.specs.LayerRules.{IsRuleOn, AreReadyFrom, StandsFrom, AreWaiting, IsReadyAt, layer_at, IsLate, AreFirstRules, AreRulesOf, IsLayerSpan}
 pub use Rattle.sas_axioms.specs.Sources.{AreGiven, SameSourcesOff, IsHolding, HaveSources, SourcesHold, IsSourceOf}
-pub use Rattle.sas_axioms.specs.Worklist.{AreCountedBy, value_seen, IsRunning, HaveFired, WorkHasRoom, IsAtWork, WorkGoesOn, FiresRule, LayerBeginsAt, left_to_do}
+pub use Rattle.sas_axioms.specs.Worklist.{AreCountedBy, value_seen, IsRunning, HaveFired, WorkHasRoom, IsFiring, IsAtWork, WorkGoesOn, FiresRule, LayerBeginsAt, left_to_do}
 pub use Rattle.sas_axioms.specs.declared.agenda.Agenda.{Agenda}
 pub use Rattle.sas_axioms.specs.declared.conditions.ValueChange.{ValueChange}
 pub use Rattle.sas_axioms.specs.declared.conditions.RuleCondition.{RuleCondition}

@@ -1,4 +1,3 @@
-pub mod Layering
 pub mod Counters
 pub mod OneLayer
 pub mod Standing
@@ -9,7 +8,6 @@ pub mod RuleChanges
 pub mod FallingSteps
 pub mod RisingSteps
 pub mod GoneSteps
-pub mod AllCounted
 pub mod AgendaOrder
 pub mod Recounting
 pub mod CountingEntries

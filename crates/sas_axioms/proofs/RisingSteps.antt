@@ -1,19 +1,15 @@
 -- The rules of a layer that hold set their variables, one by one.
-use Rattle.sas_axioms.proofs.Imports.{◌≡◌, ◌≢◌, ◌⊎◌, ◌↔◌, ℕ, ◌+◌, ◌<◌, ◌≤◌, true, List, [], length, get_or, set, sym, ◌∙◌, ap, subst, inl, inr, arith, heap_items, cases_eq, cases_lt, get_or-set_same, get_or-set_other, length-set, All-nil, All-contains, Reverse, Parts, rule_at, WellRanged, IsOnLayer, IsLayered, differs, IsSettledAt, SameOff, Fired, fired_there, differs_true, differs_same, Work, Agenda, LayerRule, entry_for, IsOnAgenda, IsAwaited, NoLowerLayer, AreBehind, RemovesFromAgenda, SameWork, CountsChange, IsBetween, IsFalling, IsRising, HasRisen, IsFollowed, IsRuleOn, IsHolding, HaveSources, SourcesHold, AreGiven, settled_off, no_effect}
-use Rattle.sas_axioms.proofs.FallingSteps.{noted_taken, noted_moved, same_moved, still_awaited}
+use Rattle.sas_axioms.proofs.Imports.{◌≡◌, ◌≢◌, ◌⊎◌, ◌↔◌, ℕ, ◌+◌, ◌<◌, ◌≤◌, true, List, [], length, get_or, set, refl, sym, ◌∙◌, ap, subst, inl, inr, arith, heap_items, cases_eq, cases_lt, get_or-set_same, get_or-set_other, length-set, All-nil, All-contains, Reverse, Parts, rule_at, WellRanged, IsOnLayer, IsLayered, differs, IsSettledAt, SameOff, Fired, fired_there, differs_true, differs_same, Work, Agenda, LayerRule, entry_for, IsOnAgenda, IsAwaited, NoLowerLayer, RemovesFromAgenda, SameWork, CountsChange, IsUpdatedTo, IsBetween, IsFalling, IsRising, HasRisen, IsFollowed, IsRuleOn, IsHolding, HaveSources, SourcesHold, AreGiven, settled_off, no_effect}
+use Rattle.sas_axioms.proofs.FallingSteps.{noted_taken, updated_taken, noted_moved, same_moved, still_awaited}
 use Rattle.sas_axioms.proofs.Sources.{forced_when_given, sources_same, given_off, given_when_fired, differs_where_holding, settled_when_given}
-use Rattle.sas_axioms.proofs.Tracking.{with_agenda, awaited_on, track_taken, track_moved, track_set}
+use Rattle.sas_axioms.proofs.Tracking.{with_agenda, awaited_on, track_taken, asks_down, track_moved, track_set}
 
 -- a rule that is taken off doesn't hold, or its variable differs from its default
 pub rising_passed : (p : Parts) (s0 s : List ℕ) (rule : ℕ) (w : Work) (a : Agenda) → IsRising p s0 s w → RemovesFromAgenda w.layer rule w.agenda a
     → (IsHolding p s rule → differs p s (rule_at p rule).var ≡ true) → IsRising p s0 s (with_agenda w a)
 rising_passed p s0 s rule w a rising takes done = record {
   track = track_taken p w.layer rule s w a rising.track takes;
-  settled = rising.settled;
-  same = rising.same;
-  noted = noted_taken p w.layer rule s0 s w.agenda a (awaited_on p w.layer rule s w rising.track takes.was) takes rising.noted;
-  have = rising.have;
-  held = rising.held;
+  to = updated_taken p w.layer rule s0 s w a a (awaited_on p w.layer rule s w rising.track takes.was) takes refl rising.to;
   hold = rising.hold;
   fired = λ other on hold. elim (rising.fired other on hold) [
     | inl d ↦ inl d
@@ -31,7 +27,7 @@ module _ (p : Parts) (s0 s : List ℕ) (rule : ℕ) (w : Work) (a : Agenda) (ran
   is = awaited_on p w.layer rule s w rising.track takes.was
 
   given : AreGiven p w.layer s w.sources
-  given = record { have = rising.have w.layer; hold = rising.hold }
+  given = record { have = rising.to.have w.layer; hold = rising.hold }
 
   -- what the rule sets
   pub fires : Fired p w.layer s (rule_at p rule)
@@ -65,13 +61,13 @@ module _ (p : Parts) (s0 s : List ℕ) (rule : ℕ) (w : Work) (a : Agenda) (ran
     have_now : (m : ℕ) → HaveSources p m after sources_after
     have_now m = elim (cases_eq m w.layer) [
       | inl e ↦ rw e given_now.have
-      | inr not ↦ sources_same p m s after w.sources sources_after (λ v on. value_off m v not on) (λ v on. source_off m v not on) (rising.have m)
+      | inr not ↦ sources_same p m s after w.sources sources_after (λ v on. value_off m v not on) (λ v on. source_off m v not on) (rising.to.have m)
     ]
 
-    held_now : (m : ℕ) → w.layer < m → SourcesHold p m sources_after after s0
-    held_now m lt v on d =
+    held_now : (m : ℕ) → w.layer + 1 ≤ m → SourcesHold p m sources_after after s0
+    held_now m le v on d =
         let not : m ≢ w.layer = omega arith in
-        rw (source_off m v not on) (rising.held m lt v on (differs_same p after s v (value_off m v not on) d))
+        rw (source_off m v not on) (rising.to.held m le v on (differs_same p after s v (value_off m v not on) d))
 
     fired_now : (other : ℕ) → IsRuleOn p w.layer other → IsHolding p after other → (differs p after (rule_at p other).var ≡ true) ⊎ IsAwaited w'.agenda w.layer other
     fired_now other on hold' = elim (cases_eq (rule_at p other).var var) [
@@ -93,55 +89,44 @@ module _ (p : Parts) (s0 s : List ℕ) (rule : ℕ) (w : Work) (a : Agenda) (ran
         (record { layer = w'.layer; counters = w'.counters; stack = w'.stack; sources = set w'.sources (rule_at p rule).var rule; agenda = w'.agenda })
     rising_set = rw (same.layer, same.sources) record {
       track = rw same.layer at (track_set p w.layer after w' sources_after (length-set w.sources var rule ∙ ap length (sym same.sources))
-          (track_moved p w.layer var s after (with_agenda w a) w' layered is.on fires.state (track_taken p w.layer rule s w a rising.track takes) moves (ap length same.sources)));
-      settled = rising.settled;
-      same = same_moved p w.layer var (rule_at p rule).new s0 s is.on rising.same;
-      noted = noted_moved p (w.layer + 1) var s0 s after (with_agenda w a) w' moves (noted_taken p w.layer rule s0 s w.agenda a is takes rising.noted);
-      have = have_now;
-      held = held_now;
+          (track_moved p w.layer var s after (with_agenda w a) w' (asks_down p w.layer var layered is.on) fires.state (track_taken p w.layer rule s w a rising.track takes) moves (ap length same.sources)));
+      to = record {
+        settled = rising.to.settled;
+        same = same_moved p w.layer var (rule_at p rule).new s0 s is.on rising.to.same;
+        noted = noted_moved p (w.layer + 1) var s0 s after (with_agenda w a) w' moves (noted_taken p w.layer rule s0 s w.agenda a is takes rising.to.noted);
+        have = have_now;
+        held = held_now;
+      };
       hold = given_now.hold;
       fired = fired_now;
     }
 
 -- where nothing is left on the layer, it is settled
-pub risen_in_the_end : (p : Parts) (s0 s : List ℕ) (w : Work) → IsLayered p → IsRising p s0 s w → AreBehind w.layer w.agenda → w.agenda.ready.items ≡ [] → HasRisen p s0 s w
-risen_in_the_end p s0 s w layered rising behind empty = record {
-  track = rising.track;
-  settled = rising.settled;
-  here = settled_when_given p w.layer s w.sources layered (record { have = rising.have w.layer; hold = rising.hold }) done;
-  same = rising.same;
-  noted = rising.noted;
-  have = rising.have;
-  held = rising.held;
-  hold = rising.hold;
-  behind = behind;
-  empty = empty;
-}
-  where
-    done : (rule : ℕ) → IsRuleOn p w.layer rule → IsHolding p s rule → differs p s (rule_at p rule).var ≡ true
-    done rule is hold = elim (rising.fired rule is hold) [
+risen_settled : (p : Parts) (s0 s : List ℕ) (w : Work) → IsLayered p → HasRisen p s0 s w → IsSettledAt p w.layer s
+risen_settled p s0 s w layered risen = settled_when_given p w.layer s w.sources layered (record { have = risen.rising.to.have w.layer; hold = risen.rising.hold }) (λ rule is hold.
+    elim (risen.rising.fired rule is hold) [
       | inl d ↦ d
-      | inr (inl noted) ↦ (let lt : w.layer < w.layer = All-contains (λ (e : Reverse LayerRule). w.layer < e.0.layer) (heap_items w.agenda.noted) (entry_for w.layer rule) behind noted in absurd (omega arith))
-      | inr (inr ready) ↦ (let none = rw empty at ready in absurd (omega (arith, none.1)))
-    ]
+      | inr (inl noted) ↦ (let lt : w.layer < w.layer = All-contains (λ (e : Reverse LayerRule). w.layer < e.0.layer) (heap_items w.agenda.noted) (entry_for w.layer rule) risen.behind noted in absurd (omega arith))
+      | inr (inr ready) ↦ (let none = rw risen.empty at ready in absurd (omega (arith, none.1)))
+    ])
 
 -- ---- from layer to layer
 
 -- the layers of which no rule is noted are given and settled as before
 module _ (p : Parts) (s0 s : List ℕ) (from : ℕ) (w : Work) (m : ℕ) (between : IsBetween p s0 from s w) (le : from ≤ m) (none : (rule : ℕ) → IsOnAgenda w.agenda m rule → ⊥) where
   same_holding : (rule : ℕ) → IsRuleOn p m rule → IsHolding p s0 rule ↔ IsHolding p s rule
-  same_holding rule is = elim (between.noted m rule le is) [ inl noted ↦ absurd (none rule noted) | inr same ↦ same ]
+  same_holding rule is = elim (between.to.noted m rule le is) [ inl noted ↦ absurd (none rule noted) | inr same ↦ same ]
 
   pub given_between : AreGiven p m s w.sources
   given_between = record {
-    have = between.have m;
-    hold = λ v on d. (same_holding (get_or w.sources v 0) ((between.have m).source v on d).is).0 (between.held m le v on d);
+    have = between.to.have m;
+    hold = λ v on d. (same_holding (get_or w.sources v 0) ((between.to.have m).source v on d).is).0 (between.to.held m le v on d);
   }
 
   pub settled_between : IsSettledAt p m s
   settled_between = settled_when_given p m s w.sources between.layered given_between (λ rule is hold.
-      (let d = differs_where_holding p m rule s0 (between.settled m) is ((same_holding rule is).1 hold) in
-      differs_same p s0 s (rule_at p rule).var (between.same m (rule_at p rule).var le is.on) d))
+      (let d = differs_where_holding p m rule s0 (between.to.settled m) is ((same_holding rule is).1 hold) in
+      differs_same p s0 s (rule_at p rule).var (between.to.same m (rule_at p rule).var le is.on) d))
 
 -- the lowest layer of which a rule is noted is at hand
 pub falling_begins : (p : Parts) (s0 s : List ℕ) (from layer : ℕ) (w : Work) → IsBetween p s0 from s w → from ≤ layer → NoLowerLayer layer w.agenda
@@ -156,23 +141,25 @@ falling_begins p s0 s from layer w between le lowest = record {
     from = lowest;
     ready = rw between.empty (All-nil (λ (r : ℕ). IsRuleOn p layer r));
   };
-  settled = between.settled;
-  same = λ m v above on. between.same m v (omega arith) on;
-  noted = λ m other above on. between.noted m other (omega arith) on;
-  have = between.have;
-  held = λ m lt. between.held m (omega arith);
-  sources = λ v on d. elim (between.noted layer (get_or w.sources v 0) le ((between.have layer).source v on d).is) [
+  to = record {
+    settled = between.to.settled;
+    same = λ m v above on. between.to.same m v (omega arith) on;
+    noted = λ m other above on. between.to.noted m other (omega arith) on;
+    have = between.to.have;
+    held = λ m above. between.to.held m (omega arith);
+  };
+  sources = λ v on d. elim (between.to.noted layer (get_or w.sources v 0) le ((between.to.have layer).source v on d).is) [
     | inl noted ↦ inr noted
-    | inr same ↦ inl (same.0 (between.held layer le v on d))
+    | inr same ↦ inl (same.0 (between.to.held layer le v on d))
   ];
-  fired = λ other on hold. elim (between.noted layer other le on) [
+  fired = λ other on hold. elim (between.to.noted layer other le on) [
     | inl noted ↦ inr (inl noted)
-    | inr same ↦ inl (differs_now other on (differs_where_holding p layer other s0 (between.settled layer) on (same.1 hold)))
+    | inr same ↦ inl (differs_now other on (differs_where_holding p layer other s0 (between.to.settled layer) on (same.1 hold)))
   ];
 }
   where
     differs_now : (other : ℕ) → IsRuleOn p layer other → differs p s0 (rule_at p other).var ≡ true → differs p s (rule_at p other).var ≡ true
-    differs_now other on d = differs_same p s0 s (rule_at p other).var (between.same layer (rule_at p other).var le on.on) d
+    differs_now other on d = differs_same p s0 s (rule_at p other).var (between.to.same layer (rule_at p other).var le on.on) d
 
 -- the layer at hand is settled, and the next ones are at hand
 module _ (p : Parts) (s0 s s' : List ℕ) (from layer : ℕ) (w w' : Work) (between : IsBetween p s0 from s w) (le : from ≤ layer) (lowest : NoLowerLayer layer w.agenda)
@@ -189,19 +176,19 @@ module _ (p : Parts) (s0 s s' : List ℕ) (from layer : ℕ) (w w' : Work) (betw
 
   given_before : (m : ℕ) → m < layer → AreGiven p m s w.sources
   given_before m lt = elim (cases_lt m from) [
-    | inl early ↦ record { have = between.have m; hold = between.hold m early }
+    | inl early ↦ record { have = between.to.have m; hold = between.hold m early }
     | inr late ↦ given_between p s0 s from w m between late (not_noted m lt)
   ]
 
   below : (m : ℕ) → m < layer + 1 → IsSettledAt p m s'
   below m lt = elim (cases_eq m layer) [
-    | inl e ↦ subst (λ n. IsSettledAt p n s') (is ∙ sym e) risen.here
+    | inl e ↦ subst (λ n. IsSettledAt p n s') (is ∙ sym e) (risen_settled p s0 s' w' between.layered risen)
     | inr ne ↦ settled_off p layer s s' between.layered off m (omega arith) (settled_before m (omega arith))
   ]
 
   hold : (m : ℕ) → m < layer + 1 → SourcesHold p m w'.sources s' s'
   hold m lt = elim (cases_eq m layer) [
-    | inl e ↦ subst (λ n. SourcesHold p n w'.sources s' s') (is ∙ sym e) risen.hold
+    | inl e ↦ subst (λ n. SourcesHold p n w'.sources s' s') (is ∙ sym e) risen.rising.hold
     | inr ne ↦ (given_off p layer m s s' w.sources w'.sources between.layered off same_sources (omega arith) (given_before m (omega arith))).hold
   ]
 
@@ -209,21 +196,17 @@ module _ (p : Parts) (s0 s s' : List ℕ) (from layer : ℕ) (w w' : Work) (betw
   between_again = record {
     layered = between.layered;
     track = record {
-      state = risen.track.state;
-      counts = risen.track.counts;
-      places = risen.track.places;
-      ordered = risen.track.ordered;
-      noted = risen.track.noted;
+      state = risen.rising.track.state;
+      counts = risen.rising.track.counts;
+      places = risen.rising.track.places;
+      ordered = risen.rising.track.ordered;
+      noted = risen.rising.track.noted;
       from = λ k d lt. (let above = risen.behind k d lt in omega (arith, is));
       ready = rw risen.empty (All-nil (λ (r : ℕ). IsRuleOn p (layer + 1) r));
     };
-    settled = risen.settled;
+    to = subst (λ n. IsUpdatedTo p (n + 1) s0 s' w') is risen.rising.to;
     below = below;
-    same = rw is at risen.same;
-    noted = rw is at risen.noted;
-    have = risen.have;
     hold = hold;
-    held = λ m above. risen.held m (omega (arith, is));
     empty = risen.empty;
   }
 
@@ -239,7 +222,7 @@ followed_when_none p s0 s from w between empty = record {
   counts = between.track.counts;
   places = between.track.places;
   given = λ m. elim (cases_lt m from) [
-    | inl early ↦ record { have = between.have m; hold = between.hold m early }
+    | inl early ↦ record { have = between.to.have m; hold = between.hold m early }
     | inr late ↦ given_between p s0 s from w m between late (none m)
   ];
 }

@@ -3,16 +3,15 @@ use Rattle.sas_axioms.proofs.Imports.{◌≡◌, ◌≢◌, ◌⊎◌, ℕ, ◌<
 
 module _ (p : Parts) (ranged : WellRanged p) (rule : ℕ) (exists : rule < length p.rules) where
   -- the variable of the rule exists
-  pub change_within : (change : Change) → change ≡ change_of (rule_at p rule) → change.var < length p.variables
-  change_within change is = subst (λ (change : Change). change.var < length p.variables) (sym is) (fact_within p (rule_at p rule).var (rule_at p rule).new (rule_fits p ranged rule exists).new)
+  pub change_within : (change : Change) → change ≡ change_of (rule_at p rule) → (n : ℕ) → n ≡ length p.variables → change.var < n
+  change_within change is n all = rw (is, all) (fact_within p (rule_at p rule).var (rule_at p rule).new (rule_fits p ranged rule exists).new)
 
   -- and so do those of its conditions
   pub conditions_within : (s : List ℕ) → length s ≡ length p.variables → (conditions : List Fact) → conditions ≡ (rule_at p rule).conditions
       → All (λ (f : Fact). f.var < length s) conditions
-  conditions_within s one_each conditions are = subst (All (λ (f : Fact). f.var < length s)) (sym are)
-      (subst (λ n. All (λ (f : Fact). f.var < n) (rule_at p rule).conditions) (sym one_each)
+  conditions_within s one_each conditions are = rw (are, one_each)
       (All-weaker (FactExists p.variables) (λ (f : Fact). f.var < length p.variables) (λ f is. fact_within p f.var f.value is) (rule_at p rule).conditions
-      (All-from_recursion (FactExists p.variables) (rule_at p rule).conditions (rule_fits p ranged rule exists).conditions.each)))
+      (All-from_recursion (FactExists p.variables) (rule_at p rule).conditions (rule_fits p ranged rule exists).conditions.each))
 
   -- of which there are few enough to count them
   pub conditions_few : (conditions : List Fact) → conditions ≡ (rule_at p rule).conditions → length conditions < 2 ^ 31

@@ -1,47 +1,33 @@
 -- Where a layer of a worklist begins and ends, and which layers before it are settled.
-use Rattle.sas_axioms.proofs.Imports.{◌≡◌, ◌≢◌, ℕ, ◌+◌, ◌-◌, ◌<◌, ◌≤◌, List, length, get_or, get_or_default, get_or-drop, length-drop, sym, ◌∙◌, ap, inl, inr, arith, cases_lt, Parts, LayerRule, rule_at, IsLayered, IsSettledAt, AtDefault, forced_at_default, AreCounted, IsHolding, IsRuleOn, AreFirstRules, AreWaiting, IsLayerSpan, AreReadyFrom, IsReadyAt, layer_at, LayerBeginsAt, Work, value_seen, IsRunning, AreCountedBy, WorkHasRoom, WorkGoesOn, FiresRule, AreGiven, All, subst, cases_eq, differs_true}
+use Rattle.sas_axioms.proofs.Imports.{◌≡◌, ◌≢◌, ℕ, ◌+◌, ◌<◌, ◌≤◌, List, length, get_or, get_or_default, sym, ◌∙◌, ap, inl, inr, arith, cases_lt, Parts, LayerRule, rule_at, IsLayered, IsSettledAt, AtDefault, forced_at_default, AreCounted, IsHolding, IsRuleOn, AreFirstRules, AreWaiting, IsLayerSpan, AreReadyFrom, StandsFrom, IsReadyAt, layer_at, LayerBeginsAt, Work, value_seen, AreCountedBy, IsFiring, WorkGoesOn, FiresRule, All, subst, cases_eq, differs_true}
 use Rattle.sas_axioms.proofs.Counters.{all_hold_when_none_open, none_open_when_all_hold, counts_seen, goes_on_more}
 use Rattle.sas_axioms.proofs.Sources.{late_waits, settled_when_set}
-
--- where a rule is among others
-record Stands (rules : List LayerRule) (start layer rule : ℕ) : Type 0 where
-  pub at : ℕ
-  pub from_start : start ≤ at
-  pub within : at < length rules
-  pub is : get_or rules at (record { layer = layer; rule = rule }) ≡ (let r : LayerRule = record { layer = layer; rule = rule } in r)
 
 -- a rule of the layer without open conditions is before the end of the layer's rules
 pub before_end : (p : Parts) (start layer end : ℕ) (counters : List ℕ) (rules : List LayerRule) → AreReadyFrom p start layer counters rules → layer ≡ layer_at rules start → start ≤ end
     → ((d : LayerRule) → end < length rules → (get_or rules end d).layer ≡ layer → ⊥)
-    → (rule : ℕ) → IsRuleOn p layer rule → get_or counters rule 0 ≡ 0
-    → (at : ℕ) × (start ≤ at) × (at < end) × (get_or rules at (record { layer = layer; rule = rule }) ≡ (let r : LayerRule = record { layer = layer; rule = rule } in r))
+    → (rule : ℕ) → IsRuleOn p layer rule → get_or counters rule 0 ≡ 0 → (stands : StandsFrom rules start layer rule) × (stands.at < end)
 before_end p start layer end counters rules are here le last rule on none =
     let found = are.each rule on none in
     let d : LayerRule = record { layer = layer; rule = rule } in
-    let rest = length-drop start rules in
-    let within : start + found.0 < length rules = let lt = found.1 in omega arith in
-    let is : get_or rules (start + found.0) d ≡ d = sym (get_or-drop start rules found.0 d) ∙ found.2 in
-    let its : (get_or rules (start + found.0) d).layer ≡ layer = ap (λ (r : LayerRule). r.layer) is in (
-      start + found.0,
-      omega arith,
-      elim (cases_lt (start + found.0) end) [
+    let its : (get_or rules found.at d).layer ≡ layer = ap (λ (r : LayerRule). r.layer) found.is in
+    let within = found.within in (
+      found,
+      elim (cases_lt found.at end) [
         | inl lt ↦ lt
         | inr past ↦ (let first : (get_or rules start d).layer ≡ layer =
             sym (here ∙ ap (λ (r : LayerRule). r.layer) (get_or_default rules start (record { layer = 0; rule = 0 }) d (omega arith))) in
             let low = are.ascending start end d le (omega arith) in
-            let high = are.ascending end (start + found.0) d past within in
+            let high = are.ascending end found.at d past within in
             absurd (last d (omega arith) (omega arith)))
       ],
-      is,
     )
 
 -- the rules of the layer from one index up to another that have no open conditions have fired
 pub record FiringTo (p : Parts) (rules : List LayerRule) (start next : ℕ) (s0 : List ℕ) (w0 : Work) (s : List ℕ) (w : Work) : Type 0 where
   pub goes_on : WorkGoesOn p s0 w0 s w
   pub same : w.counters ≡ w0.counters
-  pub given : AreGiven p w0.layer s w.sources
-  pub room : WorkHasRoom p w
-  pub running : IsRunning p w0.layer s w.stack.items
+  pub firing : IsFiring p s w.stack.items w
   pub counts : AreCountedBy p (value_seen p s w.stack.items) w0.counters
   pub from_start : start ≤ next
   pub within : next ≤ length rules
@@ -65,9 +51,7 @@ module _ (p : Parts) (rules : List LayerRule) (start i : ℕ) (s0 : List ℕ) (w
   one_fired s' w' only f = record {
     goes_on = goes_on_more p s0 w0 s w s' w' to.goes_on f.goes_on;
     same = f.counters ∙ to.same;
-    given = rw to.goes_on.layer at (f.given (rw to.goes_on.layer to.given));
-    room = record { one_each = ap length f.counters ∙ to.room.one_each; variables = omega (arith, to.room.variables, f.room); sources = f.sources ∙ to.room.sources };
-    running = rw to.goes_on.layer at f.running;
+    firing = f.firing to.firing;
     counts = counts_seen p s s' w.stack.items w'.stack.items w0.counters f.seen to.counts;
     from_start = omega (arith, to.from_start);
     within = omega arith;
@@ -87,9 +71,7 @@ module _ (p : Parts) (rules : List LayerRule) (start i : ℕ) (s0 : List ℕ) (w
   one_waits waits = record {
     goes_on = to.goes_on;
     same = to.same;
-    given = to.given;
-    room = to.room;
-    running = to.running;
+    firing = to.firing;
     counts = to.counts;
     from_start = omega (arith, to.from_start);
     within = omega arith;
@@ -103,7 +85,7 @@ module _ (p : Parts) (rules : List LayerRule) (start i : ℕ) (s0 : List ℕ) (w
 module _ (p : Parts) (rules : List LayerRule) (from place : ℕ) (rules_are : AreFirstRules p rules) (stands : LayerBeginsAt rules from place)
     (s counters : List ℕ) (layered : IsLayered p) (counts : AreCounted p s counters) where
   -- a rule that holds, on a layer that is left, is among the rules from the place on
-  there : (layer rule : ℕ) → from ≤ layer → AtDefault p layer s → IsRuleOn p layer rule → IsHolding p s rule → Stands rules place layer rule
+  there : (layer rule : ℕ) → from ≤ layer → AtDefault p layer s → IsRuleOn p layer rule → IsHolding p s rule → StandsFrom rules place layer rule
   there layer rule le default is hold = elim (rules_are.each layer rule is) [
     | inr late ↦ absurd (late_waits p layer rule s layered is late default hold)
     | inl found ↦ record {
@@ -165,8 +147,7 @@ module _ (p : Parts) (rules : List LayerRule) (from place : ℕ) (rules_are : Ar
             | inr le ↦ le
             | inl less ↦ (let some = waiting w.at d w.from_start less in let closed = ap (λ n. get_or counters n 0) same in absurd (omega arith))
           ] in
-          let its : ready + (w.at - ready) ≡ w.at = omega arith in
-          (w.at - ready, (let rest = length-drop ready rules in let lt = w.within in omega arith), get_or-drop ready rules (w.at - ready) d ∙ (ap (λ i. get_or rules i d) its ∙ w.is)));
+          record { at = w.at; from_start = low; within = w.within; is = w.is });
       ascending = rules_are.ascending;
     }
 

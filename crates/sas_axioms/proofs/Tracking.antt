@@ -1,5 +1,5 @@
 -- What is counted and noted goes on to fit the state.
-use Rattle.sas_axioms.proofs.Imports.{◌≡◌, ℕ, ◌≤◌, List, ◌++◌, length, get_or, set, is_some, sym, ap, ◌∙◌, subst, inl, inr, All, Contains, heap_items, All-contains, All-append, Reverse, Parts, rule_at, IsState, IsOnLayer, IsLayered, LooksDown, ChangedVariables, AddsTouched, StillCovers, looks_down, covers_set, SameOff, get_or-set_other, Agenda, Work, LayerRule, IsAwaited, RemovesFromAgenda, AreCounted, IsHolding, AsksAbout, CountsChange, IsOnTrack, SameWork, KeepsRoom, IsRuleOn, no_effect}
+use Rattle.sas_axioms.proofs.Imports.{◌≡◌, ℕ, ◌≤◌, List, ◌++◌, length, get_or, set, is_some, sym, ap, ◌∙◌, subst, inl, inr, All, Contains, heap_items, All-contains, All-append, Reverse, Parts, rule_at, IsState, IsOnLayer, IsLayered, LooksDown, ChangedVariables, AddsTouched, StillCovers, looks_down, covers_set, SameOff, get_or-set_other, Agenda, Work, LayerRule, IsAwaited, RemovesFromAgenda, AreCounted, IsHolding, AsksAbout, CountsChange, IsOnTrack, KeepsRoom, IsRuleOn, no_effect}
 use Rattle.sas_axioms.proofs.Counters.{all_hold_when_none_open, none_open_when_all_hold}
 
 -- what holds of all elements of a list holds of those of one that has no others
@@ -52,15 +52,15 @@ track_ready p layer s w a' rules track all ready noted = record {
 }
 
 -- a rule that asks about a variable is on no lower layer
-pub asks_down : (p : Parts) (layer its var rule : ℕ) → IsLayered p → IsOnLayer p layer var → IsRuleOn p its rule → AsksAbout p var rule → layer ≤ its
-asks_down p layer its var rule layered on is asks =
+pub asks_down : (p : Parts) (layer var : ℕ) → IsLayered p → IsOnLayer p layer var → (its rule : ℕ) → IsRuleOn p its rule → AsksAbout p var rule → layer ≤ its
+asks_down p layer var layered on its rule is asks =
     let down : LooksDown p (rule_at p rule).var asks.0 = All-contains (LooksDown p (rule_at p rule).var) (rule_at p rule).conditions asks.0 (layered.rules rule no_effect is.exists is.can).order asks.1 in
     looks_down p (rule_at p rule) asks.0 layer its down (subst (λ v. IsOnLayer p layer v) (sym asks.2) on) is.on
 
--- a variable of the layer changes
-pub track_moved : (p : Parts) (layer var : ℕ) (s s' : List ℕ) (w w' : Work) → IsLayered p → IsOnLayer p layer var → IsState p.variables s'
+-- a variable changes about which no rule of a lower layer asks
+pub track_moved : (p : Parts) (layer var : ℕ) (s s' : List ℕ) (w w' : Work) → ((its rule : ℕ) → IsRuleOn p its rule → AsksAbout p var rule → layer ≤ its) → IsState p.variables s'
     → IsOnTrack p layer s w → CountsChange p var s w s' w' → length w'.sources ≡ length w.sources → IsOnTrack p layer s' w'
-track_moved p layer var s s' w w' layered on state track moves sources = record {
+track_moved p layer var s s' w w' down state track moves sources = record {
   state = state;
   counts = moves.counts;
   places = sources ∙ track.places;
@@ -71,7 +71,7 @@ track_moved p layer var s s' w w' layered on state track moves sources = record 
   ];
   from = λ k d lt. elim (moves.notes.only k d lt) [
     | inl there ↦ All-contains (λ (e : Reverse LayerRule). layer ≤ e.0.layer) (heap_items w.agenda.noted) (get_or (heap_items w'.agenda.noted) k d) track.from there
-    | inr new ↦ asks_down p layer (get_or (heap_items w'.agenda.noted) k d).0.layer var (get_or (heap_items w'.agenda.noted) k d).0.rule layered on new.0 new.1
+    | inr new ↦ down (get_or (heap_items w'.agenda.noted) k d).0.layer (get_or (heap_items w'.agenda.noted) k d).0.rule new.0 new.1
   ];
   ready = rw moves.notes.ready track.ready;
 }
@@ -99,20 +99,6 @@ off_step p layer at s0 s s' var value same so_far on is v off = so_far v off ∙
 
 pub covered_step : (p : Parts) (layer : ℕ) (s0 s s' : List ℕ) (var value : ℕ) (t0 t t' : ChangedVariables) → StillCovers p s0 t0 s t → IsOnLayer p layer var → s' ≡ set s var value → AddsTouched var t t' → StillCovers p s0 t0 s' t'
 covered_step p layer s0 s s' var value t0 t t' so_far on is notes before covers = covers_set p s s' var value t t' (ap is_some on) is notes before (so_far before covers)
-
-pub same_more : (w w' w'' : Work) → SameWork w w' → SameWork w' w'' → SameWork w w''
-same_more w w' w'' a b = record { layer = b.layer ∙ a.layer; stack = b.stack ∙ a.stack; one_each = b.one_each ∙ a.one_each; sources = b.sources ∙ a.sources }
-
--- another agenda is no other work
-pub same_but : (w w' : Work) (a : Agenda) → SameWork w w' → SameWork w (with_agenda w' a)
-same_but w w' a same = record { layer = same.layer; stack = same.stack; one_each = same.one_each; sources = same.sources }
-
--- and the same work has as much room
-pub room_same : (w w' : Work) → SameWork w w' → KeepsRoom w w'
-room_same w w' same = record { layer = same.layer; stack = same.stack; one_each = same.one_each; sources = ap length same.sources }
-
-pub room_but : (w w' : Work) (a : Agenda) → KeepsRoom w w' → KeepsRoom w (with_agenda w' a)
-room_but w w' a keeps = record { layer = keeps.layer; stack = keeps.stack; one_each = keeps.one_each; sources = keeps.sources }
 
 pub room_more : (w w' w'' : Work) → KeepsRoom w w' → KeepsRoom w' w'' → KeepsRoom w w''
 room_more w w' w'' a b = record { layer = b.layer ∙ a.layer; stack = b.stack ∙ a.stack; one_each = b.one_each ∙ a.one_each; sources = b.sources ∙ a.sources }

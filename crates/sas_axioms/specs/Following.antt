@@ -55,7 +55,6 @@ pub record NotesMore (p : Parts) (May : ℕ → Type 0) (a a' : Agenda) : Type 0
 -- the counter of the rule is now n, and the rule is noted if either its old or its new counter is
 -- 0, but not both
 pub record CountsTo (p : Parts) (rule n : ℕ) (w w' : Work) : Type 0 where
-  pub same : SameWork w w'
   pub counters : w'.counters ≡ slice_set w.counters rule n
   pub crossed : (layer : ℕ) → IsRuleOn p layer rule
       → IsOnAgenda w'.agenda layer rule ⊎ ((slice_index w.counters rule ≡ 0) ↔ (n ≡ 0))
@@ -82,42 +81,29 @@ pub record IsOnTrack (p : Parts) (layer : ℕ) (s : List ℕ) (w : Work) : Type 
   pub from : NoLowerLayer layer w.agenda
   pub ready : All (λ rule. IsRuleOn p layer rule) w.agenda.ready.items
 
--- The counters are those of the values m: the settled state s0 with some basic variables changed.
--- The rules that hold in exactly one of s0 and m are noted.
-pub record CountedSoFar (p : Parts) (s0 m : List ℕ) (w : Work) : Type 0 where
-  pub counts : AreCounted p m w.counters
-  pub ordered : IsOrdered w.agenda
-  pub rules : All (λ (e : Reverse LayerRule). IsRuleOn p e.0.layer e.0.rule)
-      (heap_items w.agenda.noted)
-  pub noted : ChangesAreNoted p 0 s0 m w.agenda
-  pub same : SameFrom p 0 s0 m
-  pub have : (layer : ℕ) → HaveSources p layer m w.sources
-  pub held : (layer : ℕ) → SourcesHold p layer w.sources m s0
-  pub empty : w.agenda.ready.items ≡ []
-
--- The task is layered. Layers below `layer` are settled in s. On the others, s has the derived
--- values of the settled state s0, and the rules that hold in exactly one of s0 and s are noted.
-pub record IsBetween (p : Parts) (s0 : List ℕ) (layer : ℕ) (s : List ℕ) (w : Work) : Type 0 where
-  pub layered : IsLayered p
-  pub track : IsOnTrack p layer s w
+-- On this layer and higher ones, s has the derived values of the settled state s0, the rules that
+-- hold in exactly one of s0 and s are noted, and sources hold in s0.
+pub record IsUpdatedTo (p : Parts) (layer : ℕ) (s0 s : List ℕ) (w : Work) : Type 0 where
   pub settled : IsSettled p s0
-  pub below : (m : ℕ) → m < layer → IsSettledAt p m s
   pub same : SameFrom p layer s0 s
   pub noted : ChangesAreNoted p layer s0 s w.agenda
   pub have : (m : ℕ) → HaveSources p m s w.sources
-  pub hold : (m : ℕ) → m < layer → SourcesHold p m w.sources s s
   pub held : (m : ℕ) → layer ≤ m → SourcesHold p m w.sources s s0
+
+-- the task is layered, and the layers below `layer` are settled in s
+pub record IsBetween (p : Parts) (s0 : List ℕ) (layer : ℕ) (s : List ℕ) (w : Work) : Type 0 where
+  pub layered : IsLayered p
+  pub track : IsOnTrack p layer s w
+  pub to : IsUpdatedTo p layer s0 s w
+  pub below : (m : ℕ) → m < layer → IsSettledAt p m s
+  pub hold : (m : ℕ) → m < layer → SourcesHold p m w.sources s s
   pub empty : w.agenda.ready.items ≡ []
 
 -- Some variables of the current layer have been reset to their defaults. The sources of the others
 -- hold or are noted. Each rule that holds has set its variable, or is noted or ready.
 pub record IsFalling (p : Parts) (s0 s : List ℕ) (w : Work) : Type 0 where
   pub track : IsOnTrack p w.layer s w
-  pub settled : IsSettled p s0
-  pub same : SameFrom p (w.layer + 1) s0 s
-  pub noted : ChangesAreNoted p (w.layer + 1) s0 s w.agenda
-  pub have : (m : ℕ) → HaveSources p m s w.sources
-  pub held : (m : ℕ) → w.layer < m → SourcesHold p m w.sources s s0
+  pub to : IsUpdatedTo p (w.layer + 1) s0 s w
   pub sources : (var : ℕ) → IsOnLayer p w.layer var → IsTrue (differs p s var)
       → IsHolding p s (slice_index w.sources var)
       ⊎ IsOnAgenda w.agenda w.layer (slice_index w.sources var)
@@ -128,25 +114,14 @@ pub record IsFalling (p : Parts) (s0 s : List ℕ) (w : Work) : Type 0 where
 -- holds. Each rule that holds has set its variable, or is noted or ready.
 pub record IsRising (p : Parts) (s0 s : List ℕ) (w : Work) : Type 0 where
   pub track : IsOnTrack p w.layer s w
-  pub settled : IsSettled p s0
-  pub same : SameFrom p (w.layer + 1) s0 s
-  pub noted : ChangesAreNoted p (w.layer + 1) s0 s w.agenda
-  pub have : (m : ℕ) → HaveSources p m s w.sources
-  pub held : (m : ℕ) → w.layer < m → SourcesHold p m w.sources s s0
+  pub to : IsUpdatedTo p (w.layer + 1) s0 s w
   pub hold : SourcesHold p w.layer w.sources s s
   pub fired : (rule : ℕ) → IsRuleOn p w.layer rule → IsHolding p s rule
       → IsTrue (differs p s (rule_at p rule).var) ⊎ IsAwaited w.agenda w.layer rule
 
--- The current layer is settled, and none of its rules is noted or ready.
+-- all of this has been done: none of the rules of the current layer is noted or ready
 pub record HasRisen (p : Parts) (s0 s : List ℕ) (w : Work) : Type 0 where
-  pub track : IsOnTrack p w.layer s w
-  pub settled : IsSettled p s0
-  pub here : IsSettledAt p w.layer s
-  pub same : SameFrom p (w.layer + 1) s0 s
-  pub noted : ChangesAreNoted p (w.layer + 1) s0 s w.agenda
-  pub have : (m : ℕ) → HaveSources p m s w.sources
-  pub held : (m : ℕ) → w.layer < m → SourcesHold p m w.sources s s0
-  pub hold : SourcesHold p w.layer w.sources s s
+  pub rising : IsRising p s0 s w
   pub behind : AreBehind w.layer w.agenda
   pub empty : w.agenda.ready.items ≡ []
 

@@ -1,5 +1,5 @@
 -- The rules that can fire, layer by layer.
-use Rattle.std.specs.Prelude.{◌≡◌, ◌⊎◌, ℕ, ◌<◌, ◌≤◌, List, [], length, All, Contains, drop, slice_index, slice_index_or}
+use Rattle.std.specs.Prelude.{◌≡◌, ◌⊎◌, ℕ, ◌<◌, ◌≤◌, List, [], length, All, Contains, slice_index, slice_index_or}
 use Rattle.std.specs.List.Sorted.{IsNonDecreasingBy}
 use Rattle.sas_core.specs.declared.parts.Fact.{Fact}
 use Rattle.sas_core.specs.declared.parts.Parts.{Parts}
@@ -14,15 +14,11 @@ pub record IsRuleOn (p : Parts) (layer rule : ℕ) : Type 0 where
   pub on : IsOnLayer p layer (rule_at p rule).var
   pub can : CanFire p (rule_at p rule)
 
--- all conditions of the rule on derived variables are on this layer
-abbrev pub StaysOn : Parts → ℕ → ℕ → Type 0
-StaysOn p layer rule =
-    All (λ (c : Fact). (its : ℕ) → IsOnLayer p its c.var → its ≡ layer) (rule_at p rule).conditions
-
 -- the rule, which is on this layer, has conditions on derived variables, all of them on this layer:
 -- it doesn't hold while these variables have their defaults
 pub record IsLate (p : Parts) (layer rule : ℕ) : Type 0 where
-  pub stays : StaysOn p layer rule
+  pub stays : All (λ (c : Fact). (its : ℕ) → IsOnLayer p its c.var → its ≡ layer)
+      (rule_at p rule).conditions
   pub waits : (c : Fact) × Contains (rule_at p rule).conditions c × IsOnLayer p layer c.var
 
 -- rules that can fire, each with its layer, among them all that aren't late, in ascending order of
@@ -56,6 +52,14 @@ abbrev pub IsReadyAt : List ℕ → List LayerRule → ℕ → Type 0
 IsReadyAt counters rules place =
     slice_index counters (slice_index_or rules place (record { layer = 0; rule = 0 })).rule ≡ 0
 
+-- the rule of the layer is at an index from `start` on
+pub record StandsFrom (rules : List LayerRule) (start layer rule : ℕ) : Type 0 where
+  pub at : ℕ
+  pub from_start : start ≤ at
+  pub within : at < length rules
+  pub is : slice_index_or rules at (record { layer = layer; rule = rule })
+      ≡ (let r : LayerRule = record { layer = layer; rule = rule } in r)
+
 -- rules that can fire, each with its layer, in ascending order of their layers; from index `start`
 -- on, there are all rules of this layer that have no open conditions, the first of them there
 pub record AreReadyFrom (p : Parts) (start layer : ℕ) (counters : List ℕ) (rules : List LayerRule)
@@ -64,7 +68,7 @@ pub record AreReadyFrom (p : Parts) (start layer : ℕ) (counters : List ℕ) (r
   pub first : IsReadyAt counters rules start
   pub only : All (λ (r : LayerRule). IsRuleOn p r.layer r.rule) rules
   pub each : (rule : ℕ) → IsRuleOn p layer rule → slice_index counters rule ≡ 0
-      → Contains (drop start rules) (record { layer = layer; rule = rule })
+      → StandsFrom rules start layer rule
   pub ascending : IsNonDecreasingBy (λ (r : LayerRule). r.layer) rules
 
 -- for each variable its rules that can fire, in order

@@ -51,14 +51,17 @@ pub record WorkHasRoom (p : Parts) (w : Work) : Type 0 where
   pub variables : length p.variables ≤ vec_capacity w.stack
   pub sources : length w.sources ≡ length p.variables
 
--- the rules of the current layer are being fired; the conditions on the variables on the stack are
--- still to be counted
-pub record IsAtWork (p : Parts) (s stack : List ℕ) (w : Work) : Type 0 where
+-- the rules of the current layer are being fired
+pub record IsFiring (p : Parts) (s stack : List ℕ) (w : Work) : Type 0 where
   pub room : WorkHasRoom p w
   pub running : IsRunning p w.layer s stack
+  pub given : AreGiven p w.layer s w.sources
+
+-- and the conditions on the variables on the stack are still to be counted
+pub record IsAtWork (p : Parts) (s stack : List ℕ) (w : Work) : Type 0 where
+  pub firing : IsFiring p s stack w
   pub counts : AreCountedBy p (value_seen p s stack) w.counters
   pub fired : HaveFired p w.layer s w.counters
-  pub given : AreGiven p w.layer s w.sources
 
 -- the work affects only its layer, and the bound of the remaining work doesn't grow
 pub record WorkGoesOn (p : Parts) (s : List ℕ) (w : Work) (s' : List ℕ) (w' : Work) : Type 0 where
@@ -72,10 +75,7 @@ pub record FiresRule (p : Parts) (rule : ℕ) (s : List ℕ) (w : Work) (s' : Li
     : Type 0 where
   pub goes_on : WorkGoesOn p s w s' w'
   pub counters : w'.counters ≡ w.counters
-  pub sources : length w'.sources ≡ length w.sources
-  pub given : AreGiven p w.layer s w.sources → AreGiven p w.layer s' w'.sources
-  pub room : vec_capacity w.stack ≤ vec_capacity w'.stack
-  pub running : IsRunning p w.layer s' w'.stack.items
+  pub firing : IsFiring p s w.stack.items w → IsFiring p s' w'.stack.items w'
   pub seen : (var : ℕ) → value_seen p s' w'.stack.items var ≡ value_seen p s w.stack.items var
   pub fired : IsRuleOn p w.layer rule → slice_index s' (rule_at p rule).var ≡ (rule_at p rule).new
   pub kept : (var : ℕ) → IsTrue (differs p s var) → slice_index s' var ≡ slice_index s var

@@ -48,6 +48,7 @@ pub fn count_after(
 }
 
 /// Returns the index of all conditions of rules that can fire.
+#[tactic(auto, using(crate::proofs::AllConditions::conditions_exist))]
 pub fn index_of_all<T: Grounded>(
     alloc: Global,
     layered: &Layered<T>,

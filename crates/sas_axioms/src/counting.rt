@@ -86,6 +86,7 @@ impl ConditionCounts {
     }
 
     /// Sets the variable to the value, and updates the counters of the rules with a condition on it.
+    #[tactic(auto, using(crate::proofs::CountingEntries::counters_before))]
     fn recount(&mut self, fact: Fact)
         requires var { fact.var < length self.old.values }
         requires counts { (p : Parts) × IsCounted p self.old }
@@ -142,6 +143,7 @@ fn are_changed(former: &[u32], values: &[u32], start: usize, end: usize) -> bool
 }
 
 /// Returns for each rule the number of its conditions that are open under these values.
+#[tactic(auto, using(crate::proofs::RuleChanges::conditions_within, crate::proofs::RuleChanges::conditions_few))]
 fn open_counters<T: Grounded>(
     alloc: Global,
     layered: &Layered<T>,

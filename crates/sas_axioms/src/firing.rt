@@ -14,7 +14,7 @@ ghost use Rattle.sas_axioms.specs.Conditions.{AreCounted};
 ghost use Rattle.sas_axioms.specs.Agenda.{IsEmpty};
 ghost use Rattle.sas_axioms.specs.Sources.{AreGiven, SameSourcesOff};
 ghost use Rattle.sas_axioms.specs.Following.{IsFollowed};
-ghost use Rattle.sas_axioms.specs.Worklist.{IsRunning, WorkHasRoom, IsAtWork, WorkGoesOn, FiresRule, IsFiringReady};
+ghost use Rattle.sas_axioms.specs.Worklist.{IsRunning, WorkHasRoom, IsFiring, IsAtWork, WorkGoesOn, FiresRule, IsFiringReady};
 
 use crate::agenda::{Agenda, OverBudget};
 use crate::conditions::{ValueChange, count_after};
@@ -241,11 +241,9 @@ fn fire_ready<T: Grounded>(
 ) -> usize
     requires layer { work.old.layer ≡ layer_at rules.now start }
     requires rules { AreReadyFrom indexed.now start work.old.layer work.old.counters rules.now }
-    requires room { WorkHasRoom indexed.now work.old }
-    requires running { IsRunning indexed.now work.old.layer state.old work.old.stack.items }
+    requires firing { IsFiring indexed.now state.old work.old.stack.items work.old }
     requires empty { work.old.stack.items ≡ [] }
     requires counts { AreCounted indexed.now state.old work.old.counters }
-    requires given { AreGiven indexed.now work.old.layer state.old work.old.sources }
     ensures at_work { IsAtWork indexed.now state.new work.new.stack.items work.new }
     ensures goes_on { WorkGoesOn indexed.now state.old work.old state.new work.new }
     ensures end { IsLayerSpan rules.now start work.old.layer result }
@@ -263,6 +261,7 @@ fn fire_ready<T: Grounded>(
 }
 
 /// Sets the variable of the rule, which is on the layer, to its new value. If this changes the variable, pushes it on the stack.
+#[tactic(auto, using(crate::proofs::RuleChanges::change_within))]
 fn fire<T: Grounded>(layered: &Layered<T>, rule: u32, work: &mut Work, state: &mut State)
     requires rule { IsRuleOn layered.now work.old.layer rule }
     requires room { WorkHasRoom layered.now work.old }
@@ -298,6 +297,7 @@ fn empty_stack<T: Grounded>(indexed: &IndexedRules<'_, '_, T>, work: &mut Work, 
 
 /// Updates the counters of the rules with conditions on the variable, which was the last on the stack. Fires the rules of the layer whose
 /// counter becomes 0.
+#[tactic(auto, using(crate::proofs::Counters::top_within))]
 fn release<T: Grounded>(
     indexed: &IndexedRules<'_, '_, T>,
     var: u32,
@@ -315,30 +315,23 @@ fn release<T: Grounded>(
     for condition in indexed.waiting.get(var as usize) {
         if let Some(count) = count_after(*condition, moved, &work.counters) {
             work.counters.set(condition.rule as usize, count);
-            if has_to_fire(indexed.layered, work.layer, condition.rule, count, state) {
+            if has_to_fire(indexed.layered, work.layer, condition.rule, count) {
                 fire(indexed.layered, condition.rule, work, state);
             }
         }
     }
 }
 
-/// Returns whether a rule that can fire has to set its variable: it is on the layer and has no open conditions, and the variable doesn't
-/// have its new value yet. `count` is the number of its open conditions.
-fn has_to_fire<T: Grounded>(
-    layered: &Layered<T>,
-    layer: u32,
-    rule: u32,
-    count: u32,
-    state: &State,
-) -> bool
-    requires rule { (its : ℕ) × IsRuleOn layered.now its rule }
-    requires state { IsState layered.now.variables state.now }
+/// Returns whether a rule that can fire has to fire now: it is on the layer and has no open conditions. `count` is the number of its open
+/// conditions.
+#[tactic(auto, using(crate::proofs::RuleChanges::change_within))]
+fn has_to_fire<T: Grounded>(layered: &Layered<T>, layer: u32, rule: u32, count: u32) -> bool
+    requires { (its : ℕ) × IsRuleOn layered.now its rule }
     ensures none { IsTrue result → count ≡ 0 }
     ensures on { IsTrue result → IsRuleOn layered.now layer rule }
-    ensures no { IsFalse result → count ≡ 0 → IsRuleOn layered.now layer rule
-        → slice_index state.now (rule_at layered.now rule).var ≡ (rule_at layered.now rule).new }
+    ensures no { IsFalse result → count ≡ 0 → IsRuleOn layered.now layer rule → ⊥ }
 {
     let task = layered.task();
     let change = task.rule_change(rule);
-    count == 0 && state.value(change.var) != change.new && task.layer(change.var) == Some(layer)
+    count == 0 && task.layer(change.var) == Some(layer)
 }

@@ -4,7 +4,7 @@
 // its default, then each variable whose source depended on that one, and so on. The remaining variables have sources that hold, and no
 // source depends on its own variable, so no two rules support only each other. Then the rules that hold set their variables, including
 // those that were reset.
-ghost use Rattle.std.specs.Prelude.{◌≡◌, ◌≢◌, ◌+◌, ◌<◌, ◌≤◌, ℕ, List, length, OnOk, IsTrue, IsFalse, slice_index, slice_set};
+ghost use Rattle.std.specs.Prelude.{◌≡◌, ◌≢◌, ◌+◌, ◌<◌, ◌≤◌, ℕ, List, length, OnOk, OnErr, IsTrue, IsFalse, slice_index, slice_set};
 ghost use Rattle.sas_core.specs.Grounded.{rule_at};
 ghost use Rattle.sas_core.specs.Variables.{IsDerived, IsState};
 ghost use Rattle.sas_meaning.specs.Following.{HaveGone};
@@ -100,8 +100,8 @@ fn fall<T: Grounded>(
         if has_lost(layered, rule, work, state) {
             let var = layered.rule_change(rule).var;
             let value = layered.initial_value(var);
-            set_to(indexed, Fact { var, value }, work, state, touched)?;
             make_ready(indexed.setting.get(var as usize), &mut work.agenda)?;
+            set_to(indexed, Fact { var, value }, work, state, touched)?;
         } else {
             work.agenda.make_ready(rule)?;
         }
@@ -110,6 +110,7 @@ fn fall<T: Grounded>(
 }
 
 /// Returns whether the rule is the source of its variable's value but no longer holds.
+#[tactic(auto, using(crate::proofs::RuleChanges::change_within, crate::proofs::RuleChanges::differs_read))]
 fn has_lost<T: Grounded>(layered: &Layered<T>, rule: u32, work: &Work, state: &State) -> bool
     requires rule { (layer : ℕ) × IsRuleOn layered.now layer rule }
     requires state { IsState layered.now.variables state.now }
@@ -176,6 +177,7 @@ fn rise<T: Grounded>(
 }
 
 /// Returns whether the rule holds but its variable doesn't have its value.
+#[tactic(auto, using(crate::proofs::RuleChanges::change_within))]
 fn has_to_set<T: Grounded>(layered: &Layered<T>, rule: u32, work: &Work, state: &State) -> bool
     requires rule { (layer : ℕ) × IsRuleOn layered.now layer rule }
     requires state { IsState layered.now.variables state.now }
@@ -191,7 +193,8 @@ fn has_to_set<T: Grounded>(layered: &Layered<T>, rule: u32, work: &Work, state: 
     work.counters.as_slice()[rule as usize] == 0 && state.value(change.var) != change.new
 }
 
-/// Sets the variable to another value, adds it to `touched`, and updates the counters of the rules with conditions on it.
+/// Updates the counters of the rules with conditions on the variable for another value, sets it to that value, and adds it to `touched`. On
+/// `Err`, state and `touched` are unchanged.
 fn set_to<T: Grounded>(
     indexed: &IndexedRules<'_, '_, T>,
     fact: Fact,
@@ -203,8 +206,10 @@ fn set_to<T: Grounded>(
     requires ordered { IsOrdered work.old.agenda }
     requires derived { IsDerived indexed.now.variables fact.var }
     requires other { slice_index state.old fact.var ≢ fact.value }
-    ensures state { state.new ≡ slice_set state.old fact.var fact.value }
-    ensures noted { AddsTouched fact.var touched.old touched.new }
+    ensures state { OnOk result (state.new ≡ slice_set state.old fact.var fact.value) }
+    ensures noted { OnOk result (AddsTouched fact.var touched.old touched.new) }
+    ensures unchanged { OnErr result (state.new ≡ state.old) }
+    ensures untouched { OnErr result (touched.new ≡ touched.old) }
     ensures same { SameWork work.old work.new }
     ensures moves { OnOk result
         (CountsChange indexed.now fact.var state.old work.old state.new work.new) }
@@ -213,12 +218,14 @@ fn set_to<T: Grounded>(
         former: state.value(fact.var),
         value: fact.value,
     };
+    recount(indexed, fact.var, moved, work)?;
     state.set(fact);
     touched.note(fact.var);
-    recount(indexed, fact.var, moved, work)
+    Ok(())
 }
 
 /// Updates the counters of the rules with conditions on the variable. Notes the rules that begin or cease to hold.
+#[tactic(auto, using(crate::proofs::CountingEntries::counted_none))]
 fn recount<T: Grounded>(
     indexed: &IndexedRules<'_, '_, T>,
     var: u32,
@@ -245,7 +252,7 @@ fn recount<T: Grounded>(
     Ok(())
 }
 
-/// Sets the counter of the rule. Notes the rule if it begins or ceases to hold.
+/// Sets the counter of the rule. If the rule can fire and begins or ceases to hold, notes it.
 fn count_to<T: Grounded>(
     layered: &Layered<T>,
     rule: u32,
@@ -261,26 +268,9 @@ fn count_to<T: Grounded>(
     let held = work.counters.as_slice()[rule as usize] == 0;
     work.counters.set(rule as usize, count);
     if held != (count == 0) {
-        note_rule(layered, rule, &mut work.agenda)?;
+        if let Some(layer) = firing_layer(layered, rule) {
+            work.agenda.note(LayerRule { layer, rule })?;
+        }
     }
     Ok(())
-}
-
-/// Notes the rule if it can fire.
-fn note_rule<T: Grounded>(
-    layered: &Layered<T>,
-    rule: u32,
-    agenda: &mut Agenda,
-) -> Result<(), OverBudget>
-    requires exists { rule < length layered.now.rules }
-    requires ordered { IsOrdered agenda.old }
-    ensures noted { OnOk result ((layer : ℕ) → IsRuleOn layered.now layer rule
-        → IsOnAgenda agenda.new layer rule) }
-    ensures notes { OnOk result (NotesMore layered.now (λ r. r ≡ rule) agenda.old agenda.new) }
-    ensures left { OnOk result (work_left agenda.new ≤ work_left agenda.old + 2) }
-{
-    match firing_layer(layered, rule) {
-        Some(layer) => agenda.note(LayerRule { layer, rule }),
-        None => Ok(()),
-    }
 }

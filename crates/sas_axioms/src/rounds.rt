@@ -106,6 +106,7 @@ fn go_round<T: Grounded>(layered: &Layered<T>, layer: u32, state: &mut State) ->
 }
 
 /// Returns whether the rule is on the layer, fires, and changes the value of its variable.
+#[tactic(auto, using(crate::proofs::RuleChanges::change_within))]
 fn changes<T: Grounded>(layered: &Layered<T>, layer: u32, state: &State, rule: u32) -> bool
     requires state { IsState layered.now.variables state.now }
     requires rule { rule < length layered.now.rules }

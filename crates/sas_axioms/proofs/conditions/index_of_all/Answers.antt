@@ -1,7 +1,7 @@
 -- Each iteration appends the conditions of a rule that can fire, or skips a rule that can't. Grouped
 -- by variable, they form an index.
 use Rattle.sas_axioms.proofs.Imports.{◌≡◌, sym, ap, subst, ◌∙◌, arith, IfOk-weaker, by_key, IsFullIndex}
-use Rattle.sas_axioms.proofs.AllConditions.{conditions_more, conditions_skip, conditions_exist, conditions_index}
+use Rattle.sas_axioms.proofs.AllConditions.{conditions_more, conditions_skip, conditions_index}
 use Rattle.sas_axioms.proofs.conditions.index_of_all.Goals as goal
 use Rattle.sas_axioms.proofs.conditions.index_of_all.Goals.{in-Some+in_ok-push_conditions, in_default}
 
@@ -15,10 +15,6 @@ loop-rule-preserved g c =
           rw (w.waiting-is, pushed) (conditions_more p c.loop-rule.rule w.in-Some._layer waiting c.task-task.ensures.well_ranged w.in-Some.ensures.some c.loop-rule.invariant))
       | in_default w ↦ rw w.waiting-is (conditions_skip p c.loop-rule.rule waiting w.in_default.ensures.none c.loop-rule.invariant)
     ]
-
-pub by_key-requires : goal.by_key-requires
-by_key-requires g c =
-    rw (c.as_slice.ensures.value, (rw c.task-task.ensures.task at c.variables.ensures.count)) (conditions_exist c.args.layered.now c.loop-rule.rule c.loop-rule.waiting.items c.loop-rule.invariant)
 
 pub returns : goal.returns
 returns g c =

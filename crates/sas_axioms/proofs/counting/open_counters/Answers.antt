@@ -1,7 +1,6 @@
 -- The conditions of one more rule are counted.
 use Rattle.sas_axioms.proofs.Imports.{◌≡◌, ℕ, ◌+◌, ◌<◌, List, [], ◌∷◌, ◌++◌, length, get_or, sym, ap, ◌∙◌, inl, inr, arith, slice_index, cases_eq, get_or_append_left, get_or_push, Fact, rule_at, open_conditions}
 use Rattle.std.proofs.lemmas.List.{length-append}
-use Rattle.sas_axioms.proofs.RuleChanges.{conditions_within, conditions_few}
 use Rattle.sas_axioms.proofs.counting.open_counters.Goals as goal
 
 -- what holds at each place holds with one item more
@@ -10,15 +9,6 @@ one_more f xs x n len each is k lt = elim (cases_eq k n) [
   | inl same ↦ get_or_push xs x 0 k (len ∙ sym same) ∙ (is ∙ ap f (sym same))
   | inr ne ↦ get_or_append_left xs (x ∷ []) 0 k (omega arith) ∙ each k (omega arith)
 ]
-
-pub open_of-requires-clause-exist : goal.open_of-requires-clause-exist
-open_of-requires-clause-exist g c =
-    conditions_within c.args.layered.now c.task-task.ensures.well_ranged c.loop-rule.rule (omega (arith, rw c.task-task.ensures.task at c.rules-rule-end.ensures)) c.args.values.now c.requires.known
-    c.rule_conditions.result.now (rw c.task-task.ensures.task at c.rule_conditions.ensures)
-
-pub open_of-requires-clause-few : goal.open_of-requires-clause-few
-open_of-requires-clause-few g c =
-    conditions_few c.args.layered.now c.task-task.ensures.well_ranged c.loop-rule.rule (omega (arith, rw c.task-task.ensures.task at c.rules-rule-end.ensures)) c.rule_conditions.result.now (rw c.task-task.ensures.task at c.rule_conditions.ensures)
 
 pub loop-rule-preserved : goal.loop-rule-preserved
 loop-rule-preserved g c =
@@ -32,10 +22,3 @@ loop-rule-preserved g c =
       so_far = rw is (omega (arith, length-append c.loop-rule.counters (c.open_of.result ∷ [])));
       exact = rw is (one_more (λ k. open_conditions (slice_index c.args.values.now) (rule_at p k).conditions) c.loop-rule.counters c.open_of.result n inv.so_far inv.exact opens);
     }
-
-pub returns : goal.returns
-returns g c = record {
-  one_each = omega (arith, rw c.task-task.ensures.task at c.rules-rule-end.ensures);
-  known = c.requires.known;
-  exact = λ layer rule is. c.loop-rule.invariant.exact rule (omega (arith, is.exists, rw c.task-task.ensures.task at c.rules-rule-end.ensures));
-}

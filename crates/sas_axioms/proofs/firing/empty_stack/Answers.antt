@@ -7,11 +7,13 @@ pub release-requires : goal.release-requires
 release-requires g c =
     let was = c.loop-var.invariant.at_work in
     record {
-      room = record { one_each = was.room.one_each; variables = omega (arith, was.room.variables, c.pop.ensures.capacity); sources = was.room.sources };
-      running = rw c.in-Some.ensures.items at was.running;
+      firing = record {
+        room = record { one_each = was.firing.room.one_each; variables = omega (arith, was.firing.room.variables, c.pop.ensures.capacity); sources = was.firing.room.sources };
+        running = rw c.in-Some.ensures.items at was.firing.running;
+        given = was.firing.given;
+      };
       counts = rw c.in-Some.ensures.items at was.counts;
       fired = was.fired;
-      given = was.given;
     }
 
 pub loop-var-preserved : goal.loop-var-preserved
@@ -29,7 +31,7 @@ pub returns-clause-counts : goal.returns-clause-counts
 returns-clause-counts g c =
     let at_work = c.loop-var.invariant.at_work in
     let empty : c.loop-var.work.stack.items ≡ [] = search rules in
-    record { one_each = at_work.room.one_each; known = at_work.running.state.one_each; exact = rw empty at at_work.counts }
+    record { one_each = at_work.firing.room.one_each; known = at_work.firing.running.state.one_each; exact = rw empty at at_work.counts }
 
 pub returns-clause-settles : goal.returns-clause-settles
 returns-clause-settles g c =
@@ -37,7 +39,7 @@ returns-clause-settles g c =
     let inv = c.loop-var.invariant in
     let empty : c.loop-var.work.stack.items ≡ [] = search rules in
     rw (sym inv.layer) record {
-      state = inv.at_work.running.state;
+      state = inv.at_work.firing.running.state;
       off = rw inv.layer inv.off;
-      settled = settled_when_empty p c.loop-var.work.layer c.loop-var.state c.loop-var.work.counters (rw empty at inv.at_work.running) (rw empty at inv.at_work.counts) inv.at_work.fired;
+      settled = settled_when_empty p c.loop-var.work.layer c.loop-var.state c.loop-var.work.counters (rw empty at inv.at_work.firing.running) (rw empty at inv.at_work.counts) inv.at_work.fired;
     }

@@ -1,8 +1,6 @@
 -- Setting the variable and its source.
-use Rattle.sas_axioms.proofs.Imports.{◌≡◌, ◌≢◌, true, [], ◌∷◌, ◌++◌, get_or, set, refl, sym, ap, subst, ◌∙◌, arith, is_ok, Change, rule_at}
-use Rattle.sas_axioms.proofs.Counters.{Pushed, pushed, fires_by, fires_nothing, rule_within}
-use Rattle.sas_axioms.proofs.RuleChanges.{change_within}
-use Rattle.sas_axioms.proofs.Sources.{given_when_fired}
+use Rattle.sas_axioms.proofs.Imports.{◌≡◌, ◌≢◌, true, [], ◌∷◌, ◌++◌, get_or, set, refl, sym, ap, ◌∙◌, arith, is_ok, Change, rule_at}
+use Rattle.sas_axioms.proofs.Counters.{fires, fires_by}
 use Rattle.sas_axioms.proofs.firing.fire.Goals as goal
 use Rattle.sas_axioms.proofs.firing.fire.Given.{Over}
 use Rattle.sas_axioms.proofs.firing.fire.Goals.{After-push}
@@ -13,14 +11,10 @@ changes g c same =
     let e = (rw c.task.ensures.task at c.rule_change-change.ensures) in
     c.if-value-change.true (c.value.ensures ∙ (ap (λ (x : Change). get_or c.args.state.now x.var 0) e ∙ (same ∙ sym (ap (λ (x : Change). x.new) e))))
 
--- what the two writes do
-after : (g : Over) (c : After-push g) → Pushed c.args.layered.now c.args.work.now.layer c.args.state.now c.args.work.now.stack.items (rule_at c.args.layered.now c.args.rule)
-after g c =
-    let w = c.args.work.now in
-    pushed c.args.layered.now w.layer c.args.state.now w.stack.items c.args.rule c.task.ensures.well_ranged c.task.ensures.layered c.requires.running c.requires.rule c.requires.hold (changes g c)
-
 succeeds : (g : Over) (c : After-push g) → is_ok c.push.result ≡ true
-succeeds g c = let p = after g c in let fewer = p.fires.fewer in let room = c.requires.running.room in let len = c.requires.running.state.one_each in c.push.ensures.succeeds (omega (arith, c.requires.room.variables, c.args.work.now.stack.ok.0))
+succeeds g c =
+    let f = fires c.args.layered.now c.args.state.now c.args.work.now c.args.rule c.task.ensures.well_ranged c.task.ensures.layered c.requires.running c.requires.rule c.requires.hold (changes g c) in
+    let fewer = f.fewer in let room = c.requires.running.room in let len = c.requires.running.state.one_each in c.push.ensures.succeeds (omega (arith, c.requires.room.variables, c.args.work.now.stack.ok.0))
 
 pub unwrap-requires : goal.unwrap-requires
 unwrap-requires g c = succeeds g c
@@ -31,40 +25,8 @@ returns-then-value-change g c =
     let w = c.args.work.now in
     let e = (rw c.task.ensures.task at c.rule_change-change.ensures) in
     let p = c.args.layered.now in
-    let v = rule_within p c.args.state.now c.args.rule c.task.ensures.well_ranged c.requires.running.state c.requires.rule.exists in
-    fires_by p c.args.state.now w _ _ c.args.rule c.task.ensures.well_ranged c.requires.running.state c.requires.rule (after g a)
-    (λ given. given_when_fired p w.layer c.args.rule c.args.state.now w.sources c.task.ensures.layered c.requires.rule given c.requires.hold
-    (after g a).fires.default v (let one = c.requires.running.state.one_each in omega (arith, c.requires.room.sources)))
+    fires_by p c.args.state.now w c.args.rule c.task.ensures.well_ranged c.task.ensures.layered c.requires.running c.requires.rule c.requires.hold (changes g a) _ _
     (c.set-then-value-change.ensures ∙ ap (λ (x : Change). set w.sources x.var c.args.rule) e)
     (c.set.ensures ∙ ap (λ (x : Change). set c.args.state.now x.var x.new) e)
     ((rw (succeeds g a) at c.push.ensures.items) ∙ ap (λ (x : Change). w.stack.items ++ x.var ∷ []) e)
     refl refl (omega arith)
-
-pub value-requires : goal.value-requires
-value-requires g c =
-    omega (
-      arith,
-      change_within c.args.layered.now c.task.ensures.well_ranged c.args.rule c.requires.rule.exists c.rule_change-change.result (rw c.task.ensures.task at c.rule_change-change.ensures),
-      c.requires.running.state.one_each,
-    )
-
-pub set-requires : goal.set-requires
-set-requires g c =
-    omega (
-      arith,
-      change_within c.args.layered.now c.task.ensures.well_ranged c.args.rule c.requires.rule.exists c.rule_change-change.result (rw c.task.ensures.task at c.rule_change-change.ensures),
-      c.requires.running.state.one_each,
-    )
-
-pub set-requires-then-value-change : goal.set-requires-then-value-change
-set-requires-then-value-change g c =
-    omega (
-      arith,
-      change_within c.args.layered.now c.task.ensures.well_ranged c.args.rule c.requires.rule.exists c.rule_change-change.result (rw c.task.ensures.task at c.rule_change-change.ensures),
-      c.requires.room.sources,
-    )
-
-pub returns-else-value-change : goal.returns-else-value-change
-returns-else-value-change g c =
-    fires_nothing c.args.layered.now c.args.state.now c.args.work.now c.args.rule c.requires.running
-    (λ is. subst (λ (x : Change). get_or c.args.state.now x.var 0 ≡ x.new) (rw c.task.ensures.task at c.rule_change-change.ensures) (sym c.value.ensures ∙ c.if-value-change.false))

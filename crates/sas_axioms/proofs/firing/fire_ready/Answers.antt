@@ -25,9 +25,7 @@ loop-next-init g c =
     let begun : FiringTo p rules start start s w s w = record {
       goes_on = goes_on_still p s w;
       same = refl;
-      given = c.requires.given;
-      room = c.requires.room;
-      running = c.requires.running;
+      firing = c.requires.firing;
       counts = rw c.requires.empty c.requires.counts.exact;
       from_start = omega arith;
       within = omega (arith, c.requires.rules.within);
@@ -47,7 +45,7 @@ fire-requires-then-as_slice-rule-eq0-clause-hold g c =
     let entry = get_or c.args.rules.now c.loop-next.next no_entry in
     let on : IsRuleOn p layer entry.rule = subst (λ m. IsRuleOn p m entry.rule) (c.if-rules-next.true ∙ inv.goes_on.layer) (c.requires.rules.only c.loop-next.next no_entry c.loop-next-test.true) in
     let none : get_or c.args.work.now.counters entry.rule 0 ≡ 0 = ap (λ (xs : List ℕ). get_or xs entry.rule 0) (sym inv.same ∙ sym c.as_slice.ensures) ∙ c.if-as_slice-rule-eq0.true in
-    rw c.indexed.view_is (ready p layer c.loop-next.state c.loop-next.work.stack.items entry.rule (rw c.indexed.view_is at c.indexed.invariant).layered inv.running on (sym (inv.counts layer entry.rule on) ∙ none))
+    rw c.indexed.view_is (ready p layer c.loop-next.state c.loop-next.work.stack.items entry.rule (rw c.indexed.view_is at c.indexed.invariant).layered (rw inv.goes_on.layer at inv.firing.running) on (sym (inv.counts layer entry.rule on) ∙ none))
 
 -- where the rules of the layer end, all of them that have no open conditions have fired
 all_fired : (p : Parts) (start layer end : ℕ) (s counters : List ℕ) (rules : List LayerRule) → AreReadyFrom p start layer counters rules → layer ≡ layer_at rules start → start ≤ end
@@ -57,8 +55,8 @@ all_fired : (p : Parts) (start layer end : ℕ) (s counters : List ℕ) (rules :
 all_fired p start layer end s counters rules are here le last fired rule on none =
     let w = before_end p start layer end counters rules are here le last rule on none in
     let entry : LayerRule = record { layer = layer; rule = rule } in
-    let its : (get_or rules w.0 entry).rule ≡ rule = ap (λ (r : LayerRule). r.rule) w.3 in
-    subst (λ k. get_or s (rule_at p k).var 0 ≡ (rule_at p k).new) its (fired w.0 entry w.1 w.2 (subst (λ k. get_or counters k 0 ≡ 0) (sym its) none))
+    let its : (get_or rules w.0.at entry).rule ≡ rule = ap (λ (r : LayerRule). r.rule) w.0.is in
+    subst (λ k. get_or s (rule_at p k).var 0 ≡ (rule_at p k).new) its (fired w.0.at entry w.0.from_start w.1 (subst (λ k. get_or counters k 0 ≡ 0) (sym its) none))
 
 pub returns-else-rules-next-clause-at_work : goal.returns-else-rules-next-clause-at_work
 returns-else-rules-next-clause-at_work g c =
@@ -68,10 +66,8 @@ returns-else-rules-next-clause-at_work g c =
     let last : (d : LayerRule) → next < length rules → (get_or rules next d).layer ≡ c.args.work.now.layer → ⊥ =
     λ d lt same. c.if-rules-next.false (ap (λ (r : LayerRule). r.layer) (get_or_default rules next no_entry d lt) ∙ same ∙ sym inv.goes_on.layer) in
     record {
-      room = inv.room;
-      running = rw inv.goes_on.layer inv.running;
+      firing = inv.firing;
       counts = rw inv.same inv.counts;
-      given = rw inv.goes_on.layer inv.given;
       fired = rw (inv.goes_on.layer, inv.same) (all_fired c.args.indexed.now c.args.start c.args.work.now.layer next c.loop-next.state c.args.work.now.counters rules c.requires.rules c.requires.layer inv.from_start last inv.fired);
     }
 
@@ -82,10 +78,8 @@ returns-after-loop-next-clause-at_work g c =
     let next = c.loop-next.next in
     let past = c.loop-next-test.false in
     record {
-      room = inv.room;
-      running = rw inv.goes_on.layer inv.running;
+      firing = inv.firing;
       counts = rw inv.same inv.counts;
-      given = rw inv.goes_on.layer inv.given;
       fired = rw (inv.goes_on.layer, inv.same) (all_fired c.args.indexed.now c.args.start c.args.work.now.layer next c.loop-next.state c.args.work.now.counters rules c.requires.rules c.requires.layer inv.from_start
           (λ d lt same. absurd (omega arith)) inv.fired);
     }

@@ -1,21 +1,9 @@
 -- One more entry is counted.
 use Rattle.sas_axioms.proofs.Imports.{◌+◌, ◌<◌, length, get_or, refl, ap, ◌∙◌, arith, All, ValueChange, IsOfRule}
-use Rattle.sas_axioms.proofs.Counters.{goes_on_still, popped_running, top_within, can_release, ready_so_far, released_on, released_fired, at_work_again}
+use Rattle.sas_axioms.proofs.Counters.{goes_on_still, popped_running, can_release, ready_so_far, released_on, released_fired, at_work_again}
 use Rattle.sas_axioms.proofs.CountingEntries.{CanRecount, CountersSoFar, no_entry, counters_before, counters_passed, counters_set, its_count, can_count}
 use Rattle.sas_axioms.proofs.firing.release.Goals as goal
 use Rattle.sas_axioms.proofs.firing.release.Goals.{in-Some+then-has_to_fire, in-Some+else-has_to_fire, in_default}
-
-pub initial_value-requires : goal.initial_value-requires
-initial_value-requires g c =
-    rw c.indexed.view_is (top_within c.args.indexed.now c.args.work.now.layer c.args.state.now c.args.work.now.stack.items c.args.var c.requires.running)
-
-pub value-requires : goal.value-requires
-value-requires g c =
-    omega (arith, top_within c.args.indexed.now c.args.work.now.layer c.args.state.now c.args.work.now.stack.items c.args.var c.requires.running, c.requires.running.state.one_each)
-
-pub get-condition-items-requires : goal.get-condition-items-requires
-get-condition-items-requires g c =
-    omega (arith, top_within c.args.indexed.now c.args.work.now.layer c.args.state.now c.args.work.now.stack.items c.args.var c.requires.running, (rw c.indexed.view_is at c.indexed.invariant).full.one_each)
 
 pub loop-condition-init : goal.loop-condition-init
 loop-condition-init g c =
@@ -23,9 +11,11 @@ loop-condition-init g c =
     record {
       counters = counters_before _ _ c.args.work.now.counters;
       goes_on = goes_on_still c.args.indexed.now c.args.state.now c.args.work.now;
-      room = popped.room;
-      running = popped_running c.args.indexed.now c.args.work.now.layer c.args.state.now c.args.work.now.stack.items c.args.var popped.running;
-      given = popped.given;
+      firing = record {
+        room = popped.firing.room;
+        running = popped_running c.args.indexed.now c.args.work.now.layer c.args.state.now c.args.work.now.stack.items c.args.var popped.firing.running;
+        given = popped.firing.given;
+      };
       fired = popped.fired;
       seen = λ v. refl;
     }
@@ -42,10 +32,10 @@ count_after-requires g c =
 pub set-requires : goal.set-requires
 set-requires g c =
     let of_rule : All (IsOfRule c.args.indexed.now) c.get-condition-items.result.now = rw c.get-condition-items.ensures ((rw c.indexed.view_is at c.indexed.invariant).full.only c.args.var) in
-    omega (arith, (of_rule c.loop-condition.condition-index no_entry c.loop-condition-test.true).1.exists, c.loop-condition.invariant.room.one_each)
+    omega (arith, (of_rule c.loop-condition.condition-index no_entry c.loop-condition-test.true).1.exists, c.loop-condition.invariant.firing.room.one_each)
 
-pub has_to_fire-requires-clause-rule : goal.has_to_fire-requires-clause-rule
-has_to_fire-requires-clause-rule g c =
+pub has_to_fire-requires : goal.has_to_fire-requires
+has_to_fire-requires g c =
     let of_rule : All (IsOfRule c.args.indexed.now) c.get-condition-items.result.now = rw c.get-condition-items.ensures ((rw c.indexed.view_is at c.indexed.invariant).full.only c.args.var) in
     rw c.indexed.view_is (of_rule c.loop-condition.condition-index no_entry c.loop-condition-test.true)
 
@@ -60,7 +50,7 @@ fire-requires-clause-hold g c =
     let lt = c.loop-condition-test.true in
     let inv = c.loop-condition.invariant in
     let of_rule : All (IsOfRule p) ws = rw c.get-condition-items.ensures ((rw c.indexed.view_is at c.indexed.invariant).full.only c.args.var) in
-    let exists : (get_or ws i no_entry).rule < length w0.counters = omega (arith, (of_rule i no_entry lt).1.exists, c.requires.room.one_each) in
+    let exists : (get_or ws i no_entry).rule < length w0.counters = omega (arith, (of_rule i no_entry lt).1.exists, c.requires.firing.room.one_each) in
     let next : CountersSoFar moved ws (i + 1) w0.counters c.set.new.self =
     counters_set moved ws i w0.counters work.counters lt inv.counters c.in-Some.count c.set.new.self exists c.set.ensures c.in-Some.ensures.some in
     rw c.indexed.view_is (ready_so_far p c.indexed.inside.waiting.now c.args.var c.args.state.now w0 (rw c.indexed.view_is at c.indexed.invariant).layered (rw c.indexed.view_is at c.indexed.invariant).full c.requires i c.loop-condition.state work c.set.new.self (get_or ws i no_entry).rule
@@ -81,7 +71,7 @@ loop-condition-preserved g c =
     let inv = c.loop-condition.invariant in
     let rule = (get_or ws i no_entry).rule in
     let of_rule : All (IsOfRule p) ws = rw c.get-condition-items.ensures ((rw c.indexed.view_is at c.indexed.invariant).full.only c.args.var) in
-    let exists : rule < length w0.counters = omega (arith, (of_rule i no_entry lt).1.exists, c.requires.room.one_each) in
+    let exists : rule < length w0.counters = omega (arith, (of_rule i no_entry lt).1.exists, c.requires.firing.room.one_each) in
     let within : rule < length work.counters = omega (arith, exists, inv.counters.one_each) in
     elim c.match-count_after.branch [
       | in-Some+then-has_to_fire w ↦ rw (w.work-is, w.state-is)
@@ -91,13 +81,11 @@ loop-condition-preserved g c =
       | in-Some+else-has_to_fire w ↦ rw (w.work-is, w.state-is)
           (released_on p moved ws i s0 w0 s work w.set.new.self rule w.in-Some.count inv
           (counters_set moved ws i w0.counters work.counters lt inv.counters w.in-Some.count w.set.new.self exists w.set.ensures w.in-Some.ensures.some)
-          within w.set.ensures (rw (c.indexed.view_is, inv.goes_on.layer) at w.has_to_fire.ensures.no w.if-has_to_fire.false))
+          within w.set.ensures (λ zero on. absurd ((rw (c.indexed.view_is, inv.goes_on.layer) at w.has_to_fire.ensures.no w.if-has_to_fire.false) zero on)))
       | in_default w ↦ rw (w.work-is, w.state-is) record {
         counters = counters_passed moved ws i w0.counters work.counters lt inv.counters w.in_default.ensures.none;
         goes_on = inv.goes_on;
-        room = inv.room;
-        running = inv.running;
-        given = inv.given;
+        firing = inv.firing;
         fired = inv.fired;
         seen = inv.seen;
       }

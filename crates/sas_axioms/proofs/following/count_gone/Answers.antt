@@ -1,7 +1,7 @@
 -- The facts are processed one by one.
-use Rattle.sas_axioms.proofs.Imports.{◌≡◌, ℕ, ◌+◌, ◌<◌, List, ◌∷◌, length, get_or, set, drop, refl, subst, ◌∙◌, arith, drop_more, at_drop_all, All-head, Fact, Parts, HaveGone, Holds, IsBasic}
-use Rattle.sas_axioms.proofs.Tracking.{same_more}
-use Rattle.sas_axioms.proofs.GoneSteps.{counted_nothing, counted_more, gone_one, gone_same, between_begins}
+use Rattle.sas_axioms.proofs.Imports.{◌≡◌, ℕ, ◌+◌, ◌<◌, List, ◌∷◌, length, get_or, set, drop, refl, subst, ◌∙◌, arith, drop_more, at_drop_all, All-head, Fact, Parts, HaveGone, Holds, IsBasic, IsBetween, state_set}
+use Rattle.sas_axioms.proofs.CountingEntries.{same_more}
+use Rattle.sas_axioms.proofs.GoneSteps.{counted_nothing, counted_more, gone_one, gone_same, gone_all}
 use Rattle.sas_axioms.proofs.following.count_gone.Goals as goal
 use Rattle.sas_axioms.proofs.following.count_gone.Goals.{then-moved+in_ok-recount, else-moved}
 
@@ -26,14 +26,13 @@ recount-requires-clause-counts g c =
     let i = c.loop-fact.fact-index in
     let so_far = c.loop-fact.invariant.so_far c.requires.follows.0 c.requires.follows.1 c.requires.follows.2 in
     let have : HaveGone c.args.indexed.now (get_or gone i no_fact ∷ drop (i + 1) gone) so_far.0 c.args.state.now = rw (drop_more gone i no_fact c.loop-fact-test.true) at so_far.1 in
-    (so_far.0, so_far.2.counts, All-head (Holds (λ v. get_or so_far.0 v 0)) (get_or gone i no_fact) (drop (i + 1) gone) have.held)
+    (so_far.0, so_far.2.track.counts, All-head (Holds (λ v. get_or so_far.0 v 0)) (get_or gone i no_fact) (drop (i + 1) gone) have.held)
 
 pub returns-clause-between : goal.returns-clause-between
 returns-clause-between g c s followed have =
     let so_far = c.loop-fact.invariant.so_far s followed have in
-    between_begins c.args.indexed.now s so_far.0 c.args.state.now c.args.work.now c.requires.state followed
-    (subst (λ (xs : List Fact). HaveGone c.args.indexed.now xs so_far.0 c.args.state.now) (at_drop_all (λ xs. xs) c.args.gone.now c.loop-fact.fact-index (omega arith)) so_far.1)
-    c.loop-fact.work c.loop-fact.invariant.same.sources so_far.2
+    subst (λ m. IsBetween c.args.indexed.now s 0 m c.loop-fact.work) (gone_all c.args.indexed.now so_far.0 c.args.state.now (omega (arith, so_far.2.track.state.one_each, c.requires.state.one_each))
+    (subst (λ (xs : List Fact). HaveGone c.args.indexed.now xs so_far.0 c.args.state.now) (at_drop_all (λ xs. xs) c.args.gone.now c.loop-fact.fact-index (omega arith)) so_far.1)) so_far.2
 
 pub loop-fact-preserved : goal.loop-fact-preserved
 loop-fact-preserved g c =
@@ -51,12 +50,13 @@ loop-fact-preserved g c =
         so_far = λ s followed have.
             (let so_far = inv.so_far s followed have in
             let here : HaveGone p (f ∷ rest) so_far.0 state = rw next at so_far.1 in
-            let within : f.var < length so_far.0 = (let e = so_far.2.counts.known in let x = All-head (λ (h : Fact). h.var < length p.variables) f rest here.exist in omega arith) in
+            let within : f.var < length so_far.0 = (let e = so_far.2.track.counts.known in let x = All-head (λ (h : Fact). h.var < length p.variables) f rest here.exist in omega arith) in
             let value_is : c.value.result ≡ get_or state f.var 0 = c.value.ensures in
-            let moves = w.in_ok-recount.ensures.moves so_far.0 so_far.2.counts (All-head (Holds (λ v. get_or so_far.0 v 0)) f rest here.held) in (
+            let moves = w.in_ok-recount.ensures.moves so_far.0 so_far.2.track.counts (All-head (Holds (λ v. get_or so_far.0 v 0)) f rest here.held) in (
               set so_far.0 f.var (get_or state f.var 0),
               gone_one p f rest so_far.0 state here within,
-              counted_more p s so_far.0 c.loop-fact.work w.recount.new.work f.var (get_or state f.var 0) (All-head (λ (h : Fact). IsBasic p h.var) f rest here.basic) w.recount.ensures.same.sources so_far.2 (rw value_is at moves),
+              counted_more p s so_far.0 c.loop-fact.work w.recount.new.work f.var (get_or state f.var 0) (All-head (λ (h : Fact). IsBasic p h.var) f rest here.basic)
+                  (state_set p so_far.0 f.var (get_or state f.var 0) so_far.2.track.state (c.requires.state.in_range f.var (omega (arith, within, so_far.2.track.state.one_each)))) w.recount.ensures.same.sources so_far.2 (rw value_is at moves),
             ));
       }
       | else-moved w ↦ rw w.work-is record {
@@ -64,7 +64,8 @@ loop-fact-preserved g c =
         so_far = λ s followed have.
             (let so_far = inv.so_far s followed have in
             let here : HaveGone p (f ∷ rest) so_far.0 state = rw next at so_far.1 in
-            (so_far.0, gone_same p f rest so_far.0 state here (w.if-moved.false ∙ c.value.ensures), so_far.2));
+            let within : f.var < length so_far.0 = (let e = so_far.2.track.counts.known in let x = All-head (λ (h : Fact). h.var < length p.variables) f rest here.exist in omega arith) in
+            (so_far.0, gone_same p f rest so_far.0 state here within (w.if-moved.false ∙ c.value.ensures), so_far.2));
       }
     ]
 

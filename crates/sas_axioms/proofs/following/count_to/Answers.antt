@@ -1,41 +1,18 @@
--- The counter is set, and the rule is noted.
-use Rattle.sas_axioms.proofs.Imports.{length, refl, ap, inl, ◌∙◌, length-set}
+-- The counter is set, and the rule is noted with its layer.
+use Rattle.sas_axioms.proofs.Imports.{subst, inl, IsOnAgenda}
+use Rattle.sas_axioms.proofs.AgendaOrder.{noted_there, notes_more, notes_left}
+use Rattle.sas_axioms.proofs.OneLayer.{one_layer}
 use Rattle.sas_axioms.proofs.following.count_to.Goals as goal
 
-pub returns-in_err-note_rule-clause-same : goal.returns-in_err-note_rule-clause-same
-returns-in_err-note_rule-clause-same g c = record {
-  layer = refl;
-  stack = refl;
-  one_each = ap length c.set.ensures ∙ length-set c.args.work.now.counters c.args.rule c.args.count;
-  sources = refl;
-}
-
-pub returns-in_ok-note_rule-clause-same : goal.returns-in_ok-note_rule-clause-same
-returns-in_ok-note_rule-clause-same g c = record {
-  layer = refl;
-  stack = refl;
-  one_each = ap length c.set.ensures ∙ length-set c.args.work.now.counters c.args.rule c.args.count;
-  sources = refl;
-}
-
-pub returns-else-held-count-clause-same : goal.returns-else-held-count-clause-same
-returns-else-held-count-clause-same g c = record {
-  layer = refl;
-  stack = refl;
-  one_each = ap length c.set.ensures ∙ length-set c.args.work.now.counters c.args.rule c.args.count;
-  sources = refl;
-}
-
-pub returns-in_ok-note_rule-clause-counts : goal.returns-in_ok-note_rule-clause-counts
-returns-in_ok-note_rule-clause-counts g c = record {
-  same = record {
-    layer = refl;
-    stack = refl;
-    one_each = ap length c.set.ensures ∙ length-set c.args.work.now.counters c.args.rule c.args.count;
-    sources = refl;
-  };
-  counters = c.set.ensures;
-  crossed = λ layer is. inl (c.in_ok-note_rule.ensures.noted layer is);
-  notes = c.in_ok-note_rule.ensures.notes;
-  left = c.in_ok-note_rule.ensures.left;
-}
+pub returns-in_ok-note-clause-counts : goal.returns-in_ok-note-clause-counts
+returns-in_ok-note-clause-counts g c =
+    let p = c.args.layered.now in
+    let agenda = c.args.work.now.agenda in
+    let layer = c.in-Some.layer in
+    let notes = c.in_ok-note.ensures in
+    record {
+      counters = c.set.ensures;
+      crossed = λ its is. inl (subst (λ l. IsOnAgenda c.note.new.self l c.args.rule) (one_layer p layer its c.args.rule c.in-Some.ensures.some is) (noted_there layer c.args.rule agenda c.note.new.self notes));
+      notes = notes_more p layer c.args.rule agenda c.note.new.self c.in-Some.ensures.some notes;
+      left = notes_left layer c.args.rule agenda c.note.new.self notes;
+    }

@@ -1,15 +1,10 @@
 -- One more entry is counted.
 use Rattle.sas_axioms.proofs.Imports.{◌≡◌, ◌<◌, length, get_or, sym, ap, subst, arith, All, IsOfRule, waiting_at}
 use Rattle.sas_axioms.proofs.AllConditions.{can_recount}
-use Rattle.sas_axioms.proofs.CountingEntries.{CanRecount, no_entry, counted_none, can_count, entry_counted, entry_passed}
+use Rattle.sas_axioms.proofs.CountingEntries.{CanRecount, no_entry, can_count, entry_counted, entry_passed}
 use Rattle.sas_axioms.proofs.Recounting.{moved_when_recounted}
 use Rattle.sas_axioms.proofs.following.recount.Goals as goal
 use Rattle.sas_axioms.proofs.following.recount.Goals.{in-Some+in_ok-count_to, in_default}
-
-pub loop-condition-init : goal.loop-condition-init
-loop-condition-init g c =
-    counted_none c.args.indexed.now c.args.moved c.get-waiting.result.now c.args.work.now c.pay.new.self c.requires.ordered
-    c.pay.ensures.noted c.pay.ensures.ready c.in_ok-pay.ensures.left
 
 pub count_after-requires : goal.count_after-requires
 count_after-requires g c =
@@ -38,7 +33,7 @@ loop-condition-preserved g c =
     let exists : (get_or ws i no_entry).rule < length w0.counters = omega (arith, (only i no_entry lt).1.exists, c.requires.counts.1.one_each) in
     elim c.match-count_after.branch [
       | in-Some+in_ok-count_to w ↦ rw w.work-is
-          (entry_counted p moved ws i w0 work lt inv w.in-Some.count w.count_to.new.work exists (rw c.indexed.view_is at w.in_ok-count_to.ensures.counts) w.in-Some.ensures.some)
+          (entry_counted p moved ws i w0 work lt inv w.in-Some.count w.count_to.new.work exists w.count_to.ensures.same (rw c.indexed.view_is at w.in_ok-count_to.ensures.counts) w.in-Some.ensures.some)
       | in_default w ↦ rw w.work-is (entry_passed p moved ws i w0 work lt inv w.in_default.ensures.none)
     ]
 

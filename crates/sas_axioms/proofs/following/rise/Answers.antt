@@ -1,7 +1,7 @@
 -- The rules are removed one by one: each sets its variable, or needs not.
 use Rattle.sas_axioms.proofs.Imports.{◌≡◌, ℕ, ◌<◌, true, List, length, get_or, set, is_some, refl, sym, ap, subst, ◌∙◌, arith, Change, rule_at, IsOnLayer, on_layer_within, length-set, get_or-set_other, differs, differs_true, IsRising, IsRuleOn, IsHolding}
-use Rattle.sas_axioms.proofs.RisingSteps.{rising_passed, rising_set, fires, risen_in_the_end}
-use Rattle.sas_axioms.proofs.Tracking.{awaited_on, holding_when_zero, zero_when_holding, off_step, covered_step, room_same, room_but, room_more}
+use Rattle.sas_axioms.proofs.RisingSteps.{rising_passed, rising_set, fires}
+use Rattle.sas_axioms.proofs.Tracking.{awaited_on, holding_when_zero, zero_when_holding, off_step, covered_step, room_more}
 use Rattle.sas_axioms.proofs.following.rise.Goals as goal
 use Rattle.sas_axioms.proofs.following.rise.Given.{Over}
 use Rattle.sas_axioms.proofs.following.rise.Goals.{In-Some}
@@ -38,30 +38,6 @@ set_to-requires-clause-derived g c = rw (ap (λ (x : Change). x.var) (rw c.index
 holds : (g : Over) (i : In-Some g) → get_or i.loop-rule.work.counters i.in-Some.rule 0 ≡ 0 → IsHolding i.args.indexed.now i.loop-rule.state i.in-Some.rule
 holds g i zero = holding_when_zero i.args.indexed.now i.loop-rule.work.layer i.in-Some.rule i.loop-rule.state i.loop-rule.work.counters (some g i).track.counts (on g i) zero
 
-pub returns-in_err-set_to-clause-state : goal.returns-in_err-set_to-clause-state
-returns-in_err-set_to-clause-state g c =
-    let p = c.args.indexed.now in
-    let i = (goal.at.returns-in_err-set_to-clause-state g c).In-Some in
-    let s = c.loop-rule.state in
-    let state_is : c.set_to.new.state ≡ set s (rule_at p c.in-Some.rule).var (rule_at p c.in-Some.rule).new = c.set_to.ensures.state ∙ ap (λ (x : Change). set s x.var x.new) (rw c.indexed.view_is at c.rule_change-change.ensures) in
-    rw state_is (fires p c.requires.0 s c.in-Some.rule _ _ (rw c.indexed.view_is at c.indexed.invariant).ranged (rw c.indexed.view_is at c.indexed.invariant).layered (some g i) c.in-Some.ensures.some (holds g i ((rw c.indexed.view_is at c.has_to_set.ensures).holds c.if-has_to_set.true)) ((rw c.indexed.view_is at c.has_to_set.ensures).other c.if-has_to_set.true)).state
-
-pub returns-in_err-set_to-clause-off : goal.returns-in_err-set_to-clause-off
-returns-in_err-set_to-clause-off g c =
-    let p = c.args.indexed.now in
-    let i = (goal.at.returns-in_err-set_to-clause-off g c).In-Some in
-    let inv = c.loop-rule.invariant in
-    let state_is : c.set_to.new.state ≡ set c.loop-rule.state (rule_at p c.in-Some.rule).var (rule_at p c.in-Some.rule).new = c.set_to.ensures.state ∙ ap (λ (x : Change). set c.loop-rule.state x.var x.new) (rw c.indexed.view_is at c.rule_change-change.ensures) in
-    off_step p c.args.work.now.layer c.loop-rule.work.layer c.args.state.now c.loop-rule.state c.set_to.new.state _ _ inv.room.layer inv.off (on g i).on state_is
-
-pub returns-in_err-set_to-clause-covered : goal.returns-in_err-set_to-clause-covered
-returns-in_err-set_to-clause-covered g c =
-    let p = c.args.indexed.now in
-    let i = (goal.at.returns-in_err-set_to-clause-covered g c).In-Some in
-    let e = ap (λ (x : Change). x.var) (rw c.indexed.view_is at c.rule_change-change.ensures) in
-    covered_step p c.loop-rule.work.layer c.args.state.now c.loop-rule.state c.set_to.new.state _ _ c.args.touched.now c.loop-rule.touched c.set_to.new.touched
-    c.loop-rule.invariant.covered (subst (λ v. IsOnLayer p c.loop-rule.work.layer v) (sym e) (on g i).on) c.set_to.ensures.state c.set_to.ensures.noted
-
 pub set-requires : goal.set-requires
 set-requires g c =
     let i = (goal.at.set-requires g c).In-Some in
@@ -81,7 +57,7 @@ loop-rule-preserved-then-has_to_set g c =
     let hold = holds g i ((rw c.indexed.view_is at c.has_to_set.ensures).holds c.if-has_to_set.true) in
     let ne = (rw c.indexed.view_is at c.has_to_set.ensures).other c.if-has_to_set.true in
     let e = (rw c.indexed.view_is at c.rule_change-change.ensures) in
-    let state_is : c.set_to.new.state ≡ set s (rule_at p rule).var (rule_at p rule).new = c.set_to.ensures.state ∙ ap (λ (x : Change). set s x.var x.new) e in
+    let state_is : c.set_to.new.state ≡ set s (rule_at p rule).var (rule_at p rule).new = c.in_ok-set_to.ensures.state ∙ ap (λ (x : Change). set s x.var x.new) e in
     let sources_is : c.set.new.self ≡ set c.set_to.new.work.sources (rule_at p rule).var rule = c.set.ensures ∙ ap (λ (x : Change). set c.set_to.new.work.sources x.var rule) e in
     let same = c.set_to.ensures.same in
     let moves = rw (ap (λ (x : Change). x.var) e, state_is) at c.in_ok-set_to.ensures.moves in
@@ -92,7 +68,7 @@ loop-rule-preserved-then-has_to_set g c =
       state = (fires p c.requires.0 s rule work _ (rw c.indexed.view_is at c.indexed.invariant).ranged (rw c.indexed.view_is at c.indexed.invariant).layered b takes hold ne).state;
       off = off_step p c.args.work.now.layer work.layer c.args.state.now s (set s (rule_at p rule).var (rule_at p rule).new) (rule_at p rule).var (rule_at p rule).new inv.room.layer inv.off is.on refl;
       covered = covered_step p work.layer c.args.state.now s (set s (rule_at p rule).var (rule_at p rule).new) (rule_at p rule).var (rule_at p rule).new
-          c.args.touched.now c.loop-rule.touched c.set_to.new.touched inv.covered is.on refl (rw (ap (λ (x : Change). x.var) e) at c.set_to.ensures.noted);
+          c.args.touched.now c.loop-rule.touched c.set_to.new.touched inv.covered is.on refl (rw (ap (λ (x : Change). x.var) e) at c.in_ok-set_to.ensures.noted);
       rising = λ s0 r. rising_set p s0 s rule work _ (rw c.indexed.view_is at c.indexed.invariant).ranged (rw c.indexed.view_is at c.indexed.invariant).layered (inv.rising s0 r) takes hold ne c.set_to.new.work
           (omega (arith, within g i, b.track.state.one_each)) (omega (arith, within g i, b.track.places)) same moves;
       left = let a = inv.left in let d = takes.left in let f = moves.left in omega arith;
@@ -119,27 +95,10 @@ loop-rule-preserved g c =
       left = let a = inv.left in let d = c.in-Some.ensures.some.left in omega arith;
     }
 
+pub returns-in_err-set_to-clause-covered : goal.returns-in_err-set_to-clause-covered
+returns-in_err-set_to-clause-covered g c = rw (c.in_err-set_to.ensures.unchanged, c.in_err-set_to.ensures.untouched) c.loop-rule.invariant.covered
+
 pub returns-clause-risen : goal.returns-clause-risen
 returns-clause-risen g c s rising =
     let same = c.in_default.ensures.same in
-    rw same (risen_in_the_end c.args.indexed.now s c.loop-rule.state c.loop-rule.work (rw c.indexed.view_is at c.indexed.invariant).layered (c.loop-rule.invariant.rising s rising) (rw same at c.in_default.ensures.none) (rw same at c.in_default.ensures.empty))
-
-pub loop-rule-init : goal.loop-rule-init
-loop-rule-init g c = record {
-  room = record { layer = refl; stack = refl; one_each = refl; sources = refl };
-  sources = λ v off. refl;
-  state = c.requires.1.track.state;
-  off = λ v off. refl;
-  covered = λ before covers. covers;
-  rising = λ s rising. rising;
-  left = omega arith;
-}
-
-pub set_to-requires-clause-other : goal.set_to-requires-clause-other
-set_to-requires-clause-other g c = λ same.
-    (rw c.indexed.view_is at c.has_to_set.ensures).other c.if-has_to_set.true (subst (λ (x : Change). get_or c.loop-rule.state x.var 0 ≡ x.new) (rw c.indexed.view_is at c.rule_change-change.ensures) same)
-
-pub returns-in_err-set_to-clause-stands : goal.returns-in_err-set_to-clause-stands
-returns-in_err-set_to-clause-stands g c =
-    room_more c.args.work.now _ c.set_to.new.work (room_but c.args.work.now c.loop-rule.work c.next.new.self c.loop-rule.invariant.room)
-    (room_same _ c.set_to.new.work c.set_to.ensures.same)
+    rw same record { rising = c.loop-rule.invariant.rising s rising; behind = rw same at c.in_default.ensures.none; empty = rw same at c.in_default.ensures.empty }

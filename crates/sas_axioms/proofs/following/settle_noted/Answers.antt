@@ -1,5 +1,5 @@
 -- The layers are settled one by one.
-use Rattle.sas_axioms.proofs.Imports.{ℕ, ◌+◌, ◌≤◌, List, length, get_or, refl, sym, ap, subst, ◌∙◌, heap_items, Reverse, All-contains, IsOnLayer, SameOff, basic_off, LayerRule, entry_for, IsBetween, IsFalling}
+use Rattle.sas_axioms.proofs.Imports.{ℕ, ◌+◌, ◌≤◌, List, length, get_or, sym, ap, subst, ◌∙◌, heap_items, Reverse, All-contains, IsOnLayer, SameOff, basic_off, LayerRule, entry_for, IsBetween, IsFalling}
 use Rattle.sas_axioms.proofs.RisingSteps.{falling_begins, between_again, followed_when_none}
 use Rattle.sas_axioms.proofs.following.settle_noted.Goals as goal
 use Rattle.sas_axioms.proofs.following.settle_noted.Given.{Over}
@@ -60,25 +60,3 @@ loop-layer-preserved g c =
                 (c.in_ok-rise.ensures.risen s0 (c.in_ok-fall.ensures.rising s0 (begins g i s0 start))),
           ));
     }
-
-pub loop-layer-init : goal.loop-layer-init
-loop-layer-init g c = record {
-  stack = refl;
-  one_each = refl;
-  sources = refl;
-  state = c.requires.1.track.state;
-  basic = λ v basic. refl;
-  covered = λ before covers. covers;
-  between = λ s between. (0, between);
-}
-
-pub returns-in_err-fall-clause-basic : goal.returns-in_err-fall-clause-basic
-returns-in_err-fall-clause-basic g c = λ v basic.
-    c.loop-layer.invariant.basic v basic ∙ basic_off c.args.indexed.now c.in-Some.layer c.loop-layer.state c.fall.new.state c.requires.1.layered c.fall.ensures.off v basic
-
-pub returns-in_err-rise-clause-basic : goal.returns-in_err-rise-clause-basic
-returns-in_err-rise-clause-basic g c = λ v basic.
-    let p = c.args.indexed.now in
-    let layer = c.in-Some.layer in
-    let off : SameOff p layer c.loop-layer.state c.rise.new.state = λ v not. c.fall.ensures.off v not ∙ c.rise.ensures.off v (subst (λ n. IsOnLayer p n v → ⊥) (sym c.fall.ensures.same.layer) not) in
-    c.loop-layer.invariant.basic v basic ∙ basic_off p layer c.loop-layer.state c.rise.new.state c.requires.1.layered off v basic

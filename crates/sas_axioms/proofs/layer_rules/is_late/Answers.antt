@@ -33,9 +33,3 @@ loop-condition-preserved g c =
         | in_default w ↦ rw w.waits-is inv.waits
       ];
     }
-
-pub returns : goal.returns
-returns g c is = record {
-  stays = λ j d lt. c.loop-condition.invariant.stays j d (let past = c.loop-condition-test.false in omega (arith, ap length (rw c.task-task.ensures.task at c.rule_conditions-condition-items.ensures)));
-  waits = c.loop-condition.invariant.waits is;
-}

@@ -7,14 +7,6 @@ use Rattle.sas_axioms.proofs.layer_rules.rules_of_variables.Goals.{then-change-i
 pub loop-rule-init : goal.loop-rule-init
 loop-rule-init g c = subst (RulesTo c.args.layered.now 0) (sym c.new-entries.ensures.items) (rules_none c.args.layered.now)
 
-pub initial_value-requires : goal.initial_value-requires
-initial_value-requires g c =
-    rw c.task-task.ensures.task (let p = c.args.layered.now in
-    let k = c.loop-rule.rule in
-    let lt : k < length p.rules = omega (arith, (rw c.task-task.ensures.task at c.rules-rule-end.ensures), c.loop-rule-test.true) in
-    subst (λ (x : Change). x.var < length p.variables) (sym (rw c.task-task.ensures.task at c.rule_change-change.ensures))
-    (fact_within p (rule_at p k).var (rule_at p k).new (rule_new p c.task-task.ensures.well_ranged k _ lt)))
-
 pub loop-rule-preserved : goal.loop-rule-preserved
 loop-rule-preserved g c =
     let p = c.args.layered.now in

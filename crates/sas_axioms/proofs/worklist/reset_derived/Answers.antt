@@ -1,6 +1,5 @@
 -- One more variable has its default.
 use Rattle.sas_axioms.proofs.Imports.{◌≡◌, get_or, set, sym, subst, ap, ◌∙◌, inl, inr, arith, cases_eq, get_or_default, get_or-set_same, get_or-set_other, default_of, state_set, not_basic, derived_within}
-use Rattle.std.specs.Option.{is_some}
 use Rattle.sas_axioms.proofs.worklist.reset_derived.Goals as goal
 
 pub loop-var-preserved : goal.loop-var-preserved
@@ -26,15 +25,3 @@ loop-var-preserved g c =
         ]
       ];
     }
-
-pub set-requires : goal.set-requires
-set-requires g c =
-    let within = derived_within c.args.layered.now (get_or c.args.derived.now c.loop-var.var-index 0) (c.requires.derived.only c.loop-var.var-index 0 c.loop-var-test.true) in
-    let one = c.loop-var.invariant.state.one_each in
-    omega (arith, within, one)
-
-pub returns-clause-default : goal.returns-clause-default
-returns-clause-default g c = λ layer v on.
-    let there = c.requires.derived.each v (ap is_some on) in
-    subst (λ x. get_or c.loop-var.state x 0 ≡ default_of c.args.layered.now x) there.2
-    (c.loop-var.invariant.default there.0 v (let lt = there.1 in omega arith))

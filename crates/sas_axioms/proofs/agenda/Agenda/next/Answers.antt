@@ -1,6 +1,5 @@
 -- The last ready rule, or else a noted one.
-use Rattle.sas_axioms.proofs.Imports.{◌≡◌, ◌∷◌, ◌++◌, [], length, arith, inl, inr, ap, length-append, heap_items, Contains-get_or}
-use Rattle.sas_axioms.proofs.AgendaOrder.{popped_cases, popped_still, popped_there}
+use Rattle.sas_axioms.proofs.Imports.{◌≡◌, ◌∷◌, ◌++◌, [], length, get_or, sym, arith, inl, inr, ap, length-append, heap_items, All-contains_itself, Contains-get_or, Contains-append_left, Contains-push, Contains-push_cases}
 use Rattle.sas_axioms.proofs.agenda.Agenda.next.Goals as goal
 
 pub returns-in-Some-clause-some : goal.returns-in-Some-clause-some
@@ -10,11 +9,11 @@ returns-in-Some-clause-some c =
     let x = c.in-Some.rule in
     let is : ready ≡ rest ++ x ∷ [] = c.in-Some.ensures.items in
     record {
-      was = inr (popped_there ready rest x is);
+      was = inr (rw is (Contains-push rest x));
       noted = λ m other there. inl there;
-      ready = λ other there. popped_cases ready rest x other is there;
-      still_noted = λ k d lt. Contains-get_or (heap_items c.args.self.now.noted) k d lt;
-      still_ready = popped_still ready rest x is;
+      ready = λ other there. elim (Contains-push_cases rest x other (rw is at there)) [ inl still ↦ inl still | inr e ↦ inr (sym e) ];
+      still_noted = All-contains_itself (heap_items c.args.self.now.noted);
+      still_ready = rw is (λ k d lt. Contains-append_left rest (x ∷ []) (get_or rest k d) (Contains-get_or rest k d lt));
       ordered = c.requires.ordered;
       left = let n = length-append rest (x ∷ []) in omega (arith, ap length is, n);
     }

@@ -1,6 +1,6 @@
 -- The first noted rule is on this layer.
-use Rattle.sas_axioms.proofs.Imports.{rules, ◌≡◌, ◌≤◌, ◌∷◌, sym, ap, subst, inl, inr, arith, Contains, IsPermutation, heap_items, Reverse, All-contains, Contains-get_or, length_permutation, LayerRule, entry_for, Lowest}
-use Rattle.sas_axioms.proofs.AgendaOrder.{lowest_first, taken_cases, rest_still, head_there}
+use Rattle.sas_axioms.proofs.Imports.{rules, ◌≡◌, ◌≤◌, ◌∷◌, sym, ap, subst, inl, inr, arith, Contains, IsPermutation, heap_items, Reverse, All-contains, All-contains_itself, Contains-permutation, contains_cases, length_permutation, LayerRule, entry_for, Lowest}
+use Rattle.sas_axioms.proofs.AgendaOrder.{lowest_first, rest_still, head_there}
 use Rattle.sas_axioms.proofs.agenda.Agenda.take.Goals as goal
 
 pub returns-clause-some : goal.returns-clause-some
@@ -17,13 +17,13 @@ returns-clause-some c =
     let is : x ≡ entry_for c.args.layer x.0.rule = ap (λ l. entry_for l x.0.rule) layer in
     record {
       was = inl (subst (λ e. Contains items e) is (head_there items rest x same));
-      noted = λ m other there. elim (taken_cases items rest x (entry_for m other) same there) [
-        | inl still ↦ inl still
-        | inr e ↦ inr (sym (ap (λ (r : Reverse LayerRule). r.0.rule) e))
+      noted = λ m other there. elim (contains_cases x rest (entry_for m other) (Contains-permutation items (x ∷ rest) (entry_for m other) same there)) [
+        | inr still ↦ inl still
+        | inl e ↦ inr (sym (ap (λ (r : Reverse LayerRule). r.0.rule) e))
       ];
       ready = λ other there. inl there;
       still_noted = rest_still items rest x same;
-      still_ready = λ k d lt. Contains-get_or c.args.self.now.ready.items k d lt;
+      still_ready = All-contains_itself c.args.self.now.ready.items;
       ordered = (c.in_ok-first.ensures.heap_order c.requires.ordered).0;
       left = let n = length_permutation items (x ∷ rest) same in omega arith;
     }

@@ -24,9 +24,3 @@ returns-clause-values g c =
     let all : length c.args.layered.now.variables ≤ c.loop-start.start = omega (arith, c.variables-variables.ensures.count) in
     same_number_lists c.loop-start.self.values c.args.state.now (omega (arith, inv.counts.counts.known, c.requires.state))
     (λ k lt. inv.so_far k (omega (arith, inv.counts.counts.known)))
-
-pub loop-start-init : goal.loop-start-init
-loop-start-init g c = record { within = omega arith; counts = c.requires.counts; so_far = λ k lt. absurd (omega arith) }
-
-pub follow_part-requires-clause-known : goal.follow_part-requires-clause-known
-follow_part-requires-clause-known g c = omega (arith, c.loop-start.invariant.counts.counts.known, c.requires.state)

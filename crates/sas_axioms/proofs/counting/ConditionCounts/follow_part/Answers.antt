@@ -1,5 +1,5 @@
 -- One more variable has the value of the state.
-use Rattle.sas_axioms.proofs.Imports.{◌≡◌, ◌<◌, length, get_or, set, refl, sym, subst, ap, ◌∙◌, inl, inr, arith, cases_eq, get_or-set_same, get_or-set_other, length-set}
+use Rattle.sas_axioms.proofs.Imports.{◌≡◌, ◌<◌, length, get_or, set, sym, subst, ap, ◌∙◌, inl, inr, arith, cases_eq, get_or-set_same, get_or-set_other, length-set}
 use Rattle.sas_axioms.proofs.counting.ConditionCounts.follow_part.Goals as goal
 
 pub loop-var-preserved : goal.loop-var-preserved
@@ -19,12 +19,3 @@ loop-var-preserved c =
       ];
       before = λ k lt. ap (λ xs. get_or xs k 0) is ∙ (get_or-set_other values var k value 0 (λ e. absurd (omega arith)) ∙ inv.before k lt);
     }
-
-pub recount-requires-clause-counts : goal.recount-requires-clause-counts
-recount-requires-clause-counts c = (c.requires.counts.0, c.loop-var.invariant.counts c.requires.counts.0 c.requires.counts.1)
-
-pub loop-var-init : goal.loop-var-init
-loop-var-init c = record { known = c.requires.known; counts = λ p was. was; part = λ k ge lt. absurd (omega arith); before = λ k lt. refl }
-
-pub recount-requires-clause-var : goal.recount-requires-clause-var
-recount-requires-clause-var c = omega (arith, c.loop-var.invariant.known, c.requires.within, c.loop-var-test.true)

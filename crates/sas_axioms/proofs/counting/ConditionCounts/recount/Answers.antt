@@ -1,12 +1,9 @@
 -- One more entry is counted.
 use Rattle.sas_axioms.proofs.Imports.{◌<◌, length, get_or, sym, arith, All, ValueChange, IsOfRule}
 use Rattle.sas_axioms.proofs.AllConditions.{can_recount, recounted}
-use Rattle.sas_axioms.proofs.CountingEntries.{CanRecount, no_entry, counters_before, counters_after, can_count, counters_passed, counters_set}
+use Rattle.sas_axioms.proofs.CountingEntries.{CanRecount, no_entry, counters_after, can_count, counters_passed, counters_set}
 use Rattle.sas_axioms.proofs.counting.ConditionCounts.recount.Goals as goal
 use Rattle.sas_axioms.proofs.counting.ConditionCounts.recount.Goals.{in-Some, in_default}
-
-pub loop-condition-init : goal.loop-condition-init
-loop-condition-init c = counters_before _ _ c.args.self.now.counters
 
 pub count_after-requires : goal.count_after-requires
 count_after-requires c =

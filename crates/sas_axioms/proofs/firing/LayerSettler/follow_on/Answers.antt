@@ -13,10 +13,6 @@ returns-in_err-count_gone-clause-prepared g c =
       empty = rw same.stack was.empty;
     }
 
-pub settle_noted-requires : goal.settle_noted-requires
-settle_noted-requires g c =
-    (c.requires.follows.0, c.in_ok-count_gone.ensures.between c.requires.follows.0 c.requires.follows.1 c.requires.follows.2)
-
 pub returns-clause-prepared : goal.returns-clause-prepared
 returns-clause-prepared g c =
     let was = c.requires.prepared in

@@ -1,15 +1,10 @@
 -- The next layer on which a rule holds.
-use Rattle.sas_axioms.proofs.Imports.{rules, ℕ, ◌≤◌, ◌<◌, length, arith, SettlesLayer, IsLayerSpan, AreWaiting, IsReadyAt, layer_at, IsSettledAt, IsSettled, IsFollowed}
-use Rattle.sas_axioms.proofs.AllCounted.{given_to_next, followed_in_the_end}
+use Rattle.sas_axioms.proofs.Imports.{rules, ℕ, ◌≤◌, ◌<◌, length, sym, subst, inl, inr, arith, cases_eq, cases_lt, default_off, AreGiven, SettlesLayer, IsLayerSpan, AreWaiting, IsReadyAt, layer_at, IsSettledAt, IsSettled, IsFollowed}
+use Rattle.sas_axioms.proofs.Sources.{given_off, given_at_default}
 use Rattle.sas_axioms.proofs.Standing.{settled_while_waiting, settled_between, from_on, ready_from, stands_behind}
 use Rattle.sas_axioms.proofs.worklist.WorklistByLayers.settle_next.Goals as goal
 use Rattle.sas_axioms.proofs.worklist.WorklistByLayers.settle_next.Given.{Over}
 use Rattle.sas_axioms.proofs.worklist.WorklistByLayers.settle_next.Goals.{In_ok-ready}
-
-pub next_ready-requires : goal.next_ready-requires
-next_ready-requires g c = rw c.as_slice-rules.ensures.value (λ k d lt.
-    let on = c.requires.stands.ready.rules.only k d lt in
-    omega (arith, on.exists, c.requires.stands.ready.firing.room.one_each))
 
 pub returns-in_err-ready-clause-settled : goal.returns-in_err-ready-clause-settled
 returns-in_err-ready-clause-settled g c =
@@ -25,9 +20,18 @@ returns-in_err-ready-clause-settled g c =
 
 pub returns-in_err-ready-clause-follows : goal.returns-in_err-ready-clause-follows
 returns-in_err-ready-clause-follows g c =
-    let follows : IsSettled c.args.layered.now c.args.state.now → IsFollowed c.args.layered.now c.args.state.now c.args.self.now.firing.work =
-    followed_in_the_end c.args.layered.now c.args._from c.args.state.now c.args.self.now.firing.work c.requires.stands.ready.firing.counted.layered c.requires.state c.requires.stands.ready.firing.room.sources
-    c.requires.stands.counts c.requires.stands.given c.requires.default in
+    let p = c.args.layered.now in
+    let s = c.args.state.now in
+    let w = c.args.self.now.firing.work in
+    let stands = c.requires.stands in
+    let follows : IsSettled p s → IsFollowed p s w = λ settled. record {
+      layered = stands.ready.firing.counted.layered;
+      state = c.requires.state;
+      settled = settled;
+      counts = stands.counts;
+      places = stands.ready.firing.room.sources;
+      given = λ layer. elim (cases_lt layer c.args._from) [ inl lt ↦ stands.given layer lt | inr ge ↦ given_at_default p layer s w.sources (c.requires.default layer ge) ];
+    } in
     search rules
 
 waiting : (g : Over) (c : In_ok-ready g) → AreWaiting c.args.self.now.firing.work.counters c.args.self.now.rules.items c.args.self.now.next c.in_ok-ready.ready
@@ -67,14 +71,23 @@ returns-clause-stands g c =
     let w = c.args.self.now in
     let stands = c.requires.stands in
     let layer = layer_at w.rules.items c.in_ok-ready.ready in
-    let settles : SettlesLayer p layer c.args.state.now c.settle_layer-self.new.state = rw c.as_slice-rules.ensures.value at c.settle_layer-self.ensures.settles in
+    let layered = stands.ready.firing.counted.layered in
+    let s = c.args.state.now in
+    let s' = c.settle_layer-self.new.state in
+    let sources = c.settle_layer-self.new.self.work.sources in
+    let settles : SettlesLayer p layer s s' = rw c.as_slice-rules.ensures.value at c.settle_layer-self.ensures.settles in
     let span : IsLayerSpan w.rules.items c.in_ok-ready.ready layer c.settle_layer-self.result = rw c.as_slice-rules.ensures.value at c.settle_layer-self.ensures.end in
     rw c.as_slice-rules.ensures.value record {
       ready = record { variables = stands.ready.variables; rules = stands.ready.rules; firing = c.settle_layer-self.ensures.prepared };
       stands = stands_behind p w.rules.items c.args._from w.next stands.ready.rules stands.stands c.args.state.now w.firing.work.counters stands.ready.firing.counted.layered stands.counts
           c.in_ok-ready.ready c.in_ok-ready.ensures.some.0 (within g at) (waiting g at) (is_ready g at) c.settle_layer-self.result span;
-      given = given_to_next p layer c.args.state.now c.settle_layer-self.new.state w.firing.work.sources c.settle_layer-self.new.self.work.sources
-          stands.ready.firing.counted.layered settles.off (rw c.as_slice-rules.ensures.value at c.settle_layer-self.ensures.sources) (rw c.as_slice-rules.ensures.value at c.settle_layer-self.ensures.given) stands.given c.requires.default;
+      given = λ below lt. elim (cases_eq below layer) [
+        | inl e ↦ subst (λ n. AreGiven p n s' sources) (sym e) (rw c.as_slice-rules.ensures.value at c.settle_layer-self.ensures.given)
+        | inr ne ↦ elim (cases_lt below c.args._from) [
+          | inl early ↦ given_off p layer below s s' w.firing.work.sources sources layered settles.off (rw c.as_slice-rules.ensures.value at c.settle_layer-self.ensures.sources) (omega arith) (stands.given below early)
+          | inr late ↦ given_at_default p below s' sources (default_off p layer s s' layered settles.off below ne (c.requires.default below late))
+        ]
+      ];
       counts = c.settle_layer-self.ensures.counts;
     }
 

@@ -1,23 +1,19 @@
 -- A state that was updated is settled.
-use Rattle.sas_axioms.proofs.Imports.{rules, ◌≡◌, ℕ, length, ap, arith, is_some, rule_at, covers_gone, covers_any, IsFollowed, IsRuleOn}
-use Rattle.sas_axioms.proofs.GoneSteps.{idle_followed, idle_settles}
+use Rattle.sas_axioms.proofs.Imports.{rules, ◌≡◌, ℕ, length, ap, arith, is_some, IsOnLayer, covers_gone, covers_any, IsFollowed}
+use Rattle.sas_axioms.proofs.GoneSteps.{idle_followed}
 use Rattle.sas_axioms.proofs.worklist.WorklistSettle.settle_on.Goals as goal
 use Rattle.sas_axioms.proofs.worklist.WorklistSettle.settle_on.Given.{Over}
 use Rattle.sas_axioms.proofs.worklist.WorklistSettle.settle_on.Goals.{Then-is_empty}
 
-no_rule : (g : Over) (c : Then-is_empty g) (layer rule : ℕ) → IsRuleOn c.args.layered.now layer rule → ⊥
-no_rule g c layer rule is =
+no_layer : (g : Over) (c : Then-is_empty g) (layer v : ℕ) → IsOnLayer c.args.layered.now layer v → ⊥
+no_layer g c layer v on =
     let none : length c.args.self.now.derived.items ≡ 0 = search rules in
-    let there = c.requires.ready.variables.each (rule_at c.args.layered.now rule).var (ap is_some is.on) in
+    let there = c.requires.ready.variables.each v (ap is_some on) in
     absurd (omega (arith, there.1))
 
 pub returns-then-is_empty-clause-follows : goal.returns-then-is_empty-clause-follows
 returns-then-is_empty-clause-follows g c =
-    idle_followed c.args.layered.now c.args.gone.now c.requires.follows.0 c.args.state.now c.args.self.now.firing.work (no_rule g c) c.requires.state c.requires.follows.1 c.requires.follows.2
-
-pub returns-then-is_empty-clause-settles : goal.returns-then-is_empty-clause-settles
-returns-then-is_empty-clause-settles g c =
-    idle_settles c.args.layered.now c.args.gone.now c.requires.follows.0 c.args.state.now c.args.self.now.firing.work (no_rule g c) c.requires.state c.requires.follows.1 c.requires.follows.2
+    idle_followed c.args.layered.now c.requires.follows.0 c.args.state.now c.args.self.now.firing.work (no_layer g c) c.requires.state c.requires.follows.1
 
 pub returns-else-is_err-clause-settles : goal.returns-else-is_err-clause-settles
 returns-else-is_err-clause-settles g c =
