@@ -58,7 +58,7 @@ pub use Rattle.sas_meaning.specs.Steps.{preconditions, Step, Fires, Agree, old_f
 pub use Rattle.sas_meaning.specs.declared.changed_variables.ChangedVariables.{ChangedVariables}
 pub use Rattle.sas_run.specs.ByNumbers.{OperatorsLead, GoThrough, GoesThrough, IsValidByNumbers}
 pub use Rattle.sas_run.specs.Chains.{AreChains, AreFound, HaveChains, IsChain, has_none}
-pub use Rattle.sas_run.specs.Choosers.{AreLowest, IsNumberChoice, Makes, EndsSteps}
+pub use Rattle.sas_run.specs.Choosers.{AreLowest, IsNumberChoice, Makes, MeansByName, EndsSteps}
 pub use Rattle.sas_run.specs.Deletions.{DeletedHasRoom, NotesOn}
 pub use Rattle.sas_run.specs.Executions.{Executed, next_name, next_operator, Executes, IsFound, Advances, executed_of, IsExecuting}
 pub use Rattle.sas_run.specs.Given.{given_to, Replaces, value_after, NothingGiven, IsGiven, IsGivenTo, GivesValue, GivesOther}

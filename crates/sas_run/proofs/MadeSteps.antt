@@ -1,12 +1,12 @@
 -- The steps of a plan were made, by names or by numbers.
-use Rattle.sas_run.proofs.Imports.{◌≡◌, ℕ, ◌+◌, ◌<◌, ◌≤◌, List, [], length, take, get_or, Option, None, Some, refl, sym, ◌∙◌, subst, arith, take_all, length-take-le, get_or-take, same_lists, get_or_default, Parts, operator_at, PlanParts, PlanFault, NoOperator, IsChosen, LeadsTo, AreFirsts, IsChoice, StepFailsBy, IsFinalVerdict, IsEnding, GoesThrough, IsValidByNumbers, IsNumberChoice, Makes, EndsSteps, IsStuck, IsMissed}
+use Rattle.sas_run.proofs.Imports.{◌≡◌, ℕ, ◌+◌, ◌<◌, ◌≤◌, List, [], length, take, get_or, Option, None, Some, refl, sym, ◌∙◌, subst, arith, take_all, length-take-le, get_or-take, same_lists, get_or_default, Parts, operator_at, PlanParts, PlanFault, NoOperator, IsChosen, LeadsTo, AreFirsts, IsChoice, StepFailsBy, IsFinalVerdict, IsEnding, GoesThrough, IsValidByNumbers, IsNumberChoice, Makes, MeansByName, EndsSteps, IsStuck, IsMissed}
 use Rattle.sas_run.proofs.Endings.{stops_there, judged_there}
 use Rattle.sas_run.proofs.GoingByNumbers.{goes_front, leads_by_numbers}
 
 -- ---- by names, of which these are the lowest operators
 
 module _ (p : Parts) (plan : PlanParts) (lowest : List ℕ) (firsts : AreFirsts p plan.steps lowest) (operators s : List ℕ)
-    (makes : Makes p (λ step there. IsChoice p there (operator_at p (get_or lowest step 0)).name) operators s) where
+    (makes : Makes p (MeansByName p lowest) operators s) where
   name_of : (step : ℕ) → step < length lowest → (operator_at p (get_or lowest step 0)).name ≡ get_or plan.steps step []
   name_of step lt = (firsts.each step lt).of_name.named
 
@@ -23,7 +23,7 @@ module _ (p : Parts) (plan : PlanParts) (lowest : List ℕ) (firsts : AreFirsts 
         makes.through
 
   -- one of them fails
-  pub stops_by_name : (fault : PlanFault) → EndsSteps p (λ step there. IsChoice p there (operator_at p (get_or lowest step 0)).name) (length lowest) operators s (Some fault)
+  pub stops_by_name : (fault : PlanFault) → EndsSteps p (MeansByName p lowest) (length lowest) operators s (Some fault)
       → IsEnding p plan operators (Some fault)
   stops_by_name fault (lt, fails) =
       stops_there p plan made (omega (arith, firsts.within, lt)) operators s (leads (omega (arith, lt))) fault

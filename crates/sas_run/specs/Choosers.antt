@@ -2,16 +2,14 @@
 use Rattle.std.specs.Prelude.{◌≡◌, ⊤, ℕ, ◌+◌, ◌<◌, List, length, take, slice_index, Option, Some, None}
 use Rattle.sas_core.specs.declared.parts.Parts.{Parts}
 use Rattle.sas_core.specs.Grounded.{operator_at}
-use Rattle.sas_run.specs.declared.long_chains.LongChains.{LongChains}
 use Rattle.sas_run.specs.declared.plan_check.PlanFault.{PlanFault}
 use Rattle.sas_run.specs.declared.runner.Choice.{Choice}
 use Rattle.sas_run.specs.declared.runner.Choice.TheVariants.{Unknown, Blocked, Found}
 use Rattle.sas_run.specs.ByNumbers.{GoesThrough}
 use Rattle.sas_run.specs.Chains.{HaveChains}
-use Rattle.sas_run.specs.LongChains.{AreLongChains}
 use Rattle.sas_run.specs.Names.{IsFirst}
 use Rattle.sas_run.specs.Plans.{IsApplicable}
-use Rattle.sas_run.specs.Running.{StepFailsBy}
+use Rattle.sas_run.specs.Running.{IsChoice, StepFailsBy}
 
 -- an operator that is chosen exists and is applicable
 abbrev pub IsPossible : Parts → List ℕ → Choice → Type 0
@@ -28,13 +26,14 @@ IsNumberChoice p s number (Found operator) = (operator ≡ number)
     × (number < length p.operators)
     × IsApplicable s (operator_at p number)
 
--- each of these operators is the lowest of its name, the list has the later ones of this name, and
--- the long chains are grouped
-pub record AreLowest (p : Parts) (firsts : List ℕ) (nexts : List (Option ℕ))
-    (grouped : LongChains) : Type 0 where
+-- a step means what the name of its operator means, of which these are the lowest
+abbrev pub MeansByName : Parts → List ℕ → ℕ → List ℕ → Choice → Type 0
+MeansByName p firsts step s = IsChoice p s (operator_at p (slice_index firsts step)).name
+
+-- each of these operators is the lowest of its name, and the list has the later ones of this name
+pub record AreLowest (p : Parts) (firsts : List ℕ) (nexts : List (Option ℕ)) : Type 0 where
   pub lowest : (step : ℕ) → step < length firsts → IsFirst p (slice_index firsts step)
   pub chains : HaveChains p firsts nexts
-  pub long : AreLongChains p grouped
 
 -- `Means` holds for what a step, by its number from 0, means in a state.
 module _ (p : Parts) (Means : ℕ → List ℕ → Choice → Type 0) where

@@ -1,11 +1,10 @@
 // What the steps of a plan mean: by their names, or by numbers.
 ghost use Rattle.std.specs.Prelude.{⊤, length, slice_index};
-ghost use Rattle.sas_core.specs.Grounded.{operator_at};
-ghost use Rattle.sas_run.specs.Choosers.{AreLowest, IsNumberChoice};
-ghost use Rattle.sas_run.specs.Running.{IsChoice};
+ghost use Rattle.sas_run.specs.Choosers.{AreLowest, IsNumberChoice, MeansByName};
+ghost use Rattle.sas_run.specs.LongChains.{AreLongChains};
 
-use crate::runner::{Choice, is_applicable};
-use crate::step_operators::PlanOperators;
+use crate::runner::{Choice, first_applicable, is_applicable};
+use crate::step_operators::{NameChains, PlanOperators};
 use sas_core::Grounded;
 use sas_meaning::{Layered, State};
 
@@ -40,13 +39,12 @@ pub trait Chooser<T: Grounded> {
 }
 
 /// By name: a step means the lowest applicable operator of its name.
-impl<'f, T: Grounded> Chooser<T> for PlanOperators<'f> {
-    ghost ready = { λ found p. AreLowest p found.firsts.now found.nexts.now found.long.now };
+impl<'f, T: Grounded> Chooser<T> for NameChains<'f> {
+    ghost ready = { λ found p. AreLowest p found.firsts.now found.nexts.now };
 
     ghost count = { λ found. length found.firsts.now };
 
-    ghost means = { λ found p step s.
-        IsChoice p s (operator_at p (slice_index found.firsts.now step)).name };
+    ghost means = { λ found p. MeansByName p found.firsts.now };
 
     fn steps(&self) -> usize {
         self.firsts.len()
@@ -55,7 +53,30 @@ impl<'f, T: Grounded> Chooser<T> for PlanOperators<'f> {
     #[inline(always)]
     fn choose(&self, task: &Layered<T>, state: &State, step: usize) -> Choice {
         let first = self.firsts[step];
-        match self.first_applicable(task, state, first) {
+        match first_applicable(task, self.nexts, state, first) {
+            Some(operator) => Choice::Found(operator),
+            None => Choice::Blocked,
+        }
+    }
+}
+
+/// By name, too: among the operators of a long chain, only those that may be applicable are tried.
+impl<'f, T: Grounded> Chooser<T> for PlanOperators<'f> {
+    ghost ready = { λ found p. AreLowest p found.chains.firsts.now found.chains.nexts.now
+        × AreLongChains p found.long.now };
+
+    ghost count = { λ found. length found.chains.firsts.now };
+
+    ghost means = { λ found p. MeansByName p found.chains.firsts.now };
+
+    fn steps(&self) -> usize {
+        self.chains.firsts.len()
+    }
+
+    #[inline(always)]
+    fn choose(&self, task: &Layered<T>, state: &State, step: usize) -> Choice {
+        let NameChains { firsts, nexts } = self.chains;
+        match self.long.first_applicable(task, nexts, state, firsts[step]) {
             Some(operator) => Choice::Found(operator),
             None => Choice::Blocked,
         }

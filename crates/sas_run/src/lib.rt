@@ -35,5 +35,5 @@ pub use names::{NamedTask, Names};
 pub use other_senses::other_senses_laws;
 pub use plan_check::{PlanFault, Valid, check_once};
 pub use runner::{Choice, Runner};
-pub use step_operators::{PlanOperators, StepOperators};
+pub use step_operators::{NameChains, PlanOperators, StepOperators};
 pub use steps::StepFault;

@@ -2,6 +2,7 @@
 ghost use Rattle.std.specs.Prelude.{◌≡◌, IfOk};
 
 use crate::Names;
+use crate::long_chains::LongChains;
 use crate::stepper::{Stepper, stepper_for};
 use sas_core::{Grounded, Task};
 use sas_meaning::{Layered, Settle};
@@ -14,6 +15,7 @@ use std::marker::Model;
 pub struct LoadedTask<E: Settle<T> + Drop, T: Grounded + Drop = Task> {
     pub(crate) layered: Layered<T>,
     pub(crate) names: Names,
+    pub(crate) long: LongChains,
     pub(crate) stepper: Stepper<E>,
 }
 
@@ -22,16 +24,19 @@ impl<E: Settle<T> + Drop, T: Grounded + Drop> Drop for LoadedTask<E, T> {
         let LoadedTask {
             layered,
             names,
+            long,
             stepper,
         } = self;
         drop(layered);
         drop(names);
+        drop(long);
         drop(stepper);
     }
 }
 
 impl<E: Settle<T> + Drop, T: Grounded + Drop> Model for LoadedTask<E, T> {
     ghost use Rattle.sas_core.specs.declared.parts.Parts.{Parts};
+    ghost use Rattle.sas_run.specs.LongChains.{AreLongChains};
     ghost use Rattle.sas_run.specs.NameTable.{AreNames};
     ghost use Rattle.sas_run.specs.Stepping.{IsPrepared};
 
@@ -39,7 +44,8 @@ impl<E: Settle<T> + Drop, T: Grounded + Drop> Model for LoadedTask<E, T> {
 
     ghost view = { λ h. h.layered };
 
-    ghost invariant = { λ h. AreNames h.layered h.names × IsPrepared E.ready h.layered h.stepper };
+    ghost invariant = { λ h. AreNames h.layered h.names × AreLongChains h.layered h.long
+        × IsPrepared E.ready h.layered h.stepper };
 }
 
 impl<E: Settle<T> + Drop, T: Grounded + Drop> LoadedTask<E, T> {
@@ -54,12 +60,14 @@ impl<E: Settle<T> + Drop, T: Grounded + Drop> LoadedTask<E, T> {
         ensures { IfOk result (λ h. h ≡ layered) }
     {
         let names = Names::new(alloc, &layered)?;
+        let long = LongChains::of_task(alloc, &layered, &names)?;
         let Ok(stepper) = stepper_for(alloc, &layered, evaluator) else {
             return Err(AllocError);
         };
         Ok(LoadedTask {
             layered,
             names,
+            long,
             stepper,
         })
     }

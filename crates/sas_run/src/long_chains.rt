@@ -1,15 +1,16 @@
 // Long chains: many operators of one name. A state is compared only with those that require its value of one variable, or none of it.
-ghost use Rattle.std.specs.BTreeMap as tree;
-ghost use Rattle.std.specs.Ordering.{nat_cmp};
-ghost use Rattle.std.specs.Prelude.{◌≡◌, ◌<◌, All, length, IfOk, OnOk, IfSome, Some};
+ghost use Rattle.std.specs.Prelude.{◌≡◌, ◌<◌, All, length, IfOk, OnOk, IfSome};
 ghost use Rattle.sas_core.specs.declared.parts.Parts.{Parts};
 ghost use Rattle.sas_core.specs.Grounded.{operator_at};
 ghost use Rattle.sas_core.specs.Variables.{IsState};
 ghost use Rattle.sas_run.specs.Chains.{IsChain, HaveChains};
 ghost use Rattle.sas_run.specs.LongChains.{AreAll, AreLongChains, HaveValues, IsFirstAmong, IsLongChain, RequiresValue};
+ghost use Rattle.sas_run.specs.NameTable.{AreNames};
+ghost use Rattle.sas_run.specs.Running.{IsFirstChosen};
 
+use crate::Names;
 use crate::chains::next_in;
-use crate::runner::is_applicable;
+use crate::runner::{first_applicable, is_applicable};
 use crate::value_groups::ValueGroups;
 use sas_core::{Fact, Grounded};
 use sas_meaning::{Layered, Preconditions, State};
@@ -111,6 +112,29 @@ impl LongChains {
         Ok(long)
     }
 
+    /// Groups the long chains of the task, whose operators have these names.
+    pub fn of_task<T: Grounded>(
+        alloc: Global,
+        layered: &Layered<T>,
+        names: &Names,
+    ) -> Result<LongChains, AllocError>
+        requires { AreNames layered.now names.now }
+        ensures { IfOk result (AreLongChains layered.now) }
+    {
+        let mut long = LongChains::none(alloc);
+        if layered.task().variables() == 0 {
+            return Ok(long);
+        }
+        for first in 0..layered.operators() {
+            if is_long(names.next(), first)
+                && names.first(layered, layered.name(first)) == Some(first)
+            {
+                long.add(alloc, layered, first, names.next())?;
+            }
+        }
+        Ok(long)
+    }
+
     /// Groups the chain that begins with this operator, if it is long.
     fn add<T: Grounded>(
         &mut self,
@@ -139,11 +163,26 @@ impl LongChains {
         self.chains.is_empty()
     }
 
-    /// Returns the long chain that begins with this operator, if there is one.
-    pub fn get(&self, first: u32) -> Option<&LongChain>
-        ensures { IfSome result (λ chain. tree.get nat_cmp self.now.chains first ≡ Some chain.now) }
+    /// Returns the first applicable operator, among this one and the later ones of the same name. `nexts` has, for each of them, the next
+    /// one.
+    #[inline(never)]
+    pub fn first_applicable<T: Grounded>(
+        &self,
+        task: &Layered<T>,
+        nexts: &[Option<u32>],
+        state: &State,
+        first: u32,
+    ) -> Option<u32>
+        requires long { AreLongChains task.now self.now }
+        requires chain { IsChain task.now first nexts.now }
+        requires first { first < length task.now.operators }
+        requires state { IsState task.now.variables state.now }
+        ensures { IsFirstChosen task.now state.now first result }
     {
-        self.chains.get(&first)
+        match self.chains.get(&first) {
+            Some(chain) => chain.first_applicable(task, state),
+            None => first_applicable(task, nexts, state, first),
+        }
     }
 }
 

@@ -6,7 +6,7 @@ ghost use Rattle.sas_meaning.specs.InitialStates.{IsInitial};
 ghost use Rattle.sas_meaning.specs.Steps.{Step};
 ghost use Rattle.sas_run.specs.ByNumbers.{IsValidByNumbers};
 ghost use Rattle.sas_run.specs.Chains.{AreStepOperators};
-ghost use Rattle.sas_run.specs.Choosers.{Makes, EndsSteps};
+ghost use Rattle.sas_run.specs.Choosers.{AreLowest, Makes, MeansByName, EndsSteps};
 ghost use Rattle.sas_run.specs.LongChains.{AreLongChains};
 ghost use Rattle.sas_run.specs.NumberFaults.{IsNumberFaultOrMemory};
 ghost use Rattle.sas_run.specs.Running.{IsSolution, IsFaultOrMemory, StepFailsBy};
@@ -15,11 +15,10 @@ ghost use Rattle.sas_run.specs.Stepping.{Follows, IsPrepared};
 
 use crate::choosers::{Chooser, NumberedPlan};
 use crate::loaded_task::LoadedTask;
-use crate::long_chains::LongChains;
 use crate::progress::{Progress, judge_last};
 use crate::runner::{Choice, Runner};
 use crate::stepper::{Stepper, go_on_from, stepper_for};
-use crate::{NamedTask, PlanOperators, StepOperators, first_operators};
+use crate::{NameChains, NamedTask, PlanOperators, StepOperators, first_operators};
 use sas_core::{Grounded, Stepwise};
 use sas_meaning::{Layered, Settle, State};
 use std::alloc::{AllocError, Global};
@@ -71,10 +70,13 @@ impl<'a, E: Settle<T> + Drop, T: Grounded> Runner<'a, E, T> {
             names: &self.names,
         };
         let firsts = first_operators(alloc, &named, plan)?;
-        let found = PlanOperators {
+        let chains = NameChains {
             firsts: firsts.as_slice(),
             nexts: self.names.next(),
-            long: &LongChains::none(alloc),
+        };
+        let found = PlanOperators {
+            chains,
+            long: &self.long,
         };
         check_found(alloc, self.layered, &mut self.stepper, plan, found)
     }
@@ -92,10 +94,13 @@ impl<E: Settle<T> + Drop, T: Grounded + Drop> LoadedTask<E, T> {
             names: &self.names,
         };
         let firsts = first_operators(alloc, &named, plan)?;
-        let found = PlanOperators {
+        let chains = NameChains {
             firsts: firsts.as_slice(),
             nexts: self.names.next(),
-            long: &LongChains::none(alloc),
+        };
+        let found = PlanOperators {
+            chains,
+            long: &self.long,
         };
         check_found(alloc, &self.layered, &mut self.stepper, plan, found)
     }
@@ -143,7 +148,7 @@ fn check_found<E: Settle<T> + Drop, T: Grounded, P: Stepwise>(
 ) -> Result<Valid, PlanFault>
     requires prepared { IsPrepared E.ready layered.now stepper.old }
     requires found { AreStepOperators layered.now (P.says plan.now).steps
-        found.firsts.now found.nexts.now }
+        found.chains.firsts.now found.chains.nexts.now }
     requires long { AreLongChains layered.now found.long.now }
     ensures prepared { IsPrepared E.ready layered.now stepper.new }
     ensures valid { IfOk result (IsSolution layered.now (P.says plan.now)) }
@@ -172,7 +177,7 @@ pub fn find_fault<E: Settle<T> + Drop, T: Grounded, P: Stepwise>(
     requires prepared { IsPrepared E.ready layered.now stepper.old }
     requires follows { Follows E.follows layered.now stepper.old progress.old.state }
     requires found { AreStepOperators layered.now (P.says plan.now).steps
-        found.firsts.now found.nexts.now }
+        found.chains.firsts.now found.chains.nexts.now }
     requires long { AreLongChains layered.now found.long.now }
     requires initial { IsInitial layered.now progress.old.state }
     requires room { length (P.says plan.now).steps ≤ vec_capacity progress.old.operators }
@@ -183,15 +188,44 @@ pub fn find_fault<E: Settle<T> + Drop, T: Grounded, P: Stepwise>(
     ensures state { IsState layered.now.variables progress.new.state }
     ensures room { vec_capacity progress.old.operators ≤ vec_capacity progress.new.operators }
 {
-    if let Some(fault) = make_steps(layered, stepper, &found, progress) {
+    if let Some(fault) = make_named_steps(layered, stepper, &found, progress) {
         return Some(fault);
     }
-    if found.firsts.len() < plan.steps() {
-        return Some(PlanFault::NoOperator {
-            step: found.firsts.len() + 1,
-        });
+    let known = found.chains.firsts.len();
+    if known < plan.steps() {
+        return Some(PlanFault::NoOperator { step: known + 1 });
     }
     judge_last(layered, progress, plan.cost())
+}
+
+/// Makes the steps by name, like `make_steps`. If there are no long chains, the loop over the steps doesn't look for one.
+fn make_named_steps<E: Settle<T> + Drop, T: Grounded>(
+    layered: &Layered<T>,
+    stepper: &mut Stepper<E>,
+    found: &PlanOperators<'_>,
+    progress: &mut Progress,
+) -> Option<PlanFault>
+    requires prepared { IsPrepared E.ready layered.now stepper.old }
+    requires follows { Follows E.follows layered.now stepper.old progress.old.state }
+    requires lowest { AreLowest layered.now found.now.chains.firsts.now found.now.chains.nexts.now }
+    requires long { AreLongChains layered.now found.now.long.now }
+    requires initial { IsInitial layered.now progress.old.state }
+    requires room { length found.now.chains.firsts.now ≤ vec_capacity progress.old.operators }
+    requires empty { progress.old.operators.items ≡ [] }
+    ensures prepared { IsPrepared E.ready layered.now stepper.new }
+    ensures noted { stepper.new.deleted.noted ≡ stepper.old.deleted.noted }
+    ensures makes { Makes layered.now (MeansByName layered.now found.now.chains.firsts.now)
+        progress.new.operators.items progress.new.state }
+    ensures ends { EndsSteps layered.now (MeansByName layered.now found.now.chains.firsts.now)
+        (length found.now.chains.firsts.now) progress.new.operators.items progress.new.state result }
+    ensures state { IsState layered.now.variables progress.new.state }
+    ensures room { vec_capacity progress.old.operators ≤ vec_capacity progress.new.operators }
+{
+    if found.long.is_empty() {
+        make_steps(layered, stepper, &found.chains, progress)
+    } else {
+        make_steps(layered, stepper, found, progress)
+    }
 }
 
 /// Checks whether these operators are a valid plan. All memory is allocated before the first step.
@@ -219,7 +253,9 @@ fn check_numbers<E: Settle<T> + Drop, T: Grounded>(
 }
 
 /// Makes the steps that the chooser chooses operators for, from the initial state, up to the first that fails. Returns its fault, or `None`
-/// if all succeed. Adds their operators to `progress`, which must have room for them.
+/// if all succeed. Adds their operators to `progress`, which must have room for them. It isn't inlined, so that the loop of each chooser has
+/// all registers.
+#[inline(never)]
 fn make_steps<E: Settle<T> + Drop, T: Grounded, C: Chooser<T>>(
     layered: &Layered<T>,
     stepper: &mut Stepper<E>,

@@ -7,6 +7,7 @@ ghost use Rattle.sas_run.specs.Chains.{IsChain};
 ghost use Rattle.sas_run.specs.Plans.{IsApplicable};
 ghost use Rattle.sas_run.specs.Running.{IsChoice, IsFirstChosen, IsLaterIfAny, IsGoalAnswer, Steps};
 
+use crate::long_chains::LongChains;
 use crate::plain_steps::old_values_hold;
 use crate::progress::first_missed;
 use crate::stepper::{Stepper, initial_of, step_on, stepper_for};
@@ -32,6 +33,7 @@ pub enum Choice {
 pub struct Runner<'a, E: Settle<T> + Drop, T: Grounded = Task> {
     pub(crate) layered: &'a Layered<T>,
     pub(crate) names: Names,
+    pub(crate) long: LongChains,
     pub(crate) stepper: Stepper<E>,
 }
 
@@ -40,15 +42,18 @@ impl<'a, E: Settle<T> + Drop, T: Grounded> Drop for Runner<'a, E, T> {
         let Runner {
             layered: _,
             names,
+            long,
             stepper,
         } = self;
         drop(names);
+        drop(long);
         drop(stepper);
     }
 }
 
 impl<'a, E: Settle<T> + Drop, T: Grounded> Model for Runner<'a, E, T> {
     ghost use Rattle.sas_core.specs.declared.parts.Parts.{Parts};
+    ghost use Rattle.sas_run.specs.LongChains.{AreLongChains};
     ghost use Rattle.sas_run.specs.NameTable.{AreNames};
     ghost use Rattle.sas_run.specs.Stepping.{IsPrepared};
 
@@ -56,7 +61,7 @@ impl<'a, E: Settle<T> + Drop, T: Grounded> Model for Runner<'a, E, T> {
 
     ghost view = { λ r. r.layered.now };
 
-    ghost invariant = { λ r. AreNames r.layered.now r.names
+    ghost invariant = { λ r. AreNames r.layered.now r.names × AreLongChains r.layered.now r.long
         × IsPrepared E.ready r.layered.now r.stepper };
 }
 
@@ -76,9 +81,14 @@ impl<'a, E: Settle<T> + Drop, T: Grounded> Runner<'a, E, T> {
             Ok(names) => names,
             Err(error) => return Err((evaluator, error)),
         };
+        let long = match LongChains::of_task(alloc, layered, &names) {
+            Ok(long) => long,
+            Err(error) => return Err((evaluator, error)),
+        };
         Ok(Runner {
             layered,
             names,
+            long,
             stepper: stepper_for(alloc, layered, evaluator)?,
         })
     }
@@ -108,7 +118,7 @@ impl<'a, E: Settle<T> + Drop, T: Grounded> Runner<'a, E, T> {
         let Some(first) = self.names.first(self.layered, name) else {
             return Choice::Unknown;
         };
-        match first_applicable(self.layered, self.names.next(), state, first) {
+        match self.long.first_applicable(self.layered, self.names.next(), state, first) {
             Some(operator) => Choice::Found(operator),
             None => Choice::Blocked,
         }

@@ -1,19 +1,16 @@
 // The operators whose names occur in one plan.
-ghost use Rattle.std.specs.Prelude.{◌≡◌, ◌<◌, length, IfOk, IsTrue};
-ghost use Rattle.sas_core.specs.Variables.{IsState};
-ghost use Rattle.sas_run.specs.Chains.{AreStepOperators, IsChain};
+ghost use Rattle.std.specs.Prelude.{◌≡◌, IfOk, IsTrue};
+ghost use Rattle.sas_run.specs.Chains.{AreStepOperators};
 ghost use Rattle.sas_run.specs.LongChains.{AreLongChains};
 ghost use Rattle.sas_run.specs.Nameless.{nameless_steps};
-ghost use Rattle.sas_run.specs.Running.{IsFirstChosen};
 
 use crate::chains::Chains;
 use crate::long_chains::LongChains;
 use crate::looking_up::{count_nameless, first_operators};
 use crate::names::{NamedTask, Names};
-use crate::runner::first_applicable;
 use crate::step_names::StepNames;
 use sas_core::{Grounded, Stepwise};
-use sas_meaning::{Layered, State};
+use sas_meaning::Layered;
 use std::alloc::{AllocError, Global};
 
 /// The operators whose names occur in one plan.
@@ -42,58 +39,21 @@ impl Drop for StepOperators {
     }
 }
 
-/// The operators whose names occur in one plan, borrowed.
+/// The operators of the names of a plan's steps, borrowed.
 #[derive(Clone, Copy)]
-pub struct PlanOperators<'f> {
+pub struct NameChains<'f> {
     /// The lowest operator of each step's name, up to the first name that no operator has.
     pub firsts: &'f [u32],
     /// The next operator of the same name, for each operator of one of these names.
     pub nexts: &'f [Option<u32>],
-    /// The long chains of operators of one name.
-    pub long: &'f LongChains,
 }
 
-impl<'f> PlanOperators<'f> {
-    /// `first_applicable` where there are long chains. It isn't inlined, so that a step without them stays short.
-    #[inline(never)]
-    fn first_among_long<T: Grounded>(
-        &self,
-        task: &Layered<T>,
-        state: &State,
-        first: u32,
-    ) -> Option<u32>
-        requires chain { IsChain task.now first self.now.nexts.now }
-        requires long { AreLongChains task.now self.now.long.now }
-        requires first { first < length task.now.operators }
-        requires state { IsState task.now.variables state.now }
-        ensures { IsFirstChosen task.now state.now first result }
-    {
-        match self.long.get(first) {
-            Some(chain) => chain.first_applicable(task, state),
-            None => first_applicable(task, self.nexts, state, first),
-        }
-    }
-
-    /// Returns the first applicable operator, among this one and the later ones of the same name.
-    #[inline(always)]
-    pub fn first_applicable<T: Grounded>(
-        &self,
-        task: &Layered<T>,
-        state: &State,
-        first: u32,
-    ) -> Option<u32>
-        requires chain { IsChain task.now first self.now.nexts.now }
-        requires long { AreLongChains task.now self.now.long.now }
-        requires first { first < length task.now.operators }
-        requires state { IsState task.now.variables state.now }
-        ensures { IsFirstChosen task.now state.now first result }
-    {
-        if self.long.is_empty() {
-            first_applicable(task, self.nexts, state, first)
-        } else {
-            self.first_among_long(task, state, first)
-        }
-    }
+/// The operators whose names occur in one plan, borrowed.
+#[derive(Clone, Copy)]
+pub struct PlanOperators<'f> {
+    pub chains: NameChains<'f>,
+    /// The long chains of operators of one name.
+    pub long: &'f LongChains,
 }
 
 impl StepOperators {
@@ -177,13 +137,15 @@ impl StepOperators {
 
     /// Returns the lists and the long chains, borrowed.
     pub fn found(&self) -> PlanOperators<'_>
-        ensures firsts { result.firsts.now ≡ self.now.firsts.items }
-        ensures nexts { result.nexts.now ≡ self.now.next.items }
+        ensures firsts { result.chains.firsts.now ≡ self.now.firsts.items }
+        ensures nexts { result.chains.nexts.now ≡ self.now.next.items }
         ensures long { result.long.now ≡ self.now.long }
     {
         PlanOperators {
-            firsts: self.firsts.as_slice(),
-            nexts: self.next.as_slice(),
+            chains: NameChains {
+                firsts: self.firsts.as_slice(),
+                nexts: self.next.as_slice(),
+            },
             long: &self.long,
         }
     }
