@@ -66,7 +66,4 @@ module _ (p : Parts) (place : ℕ) (within : place < length p.rules) where
       }
 
   pub other_reported : agrees_with p (take place p.rules) rule ≡ false → (other : ℕ) × IsReportedOther p place other
-  other_reported disagrees = elim (cases_lt lowest place) [
-    | inl before ↦ (lowest, is_reported before)
-    | inr past ↦ absurd (let agree = all_agree past in let apart : true ≡ false = sym agree ∙ disagrees in cc)
-  ]
+  other_reported disagrees = grind (arith, common_steps, cases_lt, is_reported, all_agree)
