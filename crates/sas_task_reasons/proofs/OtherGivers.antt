@@ -1,6 +1,6 @@
 -- The other giver of a rule's variable, where a rule before it has another new value.
 use Rattle.std.proofs.lemmas.Grind.{common_steps}
-use Rattle.sas_task_reasons.proofs.Imports.{◌≡◌, ◌≢◌, ℕ, ◌<◌, ◌≤◌, ◌==◌, Bool, true, false, cond, [], length, take, sym, ap, ◌∙◌, inl, inr, arith, eqb-true, eq-eqb, Some, None, ◌&&◌, not, position_or_len, lt-ltb, cases_lt, fails_before_first, passes_at_first, Effect, Parts, rule_at, CanFire, can_fire, agrees_with, fires, agrees_with_earlier, IsOtherGiver, IsReportedOther}
+use Rattle.sas_task_reasons.proofs.Imports.{◌≡◌, ◌≢◌, ℕ, ◌<◌, ◌≤◌, ◌==◌, Bool, true, false, cond, [], length, take, sym, ap, ◌∙◌, arith, eqb-true, eq-eqb, Some, None, ◌&&◌, not, position_or_len, lt-ltb, cases_lt, fails_before_first, passes_at_first, Effect, Parts, rule_at, CanFire, can_fire, agrees_with, fires, agrees_with_earlier, IsOtherGiver, IsReportedOther}
 
 abbrev none : Effect
 none = record { conditions = []; var = 0; old = None; new = 0 }

@@ -1,7 +1,7 @@
 -- The reason of each group that contains the fact set by the effect considers the effect: the notes
 -- decide, the effect never fires, or the reason isn't missing.
 use Rattle.std.proofs.lemmas.Grind.{common_steps}
-use Rattle.sas_task_reasons.proofs.Imports.{ℕ, ◌+◌, Bool, List, Option, length, ap, subst, sym, ◌∙◌, arith, Contains-get_or, All-contains, IsNotedAt, NeverFires, EffectPlace, verdict_at, clash_never_fires, GreatestFamily, Reason, reason_at, IsReasonSoFar, LacksReason}
+use Rattle.sas_task_reasons.proofs.Imports.{ℕ, ◌+◌, Bool, List, Option, length, ap, subst, sym, ◌∙◌, arith, Contains-get_or, All-contains, IsNotedAt, NeverFires, EffectPlace, verdict_at, clash_never_fires, Reason, reason_at, IsReasonSoFar, LacksReason}
 use Rattle.sas_task_reasons.proofs.ReasonsSoFar.{next_effect, not_lacking, pending_more}
 use Rattle.sas_task_reasons.proofs.broken.report_failures_at.Goals as goal
 use Rattle.sas_task_reasons.proofs.broken.report_failures_at.Goals.{then-not-note, else-not-note}

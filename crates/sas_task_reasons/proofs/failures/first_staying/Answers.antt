@@ -1,6 +1,6 @@
 -- One more fact, which can't remain or may.
 use Rattle.std.proofs.lemmas.Grind.{common_steps}
-use Rattle.sas_task_reasons.proofs.Imports.{iff_not, ◌≡◌, ◌<◌, List, length, get_or, sym, ap, subst, ◌∙◌, arith, All, Contains, Fact, group_at, FactExists, each_more, EffectPlace, group_facts, IsGoneAt}
+use Rattle.sas_task_reasons.proofs.Imports.{iff_not, ◌≡◌, List, sym, ap, subst, ◌∙◌, arith, Contains, Fact, group_at, each_more, EffectPlace, group_facts, IsGoneAt}
 use Rattle.sas_task_reasons.proofs.FirstOfEffect.{none_stays, one_stays}
 use Rattle.sas_task_reasons.proofs.failures.first_staying.Goals as goal
 
