@@ -1,21 +1,17 @@
 -- The answer about a plan with its trace: there is one, it ends with the answer about the plan, and the costs add up.
-use Rattle.sas_plan_reasons.proofs.Imports.{◌≡◌, ℕ, List, ◌++◌, Some, refl, sym, ◌∙◌, ap, subst, inl, inr, same_Some, Parts, PlanParts, text, IsLayered, PlanFault, Memory, NoOperator, NotApplicable, Conflict, GoalMissed, CostDiffers, IsValid, IsFaultOf, some_verdict, valid_has_no_fault, fault_is_one, Status, Yes, No, Output, valid_answer, invalid_answer, fault_words, run_lines, EndsWith, TraceVerdict, EndsWithVerdict, CostsAddUp, SomeTrace, OneTrace, invalid_line, Run, StepsSucceed, steps_before, worded, some_run, one_run, to_fault}
+use Rattle.std.proofs.lemmas.Grind.{common_steps}
+use Rattle.std.proofs.Common.{arith}
+use Rattle.sas_plan_reasons.proofs.Imports.{VerdictAnswer, WellRanged, cost_of, sum_by, ◌≡◌, ℕ, List, ◌++◌, Some, refl, sym, ◌∙◌, ap, subst, inl, inr, same_Some, Parts, PlanParts, text, IsLayered, PlanFault, Memory, NoOperator, NotApplicable, Conflict, GoalMissed, CostDiffers, IsValid, IsFaultOf, some_verdict, valid_has_no_fault, fault_is_one, Status, Yes, Output, valid_answer, invalid_answer, run_lines, EndsWith, TraceVerdict, Run, StepsSucceed, steps_before, worded, some_run, one_run, to_fault}
 
-pub ends_with_verdict : EndsWithVerdict
-ends_with_verdict p plan output trace = elim trace.ends [
-  | inl w ↦ (trace.verdict, inl ((trace.run.operators, w.0.0), w.1), text (run_lines p trace.run), trace.whole, trace.status)
-  | inr w ↦ (trace.verdict, inr (w.0, w.1.0, w.2), text (run_lines p trace.run), trace.whole, trace.status)
-]
+pub ends_with_verdict : (p : Parts) (plan : PlanParts) (output : Output) → TraceVerdict p plan output → (verdict : Output) × VerdictAnswer p plan verdict × (front : List ℕ)
+    × (output.text ≡ front ++ verdict.text) × (output.status ≡ verdict.status)
+ends_with_verdict p plan output trace = grind (arith, common_steps)
 
 -- ---- a plan that isn't valid
 
-pub costs_add_up : CostsAddUp
-costs_add_up p plan output trace accepted = elim trace.ends [
-  | inl w ↦ w.0.0.cost
-  | inr w ↦
-      let no : Yes ≡ No = sym accepted ∙ (trace.status ∙ (worded (fault_words plan.cost w.0) invalid_line trace.verdict w.2).status) in
-      absurd cc
-]
+pub costs_add_up : (p : Parts) (plan : PlanParts) (output : Output) (trace : TraceVerdict p plan output) → output.status ≡ Yes
+    → sum_by (cost_of p) trace.run.operators ≡ plan.cost
+costs_add_up p plan output trace accepted = grind (arith, common_steps, worded)
 
 -- ---- some trace
 
@@ -35,7 +31,7 @@ module _ (p : Parts) (plan : PlanParts) where
   answer_to (CostDiffers sum) f = (_, refl)
   answer_to Memory f = absurd f
 
-pub some_trace : SomeTrace
+pub some_trace : (p : Parts) (plan : PlanParts) → WellRanged p → IsLayered p → (output : Output) × TraceVerdict p plan output
 some_trace p plan ranged layered = elim (some_verdict p plan ranged layered) [
   | inl v ↦
       let valid = v.1 in
@@ -60,7 +56,7 @@ ends_one p plan a b x y layered (inr v) (inr w) =
 abbrev made : List ℕ → Status → Output
 made bytes status = record { text = bytes; status = status }
 
-pub one_trace : OneTrace
+pub one_trace : (p : Parts) (plan : PlanParts) (a b : Output) → IsLayered p → TraceVerdict p plan a → TraceVerdict p plan b → a ≡ b
 one_trace p plan a b layered x y =
     ap (λ (bytes : List ℕ). made bytes a.status) texts ∙ ap (λ (status : Status). made b.text status) statuses
   where

@@ -1,4 +1,5 @@
 -- What is known of a run that was retraced up to a fault.
+use Rattle.std.proofs.lemmas.Grind.{common_steps}
 use Rattle.sas_plan_reasons.proofs.Imports.{◌≡◌, ℕ, ◌-◌, List, [], ◌∷◌, ◌++◌, length, take, Option, None, Some, refl, sym, ◌∙◌, ap, subst, inl, inr, arith, append-nil, take-append_seam, Parts, PlanParts, operator_at, IsState, IsLayered, IsSettled, Agree, Conflict, LeadsTo, ComesTo, IsFaultOf, leads_one_way, Line, Run, last_state, StepsSucceed, leads_to_last, OtherOperator, PlanHistory, IsOtherIfAny, Retraces, IsBehind, ReportsOnce, last_rests, AreCouldBeLines, AreFaultLines, IsWhy}
 use Rattle.sas_answers.specs.declared.line.Line.TheVariants as line
 
@@ -32,16 +33,7 @@ module _ (p : Parts) (plan : PlanParts) (history : PlanHistory) (run : Run) (r :
   is_why lines reported new some none = at history.other refl
     where
       why : (others : List Line) → AreCouldBeLines p run others → new ≡ lines ++ others → IsWhy p plan history.fault new
-      why others may is = record {
-        run = run;
-        went = r.ends.1;
-        through = r.through;
-        reasons = reported.0;
-        are = reported.1;
-        others = others;
-        may = may;
-        whole = is ∙ ap (λ (l : List Line). l ++ others) reported.2;
-      }
+      why others may is = grind (arith, common_steps)
 
       at : (other : Option OtherOperator) → history.other ≡ other → IsWhy p plan history.fault new
       at None e = why [] (inr (subst (IsOtherIfAny p run) e r.other, refl)) (none e ∙ sym (append-nil lines))

@@ -1,7 +1,7 @@
 -- The rules that concern a fact that doesn't hold. A fact has exactly one cause.
 use Rattle.std.proofs.Common.{arith}
 use Rattle.std.proofs.lemmas.Grind.{common_steps}
-use Rattle.sas_plan_reasons.proofs.Imports.{◌≡◌, ℕ, ◌<◌, Bool, true, false, List, [], ◌∷◌, ◌++◌, length, get_or, slice_index, Some, refl, sym, ◌∙◌, ap, subst, inl, inr, ◌==◌, ◌&&◌, find, map, false≢true, and_parts, eqb-true, not-true, eqb-false, eqb_tells, Decides-eqb, Decides-not, All-nil, All-cons, Any-from_list_any, Fact, Effect, Parts, rule_at, Holds, AllHold, IsOnLayer, default_of, CanFire, fails, is_derived, is_given, AreDerivationLines, since_line, missing_lines, IsCause, DefaultIfNotGiven, EachRuleFails, can_fire, IsLayered, new_value_of, differs, IsSettled, hold_or_not, layer_cases, new_value_is, differs_decides, differs_not, can_give, Line, Run, last_state}
+use Rattle.sas_plan_reasons.proofs.Imports.{IsDerived, IsTrue, can_be_given, ◌≡◌, ℕ, ◌<◌, Bool, true, false, List, [], ◌∷◌, ◌++◌, length, get_or, slice_index, Some, refl, sym, ◌∙◌, ap, subst, inl, inr, ◌==◌, ◌&&◌, find, map, false≢true, and_parts, eqb-true, not-true, eqb-false, eqb_tells, Decides-eqb, Decides-not, All-nil, All-cons, Any-from_list_any, Fact, Effect, Parts, rule_at, Holds, AllHold, IsOnLayer, default_of, CanFire, fails, is_derived, is_given, AreDerivationLines, since_line, missing_lines, IsCause, can_fire, IsLayered, new_value_of, differs, IsSettled, hold_or_not, layer_cases, new_value_is, differs_decides, differs_not, can_give, Line, Run, last_state}
 use Rattle.sas_answers.specs.declared.line.Line.TheVariants as line
 use Rattle.sas_plan_reasons.proofs.Derivation.{value_is}
 use Rattle.sas_plan_reasons.proofs.Derivations.{some_derivation}
@@ -12,7 +12,8 @@ use Rattle.sas_plan_reasons.proofs.Since.{some_since, one_since}
 pub on_some_layer : (p : Parts) (var : ℕ) → is_derived p var ≡ true → (layer : ℕ) × IsOnLayer p layer var
 on_some_layer p var derived = grind (arith, common_steps, layer_cases, false≢true)
 
-pub default_if_not_given : DefaultIfNotGiven
+pub default_if_not_given : (p : Parts) (s : List ℕ) (fact : Fact) → IsLayered p → IsSettled p s → IsDerived p.variables fact.var → IsTrue (can_be_given p fact)
+    → IsTrue (fails s fact) → slice_index s fact.var ≡ default_of p fact.var
 default_if_not_given p s fact layered settled derived given missed = elim (differs_decides p s fact.var) [
   | inl w ↦ w.0
   | inr w ↦ absurd (missing (on_some_layer p fact.var derived) w.1)
@@ -45,7 +46,8 @@ first_that_fails s (f ∷ fs) none = elim (eqb_tells (slice_index s f.var) f.val
   | inl w ↦ (let r = first_that_fails s fs (λ h. none (All-cons (Holds (slice_index s)) f fs w.1 h)) in (r.0, rw w.0 r.1))
 ]
 
-pub each_rule_fails : EachRuleFails
+pub each_rule_fails : (p : Parts) (s : List ℕ) (rule : ℕ) → IsLayered p → IsSettled p s → rule < length p.rules → CanFire p (rule_at p rule)
+    → slice_index s (rule_at p rule).var ≡ default_of p (rule_at p rule).var → (c : Fact) × (find (fails s) (rule_at p rule).conditions ≡ Some c)
 each_rule_fails p s rule layered settled exists can default = elim (hold_or_not (slice_index s) (rule_at p rule).conditions) [
   | inr n ↦ first_that_fails s (rule_at p rule).conditions n
   | inl hold ↦ absurd (fired (on_some_layer p (rule_at p rule).var (layered.derived rule _ exists)) hold)

@@ -1,5 +1,6 @@
 -- The changes that were printed so far, in the order of the variables.
-use Rattle.sas_plan_reasons.proofs.Imports.{◌≡◌, ℕ, ◌+◌, ◌-◌, ◌<◌, ◌≤◌, Bool, true, false, not, ◌==◌, List, [], ◌∷◌, ◌++◌, length, map, filter, flat_map, get_or, codes, decimal, refl, sym, ◌∙◌, ap, subst, inl, inr, arith, if◌then◌else◌, slice_index, slice_set, cond, Contains, IsNonDecreasing, unwrap_or, cases_eq, cases_lt, cases_Bool, eq-eqb, variables_of, is_changed, change_line, change_lines, change_text, ListCoversChanges, eqb-true, same_number_lists, Parts, value_name, get_or_default, text, line}
+use Rattle.std.proofs.lemmas.Grind.{common_steps}
+use Rattle.sas_plan_reasons.proofs.Imports.{◌≡◌, ℕ, ◌+◌, ◌-◌, ◌<◌, ◌≤◌, Bool, true, false, not, ◌==◌, List, [], ◌∷◌, ◌++◌, length, map, filter, flat_map, get_or, refl, sym, ◌∙◌, ap, subst, inl, inr, arith, if◌then◌else◌, slice_set, cond, Contains, IsNonDecreasing, cases_eq, cases_lt, cases_Bool, eq-eqb, variables_of, is_changed, change_line, change_lines, change_text, ListCoversChanges, eqb-true, same_number_lists, Parts, get_or_default, text}
 use Rattle.std.proofs.Common.{append-nil, get_or-set_other, get_or-set_same, length-set}
 use Rattle.sas_plan_reasons.proofs.Numbers.{said, said_more, said_quiet}
 
@@ -8,10 +9,7 @@ pub is_same : (x y : ℕ) → x ≡ y → not (x == y) ≡ false
 is_same x y e = ap not (eq-eqb x y e)
 
 pub is_other : (x y : ℕ) → (x ≡ y → ⊥) → not (x == y) ≡ true
-is_other x y ne = elim (cases_Bool (x == y)) [
-  | inl t ↦ absurd (ne (eqb-true x y t))
-  | inr f ↦ ap not f
-]
+is_other x y ne = grind (arith, common_steps, cases_Bool, eqb-true)
 
 -- the number at the place where the list contains it
 place_of : (listed : List ℕ) (j : ℕ) (there : Contains listed j) → get_or listed there.0 0 ≡ j
@@ -40,10 +38,7 @@ module _ (p : Parts) (s s' : List ℕ) where
 
   -- where the value that was printed is that of s
   same_text : (printed : List ℕ) (var : ℕ) → get_or printed var 0 ≡ get_or s var 0 → change_text p printed s' var ≡ says var
-  same_text printed var e = ap (λ (x : ℕ). if not (x == slice_index s' var)
-      then line 0 (codes "change" ∷ decimal var ∷ decimal x ∷ decimal (slice_index s' var)
-      ∷ unwrap_or (value_name p.variables var (slice_index s' var)) [] ∷ []) ++ 10 ∷ []
-      else []) e
+  same_text printed var e = grind (arith, common_steps)
 
   -- where it is that of s'
   no_text : (printed : List ℕ) (var : ℕ) → get_or printed var 0 ≡ get_or s' var 0 → change_text p printed s' var ≡ []
@@ -104,10 +99,7 @@ module _ (p : Parts) (s s' : List ℕ) where
     module _ (fits : length s' ≡ length p.variables) (within : b ≤ length p.variables)
         (still : (j : ℕ) → b ≤ j → j < length p.variables → get_or s' j 0 ≡ get_or s j 0) where
       pub printed_all : printed ≡ s'
-      printed_all = same_number_lists printed s' up.fits (λ j lt. elim (cases_lt j b) [
-        | inl early ↦ up.below j early
-        | inr late ↦ up.above j late ∙ sym (still j late (omega (arith, up.fits, fits)))
-      ])
+      printed_all = grind (arith, common_steps, same_number_lists, cases_lt)
 
       pub text_all : said says b ≡ text (change_lines p s s')
       text_all =

@@ -1,7 +1,7 @@
 -- What gives the derived variables their values, and in what order.
 use Rattle.std.proofs.Common.{rules}
 use Rattle.std.proofs.lemmas.Grind.{common_steps}
-use Rattle.sas_plan_reasons.proofs.Imports.{◌≡◌, ◌≢◌, ℕ, zero, suc, ◌+◌, ◌<◌, ◌≤◌, ◌⊎◌, true, cond, List, get_or, refl, sym, ◌∙◌, ap, subst, inl, inr, arith, All, cases_eq, cases_lt, cases_Bool, false≢true, All-contains, Fact, Parts, rule_at, AllHold, IsBasic, IsOnLayer, default_of, LooksDown, IsLayered, new_value_of, value_with, differs, IsSettled, layer_decides, IsLowest, reached, IsRank, HasLayerAndRank, FiresNext, IsGivenBy, DependsOn, Itself, Below, IsLess, ComesBefore, RankIfDiffers, OneRank, SomeGiver, OneGiver, GiverFires, RequiresLower, RequiresEarlier, GiverLooksDown, ItselfIsLast, NoCircle, AllDiffer, layer_cases, given_on, given_off, one_layer, new_value_is, differs_decides, differs_true}
+use Rattle.sas_plan_reasons.proofs.Imports.{InDerivation, IsTrue, slice_index, ◌↔◌, ◌≡◌, ◌≢◌, ℕ, zero, suc, ◌+◌, ◌<◌, ◌≤◌, ◌⊎◌, true, cond, List, get_or, refl, sym, ◌∙◌, ap, subst, inl, inr, arith, All, cases_eq, cases_lt, cases_Bool, false≢true, All-contains, Fact, Parts, rule_at, AllHold, IsBasic, IsOnLayer, default_of, LooksDown, IsLayered, new_value_of, value_with, differs, IsSettled, layer_decides, IsLowest, reached, IsRank, HasLayerAndRank, FiresNext, IsGivenBy, DependsOn, Itself, Below, IsLess, ComesBefore, RequiresLower, RequiresEarlier, layer_cases, given_on, given_off, one_layer, new_value_is, differs_decides, differs_true}
 use Rattle.sas_plan_reasons.proofs.Lowest.{lowest_is_one, lowest_below, lowest_from}
 use Rattle.sas_plan_reasons.proofs.ReachedRounds.{Fires, fires_decides, ReachedBy, reached_by, more_hold, reached_differs, differs_reached}
 
@@ -18,7 +18,8 @@ rank_within p layer s var rounds is = elim (lowest_below (λ k. reached p layer 
   | inr none ↦ absurd (none rounds (omega arith) is)
 ]
 
-pub rank_if_differs : RankIfDiffers
+pub rank_if_differs : (p : Parts) (s : List ℕ) (layer var : ℕ) → IsLayered p → IsSettled p s → IsOnLayer p layer var → ((rank : ℕ) × IsRank p layer s var rank)
+    ↔ IsTrue (differs p s var)
 rank_if_differs p s layer var layered settled on = (
   (λ w. reached_differs p layer s layered (settled layer) w.0 var w.1.has),
   (λ d.
@@ -27,7 +28,7 @@ rank_if_differs p s layer var layered settled on = (
       (r.0, r.2)),
 )
 
-pub one_rank : OneRank
+pub one_rank : (p : Parts) (s : List ℕ) (layer var a b : ℕ) → IsRank p layer s var a → IsRank p layer s var b → a ≡ b
 one_rank p s layer var a b x y = lowest_is_one (λ k. reached p layer s k var ≡ true) a b x y
 
 -- its layer and its rank are one
@@ -67,12 +68,13 @@ giver_at p s var layer (suc before) stands = from (reached_by p layer s before v
           },
         )
 
-pub some_giver : SomeGiver
+pub some_giver : (p : Parts) (s : List ℕ) (layer var : ℕ) → IsLayered p → IsSettled p s → IsOnLayer p layer var → IsTrue (differs p s var) → (rule : ℕ)
+    × IsGivenBy p s var rule
 some_giver p s layer var layered settled on d =
     let r = (rank_if_differs p s layer var layered settled on).1 d in
     giver_at p s var layer r.0 (record { on = on; ranked = r.1 })
 
-pub one_giver : OneGiver
+pub one_giver : (p : Parts) (s : List ℕ) (var a b : ℕ) → IsGivenBy p s var a → IsGivenBy p s var b → a ≡ b
 one_giver p s var a b x y =
     let e = stands_one p s var x.layer (x.before + 1) y.layer (y.before + 1) x.stands y.stands in
     let same : x.before ≡ y.before = omega (arith, e.1) in
@@ -150,11 +152,13 @@ module _ (p : Parts) (s : List ℕ) (layered : IsLayered p) (settled : IsSettled
     pub rests_on_earlier : (other : ℕ) → DependsOn p rule other → ComesBefore p s other var
     rests_on_earlier other rests = grind (arith, common_steps, All-contains, looks_down, false≢true)
 
-pub giver_fires : GiverFires
+pub giver_fires : (p : Parts) (s : List ℕ) (var rule : ℕ) → IsLayered p → IsSettled p s → IsGivenBy p s var rule → AllHold (slice_index s) (rule_at p rule).conditions
+    × ((rule_at p rule).var ≡ var) × ((rule_at p rule).new ≡ slice_index s var)
 giver_fires p s var rule layered settled given =
     (conditions_hold p s layered settled var rule given, (fires p s layered settled var rule given).on, given_value p s layered settled var rule given)
 
-pub giver_looks_down : GiverLooksDown
+pub giver_looks_down : (p : Parts) (s : List ℕ) (var rule : ℕ) → IsLayered p → IsSettled p s → IsGivenBy p s var rule
+    → All (λ (c : Fact). IsBasic p c.var ⊎ (RequiresLower p var c ⊎ RequiresEarlier p s var c)) (rule_at p rule).conditions
 giver_looks_down p s var rule layered settled given = looks_down p s layered settled var rule given
 
 -- ---- the order
@@ -172,19 +176,19 @@ module _ (p : Parts) (s : List ℕ) where
   pub never_before : (v : ℕ) → ComesBefore p s v v → ⊥
   never_before v x = grind (arith, common_steps, stands_one, never_less)
 
-pub no_circle : NoCircle
+pub no_circle : (p : Parts) (s : List ℕ) (a b : ℕ) → ComesBefore p s a b → ComesBefore p s b a → ⊥
 no_circle p s a b x y = never_before p s a (comes_before_that p s a b a x y)
 
 -- ---- derivations
 
-pub itself_is_last : ItselfIsLast
+pub itself_is_last : (p : Parts) (s : List ℕ) (var other : ℕ) → IsLayered p → IsSettled p s → InDerivation p s var other → (other ≡ var) ⊎ ComesBefore p s other var
 itself_is_last p s var other layered settled Itself = inl refl
 itself_is_last p s var other layered settled (Below {u} {w} rule inside given rests) = elim (itself_is_last p s var u layered settled inside) [
   | inl e ↦ inr (subst (λ v. ComesBefore p s w v) e (rests_on_earlier p s layered settled u rule given w rests))
   | inr before ↦ inr (comes_before_that p s w u var (rests_on_earlier p s layered settled u rule given w rests) before)
 ]
 
-pub all_differ : AllDiffer
+pub all_differ : (p : Parts) (s : List ℕ) (var other : ℕ) → IsLayered p → IsSettled p s → IsTrue (differs p s var) → InDerivation p s var other → IsTrue (differs p s other)
 all_differ p s var other layered settled d Itself = d
 all_differ p s var other layered settled d (Below {u} {w} rule inside given rests) =
     let before = rests_on_earlier p s layered settled u rule given w rests in

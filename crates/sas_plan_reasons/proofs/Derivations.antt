@@ -2,7 +2,7 @@
 -- variables on which this rule rests, which come before it.
 use Rattle.std.proofs.Common.{rules}
 use Rattle.std.proofs.lemmas.Grind.{common_steps}
-use Rattle.sas_plan_reasons.proofs.Imports.{◌≡◌, ◌≢◌, ℕ, zero, suc, ◌<◌, ◌⊎◌, List, [], ◌∷◌, ◌++◌, get_or, refl, sym, subst, inl, inr, arith, Contains, cases_eq, cases_Bool, false≢true, Contains-append_left, Contains-append_right, Contains-append_cases, Contains-get_or, Fact, Parts, rule_at, IsDerived, default_of, IsLayered, IsSettled, contains_head, contains_tail, HasLayerAndRank, IsGivenBy, DependsOn, InDerivation, Itself, Below, ComesBefore, IsRuleOf, IsDerivation, SomeDerivation, contains_cases, contains_none}
+use Rattle.sas_plan_reasons.proofs.Imports.{IsOnLayer, IsTrue, differs, ◌≡◌, ◌≢◌, ℕ, zero, suc, ◌<◌, ◌⊎◌, List, [], ◌∷◌, ◌++◌, get_or, refl, sym, subst, inl, inr, arith, Contains, cases_eq, cases_Bool, false≢true, Contains-append_left, Contains-append_right, Contains-append_cases, Contains-get_or, Fact, Parts, rule_at, IsDerived, default_of, IsLayered, IsSettled, contains_head, contains_tail, HasLayerAndRank, IsGivenBy, DependsOn, InDerivation, Itself, Below, ComesBefore, IsRuleOf, IsDerivation, contains_cases, contains_none}
 use Rattle.sas_plan_reasons.proofs.Derivation.{stands_one, giver_at, giver_on, one_giver, rests_on_earlier, rank_if_differs}
 use Rattle.sas_plan_reasons.proofs.Sorting.{Sorted, sorted}
 
@@ -156,5 +156,6 @@ module _ (p : Parts) (s : List ℕ) where
           },
         )
 
-pub some_derivation : SomeDerivation
+pub some_derivation : (p : Parts) (s : List ℕ) (layer var : ℕ) → IsLayered p → IsSettled p s → IsOnLayer p layer var → IsTrue (differs p s var) → (rules : List ℕ)
+    × IsDerivation p s var rules
 some_derivation p s layer var layered settled on d = search (rules, arith, rank_if_differs, derived_in_order, listing)

@@ -1,7 +1,7 @@
 -- What is reported of each fault.
 use Rattle.std.proofs.Common.{arith}
 use Rattle.std.proofs.lemmas.Grind.{common_steps}
-use Rattle.sas_plan_reasons.proofs.Imports.{◌≡◌, ℕ, ◌+◌, ◌<◌, ◌==◌, Bool, true, false, not, List, [], ◌∷◌, ◌++◌, length, get_or, Option, None, Some, refl, sym, ◌∙◌, ap, subst, inl, inr, if◌then◌else◌, filter, slice_index, option_map_or, ne_eqb, eq-eqb, append-nil, filter-append, AllByRecursion, cases_Bool, Fact, Parts, PlanParts, nameless_steps, nameless_lines, cost_hint, cost_lines, cost_lines_sum, places_to, places_one_more, Line, Run, last_state, fails, similar_operator, similar_name_lines, PlanHistory, Report, IsBehind, IsReport, AddsLines, ReportsOnce}
+use Rattle.sas_plan_reasons.proofs.Imports.{◌≡◌, ℕ, ◌+◌, ◌<◌, Bool, true, false, not, List, [], ◌∷◌, ◌++◌, length, get_or, Option, None, Some, refl, sym, ◌∙◌, ap, subst, if◌then◌else◌, filter, slice_index, option_map_or, ne_eqb, eq-eqb, append-nil, filter-append, AllByRecursion, cases_Bool, Fact, Parts, PlanParts, nameless_steps, nameless_lines, cost_hint, cost_lines, cost_lines_sum, places_to, places_one_more, Line, Run, last_state, fails, similar_operator, PlanHistory, Report, IsBehind, IsReport, AddsLines, ReportsOnce}
 use Rattle.sas_answers.specs.declared.line.Line.TheVariants as line
 use Rattle.sas_plan_reasons.proofs.Once.{IsPlain, plain_lines}
 
@@ -16,27 +16,13 @@ pub nameless_reported : (p : Parts) (plan : PlanParts) (step : ℕ) (name : List
     → k ≡ nameless_steps p plan.steps → n ≡ length plan.steps
     → lines ≡ line.Step step ∷ option_map_or (λ operator. line.SimilarOperator operator ∷ []) like [] ++ line.NamelessSteps k n ∷ []
     → ReportsOnce lines (λ its. its ≡ nameless_lines p plan step name)
-nameless_reported p plan step name like k n lines alike count all are = (
-  nameless_lines p plan step name,
-  refl,
-  are
-      ∙ (ap (λ (l : Option ℕ). line.Step step ∷ option_map_or (λ operator. line.SimilarOperator operator ∷ []) l [] ++ line.NamelessSteps k n ∷ []) alike
-      ∙ (ap (λ j. line.Step step ∷ similar_name_lines p name ++ line.NamelessSteps j n ∷ []) count
-      ∙ (ap (λ j. line.Step step ∷ similar_name_lines p name ++ line.NamelessSteps (nameless_steps p plan.steps) j ∷ []) all
-      ∙ sym (plain_lines [] (nameless_lines p plan step name) (nameless_plain step (similar_operator p name) (nameless_steps p plan.steps) (length plan.steps)))))),
-)
+nameless_reported p plan step name like k n lines alike count all are = grind (arith, common_steps, plain_lines, nameless_plain)
 
 -- ---- another cost
 
 hint_plain : (metric : Bool) (cost steps sum : ℕ) → AllByRecursion IsPlain (cost_hint metric cost steps sum)
-hint_plain true cost steps sum = elim (cases_Bool (cost == steps)) [
-  | inl is ↦ subst (λ b. AllByRecursion IsPlain (if b then line.CostLineHint ∷ [] else [])) (sym is) (refl, tt)
-  | inr other ↦ subst (λ b. AllByRecursion IsPlain (if b then line.CostLineHint ∷ [] else [])) (sym other) tt
-]
-hint_plain false cost steps sum = elim (cases_Bool (cost == sum)) [
-  | inl is ↦ subst (λ b. AllByRecursion IsPlain (if b then line.UnitCostHint ∷ [] else [])) (sym is) (refl, tt)
-  | inr other ↦ subst (λ b. AllByRecursion IsPlain (if b then line.UnitCostHint ∷ [] else [])) (sym other) tt
-]
+hint_plain true cost steps sum = grind (arith, common_steps, cases_Bool)
+hint_plain false cost steps sum = grind (arith, common_steps, cases_Bool)
 
 pub costs_reported : (p : Parts) (cost : ℕ) (run : Run) (lines : List Line) → lines ≡ cost_lines p cost run → ReportsOnce lines (λ its. its ≡ cost_lines p cost run)
 costs_reported p cost run lines are =

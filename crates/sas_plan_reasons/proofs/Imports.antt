@@ -36,7 +36,7 @@ pub use Rattle.sas_answers.proofs.RuleLines.{same_is, is_same}
 pub use Rattle.sas_answers.proofs.Sent.{writes_as, ends_counting_as}
 pub use Rattle.sas_answers.proofs.Texts.{text_of_each}
 pub use Rattle.sas_answers.proofs.WordedLines.{worded}
-pub use Rattle.sas_answers.specs.Answers.{valid_answer, invalid_answer}
+pub use Rattle.sas_answers.specs.Answers.{VerdictAnswer, valid_answer, invalid_answer}
 pub use Rattle.sas_answers.specs.Ending.{output_of, Output}
 pub use Rattle.sas_answers.specs.Facts.{initial_lines}
 pub use Rattle.sas_answers.specs.Line.{is_rule_line, is_same_rule_line, rule_numbers, reasons_text}
@@ -93,7 +93,7 @@ pub use Rattle.sas_run.proofs.Runs.{some_run, one_run, leads_to_last, last_rests
 pub use Rattle.sas_run.specs.Executions.{Executed, next_name, next_operator, Executes, Advances}
 pub use Rattle.sas_run.specs.Named.{IsNamed}
 pub use Rattle.sas_run.specs.Nameless.{nameless_steps}
-pub use Rattle.sas_run.specs.Plans.{LeadFrom, LeadsTo, IsValid}
+pub use Rattle.sas_run.specs.Plans.{IsApplicable, LeadFrom, LeadsTo, IsValid}
 pub use Rattle.sas_run.specs.Running.{IsLater, IsLaterIfAny}
 pub use Rattle.sas_run.specs.Runs.{Run, last_state, state_at, StepsSucceed, steps_before, RunEndsWith}
 pub use Rattle.sas_run.specs.Stepping.{ListsChanges}
@@ -101,23 +101,18 @@ pub use Rattle.sas_run.specs.Verdicts.{IsFirstMissed, ComesTo, IsFaultOf}
 pub use Rattle.sas_run.specs.declared.plan_check.PlanFault.{PlanFault}
 pub use Rattle.sas_run.specs.declared.plan_check.PlanFault.TheVariants.{Memory, NoOperator, NotApplicable, Conflict, GoalMissed, CostDiffers}
 pub use Rattle.sas_plan_reasons.specs.Cause.{fails, is_derived, is_given, AreDerivationLines, since_line, missing_lines, IsCause, value_at, IsSince, failing_lines, can_be_given, keeping_lines}
-pub use Rattle.sas_plan_reasons.specs.Changed.{change_text, ListCoversChanges, IsListedIfChanged, Grows}
+pub use Rattle.sas_plan_reasons.specs.Tracing.{change_text, ListCoversChanges, IsListedIfChanged, Grows, HasTraced, HasVerdict}
 pub use Rattle.sas_plan_reasons.specs.Conflicts.{first_on, AgreesWithFirst, AreFirstEffects}
 pub use Rattle.sas_plan_reasons.specs.Derivation.{fires_with, reached, IsRank, HasLayerAndRank, FiresNext, IsGivenBy, DependsOn, Itself, Below, IsLess, ComesBefore, InDerivation, IsRuleOf, IsDerivation}
-pub use Rattle.sas_plan_reasons.specs.Explained.{MakeAnswer, IsExplained}
+pub use Rattle.sas_plan_reasons.specs.Report.{MakeAnswer, IsExplained, lines_of_keepers, is_kept, IsReport, IsBehind, ReportsOnce, IsReportOf, AddsLines}
 pub use Rattle.sas_plan_reasons.specs.Lines.{with_line, with_lines, LineThen, LinesOfEach}
 pub use Rattle.sas_plan_reasons.specs.Lowest.{IsLowest, AreLowest}
 pub use Rattle.sas_plan_reasons.specs.MayMean.{after_spaces, squeezed, folded, similar_operator, IsOther, MayMean}
-pub use Rattle.sas_plan_reasons.specs.Noting.{HavePlaces, NotedAt, LeftAt, NotesSome, NotesChanges, looked_at, CoverChanges, AreFirstChanges, AddsOther, NotesStep}
-pub use Rattle.sas_plan_reasons.specs.OriginRounds.{origin_at, origin_now, origin_with_rule, unreached, HaveOrigins, IsReached, OriginsUpToRound, value_in_round, HasOrigin, IsOrigin, HavePassed, ReachesNow, InRound, ContinuesRound, AreAllRules, AreBefore, IsFirstOpen, HasLower, waiting_rules, requiring_at, AreAwaited, added, Reaches, HoldFrom}
-pub use Rattle.sas_plan_reasons.specs.Origins.{needs_rules, is_reported, AreOrigins, ReportsDerivation, nowhere, place_cmp, place_at, ArePlaces, AreInOrder, AddsDerivation, OriginsMatchState, HasRule, HasRuleBelow, IsReportedOf, AreReportedBelow, SameOrigins, unreported, AddsRules}
-pub use Rattle.sas_plan_reasons.specs.ReasonLaws.{DefaultIfNotGiven, EachRuleFails, SomeConflict, OneConflict, RankIfDiffers, OneRank, SomeGiver, OneGiver, GiverFires, RequiresLower, RequiresEarlier, GiverLooksDown, ItselfIsLast, NoCircle, AllDiffer, SpaceFolds, DoubleFolds, FoldsOnce, IsAlike, IsLowestIfAny, SomeDerivation, SomeMayMean, OneMayMean, SomePreconditionFails, OperatorsHaveName, FirstGoalFact, NoneIsLost, RulesStandOnce, SomeSince, OneSince, SameSince, OneDerivation, OwnRuleIsLast, SomeWhy, OneWhy}
-pub use Rattle.sas_plan_reasons.specs.Report.{lines_of_keepers, is_kept, IsReport, IsBehind, ReportsOnce, IsReportOf, AddsLines}
-pub use Rattle.sas_plan_reasons.specs.Retracing.{IsOtherIfAny, Retraces, first_steps, HaveSince, AreNotes}
+pub use Rattle.sas_plan_reasons.specs.Retracing.{HavePlaces, NotedAt, LeftAt, NotesSome, NotesChanges, looked_at, CoverChanges, AreFirstChanges, AddsOther, NotesStep, IsOtherIfAny, Retraces, first_steps, HaveSince, AreNotes}
+pub use Rattle.sas_plan_reasons.specs.Origins.{origin_at, origin_now, origin_with_rule, unreached, HaveOrigins, IsReached, OriginsUpToRound, value_in_round, HasOrigin, IsOrigin, HavePassed, ReachesNow, InRound, ContinuesRound, AreAllRules, AreBefore, IsFirstOpen, HasLower, waiting_rules, requiring_at, AreAwaited, added, Reaches, HoldFrom, needs_rules, is_reported, AreOrigins, ReportsDerivation, nowhere, place_cmp, place_at, ArePlaces, AreInOrder, AddsDerivation, OriginsMatchState, HasRule, HasRuleBelow, IsReportedOf, AreReportedBelow, SameOrigins, unreported, AddsRules}
+pub use Rattle.sas_plan_reasons.specs.ReasonLaws.{replayed, RequiresLower, RequiresEarlier, IsAlike, IsLowestIfAny, facts_printed}
 pub use Rattle.sas_plan_reasons.specs.Trace.{run_lines, variables_of, is_changed, change_line, change_lines, step_lines, step_line}
-pub use Rattle.sas_plan_reasons.specs.TraceLaws.{EndsWithVerdict, CostsAddUp, SomeTrace, OneTrace, facts_printed, Replays}
 pub use Rattle.sas_plan_reasons.specs.Traced.{EndsWith, TraceVerdict, IsTraced}
-pub use Rattle.sas_plan_reasons.specs.Tracing.{HasTraced, HasVerdict}
 pub use Rattle.sas_plan_reasons.specs.Verdict.{WhyVerdict}
 pub use Rattle.sas_plan_reasons.specs.WhyPlan.{ConflictsWith, AreFailedPreconditionLines, AreConflictLines, goal_fact_at, AreGoalFactLines, cost_hint, cost_lines, nameless_lines, AreCouldBeLines, AreFaultLines, IsWhy, similar_name_lines, AreOperatorLines, cost_lines_sum}
 pub use Rattle.sas_plan_reasons.specs.declared.changes.Changes.{Changes}
@@ -129,3 +124,5 @@ pub use Rattle.sas_plan_reasons.specs.declared.plan_history.OtherOperator.{Other
 pub use Rattle.sas_plan_reasons.specs.declared.plan_history.PlanHistory.{PlanHistory}
 pub use Rattle.sas_plan_reasons.specs.declared.report.Report.{Report}
 pub use Rattle.sas_plan_reasons.specs.declared.second_pass.RunNotes.{RunNotes}
+pub use Rattle.sas_core.specs.Tasks.{cost_of}
+pub use Rattle.std.specs.Prelude.{sum_by}

@@ -1,8 +1,9 @@
 -- The places of the items that pass a test, and what fails.
 use Rattle.std.proofs.lemmas.Grind.{common_steps}
-use Rattle.sas_plan_reasons.proofs.Imports.{◌≡◌, ℕ, zero, suc, ◌+◌, not, List, [], ◌∷◌, slice_index, bytes_eq, ◌∙◌, ap, subst, arith, filter, Contains, eq-eqb, ne_eqb, eqb_tells, All-nil, All-cons, bytes_eq-Decides, Fact, Operator, operator_at, Holds, AllHold, preconditions, places_from, places, takes, passes_by, place_is, is_place, IsNamed, IsFirstMissed, fails, SomePreconditionFails, OperatorsHaveName, FirstGoalFact}
+use Rattle.sas_plan_reasons.proofs.Imports.{IsApplicable, Parts, ◌↔◌, ◌≡◌, ℕ, zero, suc, ◌+◌, not, List, [], ◌∷◌, slice_index, bytes_eq, ◌∙◌, ap, subst, arith, filter, Contains, eq-eqb, ne_eqb, eqb_tells, All-nil, All-cons, bytes_eq-Decides, Fact, Operator, operator_at, Holds, AllHold, preconditions, places_from, places, takes, passes_by, place_is, is_place, IsNamed, IsFirstMissed, fails}
 
-pub operators_have_name : OperatorsHaveName
+pub operators_have_name : (p : Parts) (name : List ℕ) (operator : ℕ) → Contains (places (λ (o : Operator). bytes_eq o.name name) p.operators) operator
+    ↔ IsNamed p name operator
 operators_have_name p name operator = (there, back)
   where
     there : Contains (places (λ (o : Operator). bytes_eq o.name name) p.operators) operator → IsNamed p name operator
@@ -19,7 +20,7 @@ none_fails : (s : List ℕ) (facts : List Fact) → filter (fails s) facts ≡ [
 none_fails s [] e = All-nil (Holds (slice_index s))
 none_fails s (f ∷ fs) e = grind (arith, common_steps, none_fails s fs, eqb_tells, All-cons)
 
-pub some_precondition_fails : SomePreconditionFails
+pub some_precondition_fails : (s : List ℕ) (o : Operator) → filter (fails s) (preconditions o) ≡ [] → IsApplicable s o
 some_precondition_fails s o none = none_fails s (preconditions o) none
 
 first_place : (s : List ℕ) (place : ℕ) (facts : List Fact) (index : ℕ) → IsFirstMissed (slice_index s) facts index
@@ -41,6 +42,6 @@ first_place s place (f ∷ fs) (suc index) first =
           ∙ (r.1 ∙ ap (λ k. k ∷ r.0) (let e : place + 1 + index ≡ place + suc index = omega arith in e)),
     )
 
-pub first_goal_fact : FirstGoalFact
+pub first_goal_fact : (p : Parts) (s : List ℕ) (index : ℕ) → IsFirstMissed (slice_index s) p.goal index → (behind : List ℕ) × (places (fails s) p.goal ≡ index ∷ behind)
 first_goal_fact p s index first = let r = first_place s 0 p.goal index first in
     (r.0, r.1 ∙ ap (λ k. k ∷ r.0) (let e : 0 + index ≡ index = omega arith in e))

@@ -68,12 +68,7 @@ module _ (p : Parts) (layer : ℕ) (s : List ℕ) where
     where
       from : is_on_layer p layer var ≡ true
           → (k : ℕ) × (k < length p.rules) × HoldsAt (Fires p layer s (reached p layer s rounds) var) p.rules k → ReachedBy (reached p layer s rounds) var
-      from on w = record {
-        on = elim (layer_decides p layer var) [ inl t ↦ t.0 | inr t ↦ absurd (false≢true (sym t.1 ∙ on)) ];
-        rule = w.0;
-        exists = w.1;
-        fires = w.2 _;
-      }
+      from on w = grind (arith, common_steps, layer_decides, false≢true)
 
   pub reach : (rounds var : ℕ) → ReachedBy (reached p layer s rounds) var → reached p layer s (suc rounds) var ≡ true
   reach rounds var by = grind (arith, common_steps, and_from, layer_decides, list_any_at, fires_decides)

@@ -1,6 +1,6 @@
 -- Removing repeated lines of rules: no line is lost, and no line of a rule remains twice.
 use Rattle.std.proofs.lemmas.Grind.{common_steps}
-use Rattle.sas_plan_reasons.proofs.Imports.{◌≡◌, ◌≢◌, ◌<◌, ◌⊎◌, Bool, true, false, List, [], ◌∷◌, ◌++◌, sym, ◌∙◌, ap, subst, inl, inr, arith, if◌then◌else◌, Contains, AllPairs, list_any, cases_Bool, false≢true, Contains-append_left, Contains-get_or, Contains-push, Contains-push_cases, all_pairs_push, Any-from_list_any, list_any_at, contains_head, contains_tail, with_line, with_lines, NoneIsLost, RulesStandOnce, contains_cases, contains_none, Line, is_rule_line, is_same_rule_line, same_is, is_same}
+use Rattle.sas_plan_reasons.proofs.Imports.{IsTrue, ◌↔◌, ◌≡◌, ◌≢◌, ◌<◌, ◌⊎◌, Bool, true, false, List, [], ◌∷◌, ◌++◌, sym, ◌∙◌, ap, subst, inl, inr, arith, if◌then◌else◌, Contains, AllPairs, list_any, cases_Bool, false≢true, Contains-append_left, Contains-get_or, Contains-push, Contains-push_cases, all_pairs_push, Any-from_list_any, list_any_at, contains_head, contains_tail, with_line, with_lines, contains_cases, contains_none, Line, is_rule_line, is_same_rule_line, same_is, is_same}
 
 -- whether the next line is left out
 abbrev pub is_among : List Line → Line → Bool
@@ -55,7 +55,7 @@ are_lines lines (next ∷ more) z h = elim (contains_cases next more z h) [
   | inr later ↦ are_lines (with_line lines next) more z later
 ]
 
-pub none_is_lost : NoneIsLost
+pub none_is_lost : (lines : List Line) (line : Line) → Contains (with_lines [] lines) line ↔ Contains lines line
 none_is_lost lines z = (
   (λ h. elim (lines_are [] lines z h) [ inl none ↦ absurd (contains_none z none) | inr there ↦ there ]),
   (λ h. are_lines [] lines z h),
@@ -77,5 +77,5 @@ apart_lines : (lines more : List Line) → AllPairs Differ lines → AllPairs Di
 apart_lines lines [] pairs = pairs
 apart_lines lines (next ∷ more) pairs = apart_lines (with_line lines next) more (apart_line lines next pairs)
 
-pub rules_stand_once : RulesStandOnce
+pub rules_stand_once : (lines : List Line) → AllPairs (λ a b. IsTrue (is_rule_line a) → a ≢ b) (with_lines [] lines)
 rules_stand_once lines = apart_lines [] lines (λ i j d lt within. absurd (let h : j < 0 = within in omega arith))

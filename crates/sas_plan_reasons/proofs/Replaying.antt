@@ -1,5 +1,5 @@
 -- The changes, written over the values before, give the values behind the step.
-use Rattle.sas_plan_reasons.proofs.Imports.{◌≡◌, ℕ, zero, suc, ◌+◌, ◌<◌, ◌≤◌, Bool, true, false, List, ◌∷◌, length, map, filter, get_or, refl, sym, ◌∙◌, ap, subst, inl, inr, arith, fold, slice_set, slice_index, cond, range_with_len, cases_eq, same_number_lists, length-map-range_with_len, get_or-map-range_with_len, add-one, Fact, state_at, state_fits, is_changed, facts_printed, Replays}
+use Rattle.sas_plan_reasons.proofs.Imports.{Parts, Run, StepsSucceed, WellRanged, replayed, ◌≡◌, ℕ, zero, suc, ◌+◌, ◌<◌, ◌≤◌, Bool, true, false, List, ◌∷◌, length, map, filter, get_or, refl, sym, ◌∙◌, ap, subst, inl, inr, arith, fold, slice_set, slice_index, cond, range_with_len, cases_eq, same_number_lists, length-map-range_with_len, get_or-map-range_with_len, add-one, Fact, state_at, state_fits, is_changed, facts_printed}
 use Rattle.std.proofs.Common.{get_or-set_other, get_or-set_same, length-set}
 use Rattle.sas_plan_reasons.proofs.Changing.{is_same, is_other}
 
@@ -65,7 +65,7 @@ module _ (s s' : List ℕ) where
       let e : n ≡ 0 + n = omega arith in
       writes n 0 s (fits' ∙ e) (record { fits = fits ∙ e; below = λ k lt. absurd (omega arith); above = λ k le. refl })
 
-pub replays : Replays
+pub replays : (p : Parts) (run : Run) (k : ℕ) → WellRanged p → StepsSucceed p run → k ≤ length run.steps → replayed p run k ≡ state_at run k
 replays p run zero ranged through le = values_are (state_at run 0) (length p.variables) (state_fits p run through 0 le).one_each
 replays p run (suc k) ranged through le =
     let e : k + 1 ≡ suc k = add-one k in

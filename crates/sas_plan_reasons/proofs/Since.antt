@@ -1,7 +1,7 @@
 -- In a run each variable has exactly one last change.
 use Rattle.std.proofs.Common.{rules}
 use Rattle.std.proofs.lemmas.Grind.{common_steps}
-use Rattle.sas_plan_reasons.proofs.Imports.{◌≡◌, ◌≢◌, ℕ, zero, suc, ◌+◌, ◌-◌, ◌<◌, ◌≤◌, length, refl, sym, ◌∙◌, ap, subst, inl, inr, arith, cases_eq, Run, value_at, IsSince, SomeSince, OneSince, SameSince}
+use Rattle.sas_plan_reasons.proofs.Imports.{◌≡◌, ◌≢◌, ℕ, zero, suc, ◌+◌, ◌-◌, ◌<◌, ◌≤◌, length, refl, sym, ◌∙◌, ap, subst, inl, inr, arith, cases_eq, Run, value_at, IsSince}
 
 module _ (run : Run) (var : ℕ) where
   -- the last change among the states up to the one with number n
@@ -48,7 +48,7 @@ module _ (run : Run) (var : ℕ) where
   none_later a (suc b) x y lt = y.changed b (omega arith)
       (let u = x.unchanged b (omega arith) (let e = y.exists in omega arith) in u ∙ ap (λ k. value_at run k var) (let e : b + 1 ≡ suc b = omega arith in e))
 
-pub some_since : SomeSince
+pub some_since : (run : Run) (var : ℕ) → 0 < length run.states → (since : ℕ) × IsSince run var since
 some_since run var some = from (length run.states) refl
   where
     from : (n : ℕ) → n ≡ length run.states → (since : ℕ) × IsSince run var since
@@ -62,10 +62,11 @@ some_since run var some = from (length run.states) refl
       },
     )
 
-pub one_since : OneSince
+pub one_since : (run : Run) (var a b : ℕ) → IsSince run var a → IsSince run var b → a ≡ b
 one_since run var a b x y = omega (arith, none_later run var a b x y, none_later run var b a y x)
 
-pub same_since : SameSince
+pub same_since : (run : Run) (var since : ℕ) → IsSince run var since → (later : ℕ) → since ≤ later → later < length run.states
+    → value_at run later var ≡ value_at run since var
 same_since run var since is later from upto =
     ap (λ k. value_at run k var) (let e : later ≡ since + (later - since) = omega arith in e)
     ∙ same_from run var since is (later - since) (omega arith)

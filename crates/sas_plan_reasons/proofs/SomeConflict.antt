@@ -1,7 +1,7 @@
 -- Effects that fire agree, or two of them conflict. The reported pair is unique.
 use Rattle.std.proofs.Common.{rules}
 use Rattle.std.proofs.lemmas.Grind.{common_steps}
-use Rattle.sas_plan_reasons.proofs.Imports.{◌≡◌, ℕ, ◌<◌, ◌⊎◌, List, [], length, None, slice_index, inl, inr, arith, cases_eq, cases_lt, cases_order, get_or_default, Effect, Operator, effect_at, Fires, Agree, hold_or_not, ConflictsWith, SomeConflict, OneConflict}
+use Rattle.sas_plan_reasons.proofs.Imports.{AreLowest, ◌≡◌, ℕ, ◌<◌, ◌⊎◌, List, [], length, None, slice_index, inl, inr, arith, cases_eq, cases_lt, cases_order, get_or_default, Effect, Operator, effect_at, Fires, Agree, hold_or_not, ConflictsWith}
 use Rattle.sas_plan_reasons.proofs.Lowest.{are_lowest_one, some_are_lowest}
 
 module _ (s : List ℕ) (o : Operator) where
@@ -43,11 +43,11 @@ module _ (s : List ℕ) (o : Operator) where
     unfolding no_effect
     agrees i x lt j y lt' = search (rules, arith, get_or_default, no_effect, agrees_at)
 
-pub some_conflict : SomeConflict
+pub some_conflict : (s : List ℕ) (o : Operator) → (Agree s o.effects → ⊥) → (e d : ℕ) × AreLowest (ConflictsWith s o) e d
 some_conflict s o clash = elim (some_are_lowest (ConflictsWith s o) (contradicts_or_not s o) (length o.effects) (length o.effects) (λ e d c. (c.exists, let lt = c.exists in let before = c.before in omega arith))) [
   | inl w ↦ w
   | inr none ↦ absurd (clash (agrees s o none))
 ]
 
-pub one_conflict : OneConflict
+pub one_conflict : (s : List ℕ) (o : Operator) (e d e' d' : ℕ) → AreLowest (ConflictsWith s o) e d → AreLowest (ConflictsWith s o) e' d' → (e ≡ e') × (d ≡ d')
 one_conflict s o = are_lowest_one (ConflictsWith s o)

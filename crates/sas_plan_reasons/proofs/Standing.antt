@@ -1,5 +1,7 @@
 -- A trace stands at a step of a run, and what is written of the next one is what the run has there.
-use Rattle.sas_plan_reasons.proofs.Imports.{◌≡◌, ℕ, ◌+◌, List, ◌∷◌, ◌++◌, length, get_or, refl, sym, ◌∙◌, ap, subst, Parts, PlanParts, text, Answer, Output, output_of, Executed, Executes, Advances, next_operator, Run, state_at, StepsSucceed, executed_fits, step_line, change_lines, step_lines, run_lines, TraceVerdict, HasTraced, HasVerdict}
+use Rattle.std.proofs.lemmas.Grind.{common_steps}
+use Rattle.std.proofs.Common.{arith}
+use Rattle.sas_plan_reasons.proofs.Imports.{◌≡◌, ℕ, ◌+◌, List, ◌∷◌, ◌++◌, length, ◌∙◌, ap, Parts, PlanParts, text, Answer, Output, Executed, Executes, Advances, next_operator, Run, executed_fits, step_line, change_lines, step_lines, run_lines, TraceVerdict, HasTraced, HasVerdict}
 
 module _ (p : Parts) (run : Run) (e : Executed) (printed : List ℕ) (at : HasTraced p run e printed) where
   -- its state has a value for each variable
@@ -12,10 +14,7 @@ module _ (p : Parts) (run : Run) (e : Executed) (printed : List ℕ) (at : HasTr
     stands_next printed' is = record { task = advances.task ∙ at.task; executes = along; values = is }
 
     pub step_is : text (step_line p (k + 1) (next_operator e) ∷ change_lines p e.state new.state) ≡ text (step_lines p run k)
-    step_is =
-        ap (λ o. text (step_line p (k + 1) o ∷ change_lines p e.state new.state)) (sym (ap (λ (os : List ℕ). get_or os e.made 0) at.executes.operators) ∙ ap (λ n. get_or run.operators n 0) made)
-        ∙ (ap (λ (s : List ℕ). text (step_line p (k + 1) (get_or run.operators k 0) ∷ change_lines p s new.state)) (at.executes.state ∙ ap (state_at run) made)
-        ∙ ap (λ (s : List ℕ). text (step_line p (k + 1) (get_or run.operators k 0) ∷ change_lines p (state_at run k) s)) (along.state ∙ ap (state_at run) (advances.made ∙ ap (λ n. n + 1) made)))
+    step_is = grind (arith, common_steps)
 
 -- where the answer was found, a trace stands before the first step
 pub stands_first : (p : Parts) (plan : PlanParts) (run : Run) (verdict : Answer) (e : Executed) (printed : List ℕ) → HasVerdict p plan run verdict e → printed ≡ e.state → HasTraced p run e printed
@@ -26,11 +25,4 @@ abbrev pub written : Parts → Answer → Run → Output
 written p verdict run = record { text = text (run_lines p run) ++ verdict.text.items; status = verdict.status }
 
 pub is_traced : (p : Parts) (plan : PlanParts) (verdict : Answer) (run : Run) (e : Executed) → HasVerdict p plan run verdict e → TraceVerdict p plan (written p verdict run)
-is_traced p plan verdict run e has = record {
-  run = run;
-  through = subst (λ q. StepsSucceed q run) has.task has.executes.of_plan.through;
-  verdict = output_of verdict;
-  ends = has.ends;
-  whole = refl;
-  status = refl;
-}
+is_traced p plan verdict run e has = grind (arith, common_steps)

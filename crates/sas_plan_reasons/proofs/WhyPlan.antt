@@ -1,6 +1,6 @@
 -- The fault of a plan has exactly one list of reasons.
 use Rattle.std.proofs.lemmas.Grind.{common_steps}
-use Rattle.sas_plan_reasons.proofs.Imports.{◌≡◌, ℕ, ◌-◌, ◌<◌, List, [], ◌∷◌, ◌++◌, length, take, refl, sym, ◌∙◌, ap, subst, inl, inr, arith, take-append_seam, filter, count_by, bytes_eq, Operator, Parts, PlanParts, step_at, operator_at, IsLayered, IsSettled, preconditions, places, PlanFault, Memory, NoOperator, NotApplicable, Conflict, GoalMissed, CostDiffers, LeadFrom, LeadsTo, ComesTo, IsFaultOf, Line, Run, with_lines, LineThen, LinesOfEach, fails, IsCause, AreFailedPreconditionLines, AreConflictLines, goal_fact_at, AreGoalFactLines, cost_lines, AreCouldBeLines, AreFaultLines, IsWhy, SomeWhy, OneWhy, last_state, StepsSucceed, steps_before, some_run, one_run}
+use Rattle.sas_plan_reasons.proofs.Imports.{◌≡◌, ℕ, ◌-◌, ◌<◌, List, [], ◌∷◌, ◌++◌, length, take, refl, sym, ◌∙◌, ap, subst, inl, inr, arith, take-append_seam, filter, count_by, bytes_eq, Operator, Parts, PlanParts, step_at, operator_at, IsLayered, IsSettled, preconditions, places, PlanFault, Memory, NoOperator, NotApplicable, Conflict, GoalMissed, CostDiffers, LeadFrom, LeadsTo, ComesTo, IsFaultOf, Line, Run, with_lines, LineThen, LinesOfEach, fails, IsCause, AreFailedPreconditionLines, AreConflictLines, goal_fact_at, AreGoalFactLines, cost_lines, AreCouldBeLines, AreFaultLines, IsWhy, last_state, StepsSucceed, steps_before, some_run, one_run}
 use Rattle.sas_answers.specs.declared.line.Line.TheVariants as line
 use Rattle.sas_plan_reasons.proofs.MayMean.{some_may_mean, one_may_mean}
 use Rattle.sas_plan_reasons.proofs.CauseLines.{some_cause, one_cause}
@@ -63,7 +63,7 @@ fault_lines_one p plan run (GoalMissed index) a b x y = behind_one (goal_line p 
 fault_lines_one p plan run (CostDiffers sum) a b x y = x ∙ sym y
 fault_lines_one p plan run Memory a b x y = absurd x
 
-pub one_why : OneWhy
+pub one_why : (p : Parts) (plan : PlanParts) (fault : PlanFault) (a b : List Line) → IsLayered p → IsWhy p plan fault a → IsWhy p plan fault b → a ≡ b
 one_why p plan fault a b layered x y = x.whole
     ∙ (ap (λ (reasons : List Line). with_lines [] reasons ++ x.others) (fault_lines_one p plan y.run fault x.reasons y.reasons are y.are)
     ∙ (ap (λ (others : List Line). with_lines [] y.reasons ++ others) (other_one p y.run x.others y.others may y.may) ∙ sym y.whole))
@@ -162,5 +162,5 @@ module _ (p : Parts) (plan : PlanParts) (layered : IsLayered p) where
       let l = led plan.steps f.0 f.1 f.2 in
       from_run (CostDiffers sum) l.run l.went l.through (cost_lines p plan.cost l.run, refl)
 
-pub some_why : SomeWhy
+pub some_why : (p : Parts) (plan : PlanParts) (fault : PlanFault) → IsLayered p → IsFaultOf p plan fault → (lines : List Line) × IsWhy p plan fault lines
 some_why p plan fault layered f = some_why_of p plan layered fault f

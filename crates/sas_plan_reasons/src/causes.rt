@@ -4,8 +4,7 @@ ghost use Rattle.sas_core.specs.declared.parts.Fact.{Fact};
 ghost use Rattle.sas_core.specs.Variables.{IsState};
 ghost use Rattle.sas_meaning.specs.Places.{places, can_give};
 ghost use Rattle.sas_run.specs.Runs.{last_state};
-ghost use Rattle.sas_plan_reasons.specs.Cause.{fails, is_given, since_line, failing_lines};
-ghost use Rattle.sas_plan_reasons.specs.Cause.{AreDerivationLines, can_be_given, keeping_lines, IsCause};
+ghost use Rattle.sas_plan_reasons.specs.Cause.{fails, is_given, since_line, failing_lines, AreDerivationLines, can_be_given, keeping_lines, IsCause};
 ghost use Rattle.sas_plan_reasons.specs.Report.{IsReportOf, AddsLines};
 
 use crate::origins::requires_rules;

@@ -2,7 +2,7 @@
 ghost use Rattle.std.specs.Prelude.{◌≡◌, ◌<◌, length, All, IsTrue};
 ghost use Rattle.sas_core.specs.declared.parts.Fact.{Fact};
 ghost use Rattle.sas_run.specs.Stepping.{ListsChanges};
-ghost use Rattle.sas_plan_reasons.specs.Changed.{IsListedIfChanged, Grows, ListCoversChanges};
+ghost use Rattle.sas_plan_reasons.specs.Tracing.{IsListedIfChanged, Grows, ListCoversChanges};
 
 use sas_core::{Fact, Grounded, Stepwise};
 use sas_meaning::{Settle, State};

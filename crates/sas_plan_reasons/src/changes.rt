@@ -1,7 +1,7 @@
 // Since when the variables have their values.
 ghost use Rattle.std.specs.Prelude.{◌≢◌, ℕ, ◌<◌, length, All, IfOk};
 ghost use Rattle.sas_core.specs.declared.parts.Fact.{Fact};
-ghost use Rattle.sas_plan_reasons.specs.Noting.{HavePlaces, NotedAt, LeftAt, NotesSome, NotesChanges, AreFirstChanges, CoverChanges};
+ghost use Rattle.sas_plan_reasons.specs.Retracing.{HavePlaces, NotedAt, LeftAt, NotesSome, NotesChanges, AreFirstChanges, CoverChanges};
 
 use sas_core::Fact;
 use sas_meaning::State;

@@ -10,8 +10,7 @@ ghost use Rattle.sas_plan_reasons.specs.Lines.{LineThen};
 ghost use Rattle.sas_core.specs.Stepwise.{step_at};
 ghost use Rattle.sas_run.specs.Nameless.{nameless_steps};
 ghost use Rattle.sas_run.specs.Runs.{Run};
-ghost use Rattle.sas_plan_reasons.specs.WhyPlan.{nameless_lines, AreFailedPreconditionLines, AreOperatorLines, AreConflictLines};
-ghost use Rattle.sas_plan_reasons.specs.WhyPlan.{AreGoalLines, AreFaultLines, IsWhy, cost_hint, cost_lines, cost_lines_sum};
+ghost use Rattle.sas_plan_reasons.specs.WhyPlan.{nameless_lines, AreFailedPreconditionLines, AreOperatorLines, AreConflictLines, AreGoalLines, AreFaultLines, IsWhy, cost_hint, cost_lines, cost_lines_sum};
 ghost use Rattle.sas_plan_reasons.specs.Retracing.{Retraces, IsRetraced};
 ghost use Rattle.sas_plan_reasons.specs.Report.{IsBehind, IsReportOf, AddsLines, ReportsOnce};
 
@@ -94,23 +93,19 @@ fn unknown<T: Grounded, P: Stepwise>(
         its ≡ nameless_lines task.now (P.says plan.now) step
         (step_at (P.says plan.now) (step - 1)))) }
 {
-    let first = Line::Step { step };
-    let all = Line::NamelessSteps {
+    let mut lines = Items::new(alloc);
+    lines.push(Line::Step { step })?;
+    if let Some(operator) = like(task, plan.step(step - 1)) {
+        lines.push(Line::SimilarOperator { operator })?;
+    }
+    lines.push(Line::NamelessSteps {
         count: history.nameless,
         steps: plan.steps(),
-    };
-    let mut lines = Items::new(alloc);
-    match like(task, plan.step(step - 1)) {
-        Some(operator) => {
-            lines.extend_from_slice(&[first, Line::SimilarOperator { operator }, all])?
-        }
-        None => lines.extend_from_slice(&[first, all])?,
-    }
+    })?;
     Ok(lines)
 }
 
 /// Returns the lines for a step none of whose operators is applicable: the step, and why each of them isn't.
-#[tactic(auto, using(crate::proofs::Faulty::all_reported))]
 fn blocked<T: Grounded>(
     alloc: Global,
     task: &Layered<T>,
@@ -123,29 +118,13 @@ fn blocked<T: Grounded>(
         → ReportsOnce lines (LineThen (Line.Step step) (AreOperatorLines task.now run name.now))) }
 {
     let mut report = Report::new(alloc, task, &history.last)?;
-    report_blocked(task, history, name, step, &mut report)?;
-    Ok(report.into_lines())
-}
-
-/// Reports the step, and why each operator of its name isn't applicable.
-fn report_blocked<T: Grounded>(
-    task: &Layered<T>,
-    history: &PlanHistory,
-    name: &[u8],
-    step: usize,
-    report: &mut Report,
-) -> Result<(), AllocError>
-    requires { IsReportOf task.now history.now report.old }
-    ensures { OnOk result (AddsLines task.now history.now report.old report.new
-        (λ run. LineThen (Line.Step step) (AreOperatorLines task.now run name.now))) }
-{
     report.lines.push(Line::Step { step })?;
     for operator in 0..task.operators() {
         if task.name(operator) == name {
-            report_inapplicable(task, history, operator, report)?;
+            report_inapplicable(task, history, operator, &mut report)?;
         }
     }
-    Ok(())
+    Ok(report.lines)
 }
 
 /// Reports the operator, and the cause of each of its preconditions that fails.
@@ -201,32 +180,17 @@ fn conflicting<T: Grounded>(
     Ok(lines)
 }
 
-/// Returns the lines for the goal facts that fail, each with its cause.
-#[tactic(auto, using(crate::proofs::Faulty::all_reported))]
+/// Returns the lines for the goal facts that fail: how many they are, and each of them with its cause.
 fn missed<T: Grounded>(
     alloc: Global,
-    task: &Layered<T>,
-    history: &PlanHistory,
-) -> Result<Items<Line>, AllocError>
-    requires { (run : Run) × IsBehind task.now history.now run }
-    ensures { IfOk result (λ lines. (run : Run) → IsBehind task.now history.now run
-        → ReportsOnce lines (AreGoalLines task.now run)) }
-{
-    let mut report = Report::new(alloc, task, &history.last)?;
-    report_missed(task, history, &mut report)?;
-    Ok(report.into_lines())
-}
-
-/// Reports how many goal facts fail, and each of them with its cause.
-fn report_missed<T: Grounded>(
     layered: &Layered<T>,
     history: &PlanHistory,
-    report: &mut Report,
-) -> Result<(), AllocError>
-    requires { IsReportOf layered.now history.now report.old }
-    ensures { OnOk result (AddsLines layered.now history.now report.old report.new
-        (AreGoalLines layered.now)) }
+) -> Result<Items<Line>, AllocError>
+    requires { (run : Run) × IsBehind layered.now history.now run }
+    ensures { IfOk result (λ lines. (run : Run) → IsBehind layered.now history.now run
+        → ReportsOnce lines (AreGoalLines layered.now run)) }
 {
+    let mut report = Report::new(alloc, layered, &history.last)?;
     let goal = layered.task().goal();
     report.lines.push(Line::FailingGoalFacts {
         count: count_failing(&history.last, goal),
@@ -237,10 +201,10 @@ fn report_missed<T: Grounded>(
             report.lines.push(Line::GoalFact {
                 index: index as u32,
             })?;
-            report_cause(layered, history, *fact, report)?;
+            report_cause(layered, history, *fact, &mut report)?;
         }
     }
-    Ok(())
+    Ok(report.lines)
 }
 
 /// Returns how many of the facts fail in the state.
@@ -248,13 +212,10 @@ fn count_failing(state: &State, facts: &[Fact]) -> usize
     requires { All (λ (f : Fact). f.var < length state.now) facts.now }
     ensures { result ≡ count_by (fails state.now) facts.now }
 {
-    let mut count = 0;
-    for fact in facts {
-        if state.value(fact.var) != fact.value {
-            count += 1;
-        }
-    }
-    count
+    facts
+        .iter()
+        .filter(|fact| state.value(fact.var) != fact.value)
+        .count()
 }
 
 /// Returns the lines for a cost that differs: what the plan's cost is made of, and a hint if it is right under the other metric.

@@ -1,25 +1,64 @@
 // Laws of reasons.
-ghost use Rattle.sas_plan_reasons.specs.ReasonLaws.{SomeSince, OneSince, SameSince, FrontFolds, SpaceFolds, DoubleFolds, FoldsOnce, LowestLike, SomeMayMean, OneMayMean, RankIfDiffers, OneRank, SomeGiver, OneGiver, GiverFires, GiverLooksDown, ItselfIsLast, NoCircle, AllDiffer, SomeDerivation, OneDerivation, OwnRuleIsLast, DefaultIfNotGiven, EachRuleFails, SomePreconditionFails, OperatorsHaveName, FirstGoalFact, SomeConflict, OneConflict, NoneIsLost, RulesStandOnce, SomeWhy, OneWhy};
-ghost use Rattle.sas_plan_reasons.specs.TraceLaws.{Replays, EndsWithVerdict, CostsAddUp, SomeTrace, OneTrace};
+ghost use Rattle.std.specs.Prelude.{◌≡◌, ◌≢◌, ◌⊎◌, ◌↔◌, ℕ, ◌<◌, ◌≤◌, IsTrue, List, [], ◌∷◌, ◌++◌, length, Some, bytes_eq, filter, find, All, AllPairs, Contains, slice_index, sum_by};
+ghost use Rattle.sas_core.specs.declared.parts.Operator.{Operator};
+ghost use Rattle.sas_core.specs.declared.parts.Parts.{Parts};
+ghost use Rattle.sas_core.specs.PlanParts.{PlanParts};
+ghost use Rattle.sas_core.specs.Variables.{IsDerived};
+ghost use Rattle.sas_core.specs.declared.parts.Fact.{Fact};
+ghost use Rattle.sas_core.specs.Grounded.{rule_at};
+ghost use Rattle.sas_meaning.specs.States.{AllHold};
+ghost use Rattle.sas_meaning.specs.Layers.{IsBasic, IsOnLayer, default_of, CanFire, IsLayered};
+ghost use Rattle.sas_meaning.specs.Settled.{differs, IsSettled};
+ghost use Rattle.sas_meaning.specs.Steps.{preconditions, Agree};
+ghost use Rattle.sas_meaning.specs.Places.{places};
+ghost use Rattle.sas_run.specs.Named.{IsNamed};
+ghost use Rattle.sas_run.specs.declared.plan_check.PlanFault.{PlanFault};
+ghost use Rattle.sas_run.specs.Plans.{IsApplicable};
+ghost use Rattle.sas_run.specs.Verdicts.{IsFirstMissed, IsFaultOf};
+ghost use Rattle.sas_run.specs.Runs.{Run, state_at, StepsSucceed};
+ghost use Rattle.sas_plan_reasons.specs.Lowest.{AreLowest};
+ghost use Rattle.sas_plan_reasons.specs.MayMean.{folded, similar_operator, IsOther, MayMean};
+ghost use Rattle.sas_plan_reasons.specs.Derivation.{IsRank, IsGivenBy, InDerivation, ComesBefore, IsDerivation};
+ghost use Rattle.sas_answers.specs.declared.line.Line.{Line};
+ghost use Rattle.sas_answers.specs.Line.{is_rule_line};
+ghost use Rattle.sas_plan_reasons.specs.Lines.{with_lines};
+ghost use Rattle.sas_plan_reasons.specs.Cause.{value_at, IsSince, fails, can_be_given};
+ghost use Rattle.sas_plan_reasons.specs.WhyPlan.{ConflictsWith, IsWhy};
+ghost use Rattle.sas_core.specs.Tasks.{cost_of};
+ghost use Rattle.sas_core.specs.WellRanged.{WellRanged};
+ghost use Rattle.sas_answers.specs.declared.ending.Status.TheVariants.{Yes};
+ghost use Rattle.sas_answers.specs.Ending.{Output};
+ghost use Rattle.sas_answers.specs.Answers.{VerdictAnswer};
+ghost use Rattle.sas_plan_reasons.specs.Traced.{TraceVerdict};
+ghost use Rattle.sas_plan_reasons.specs.ReasonLaws.{IsAlike, IsLowestIfAny, RequiresLower, RequiresEarlier, replayed};
 
 /// Ensures the laws of changes. In a run each variable has exactly one last change, and keeps its value from there on.
 pub fn since_laws()
-    ensures some_since { SomeSince }
-    ensures one_since { OneSince }
-    ensures same_since { SameSince }
+    ensures some_since { (run : Run) (var : ℕ) → 0 < length run.states → (since : ℕ)
+        × IsSince run var since }
+    ensures one_since { (run : Run) (var a b : ℕ) → IsSince run var a → IsSince run var b → a ≡ b }
+    ensures same_since { (run : Run) (var since : ℕ) → IsSince run var since → (later : ℕ)
+        → since ≤ later → later < length run.states
+        → value_at run later var ≡ value_at run since var }
 {}
 
 /// Ensures the laws of similar names. Folding ignores spaces at the front and at the end of a name, and spaces behind a space. Folding a
 /// folded name changes nothing. The operator that is reported is the lowest with a similar name, or there is none. Either no step could
 /// also mean another operator, or exactly one is the first, and the lowest such operator is unique.
 pub fn name_laws()
-    ensures front { FrontFolds }
-    ensures space { SpaceFolds }
-    ensures double { DoubleFolds }
-    ensures once { FoldsOnce }
-    ensures lowest_like { LowestLike }
-    ensures some_other { SomeMayMean }
-    ensures one_other { OneMayMean }
+    ensures front { (name : List ℕ) → folded (32 ∷ name) ≡ folded name }
+    ensures space { (name : List ℕ) → folded (name ++ 32 ∷ []) ≡ folded name }
+    ensures double { (front behind : List ℕ)
+        → folded (front ++ 32 ∷ 32 ∷ behind) ≡ folded (front ++ 32 ∷ behind) }
+    ensures once { (name : List ℕ) → folded (folded name) ≡ folded name }
+    ensures lowest_like { (p : Parts) (name : List ℕ)
+        → IsLowestIfAny (IsAlike p name) (similar_operator p name) }
+    ensures some_other { (p : Parts) (run : Run)
+        → ((step operator : ℕ) × MayMean p run step operator)
+        ⊎ ((k operator : ℕ) → IsOther p run k operator → ⊥) }
+    ensures one_other { (p : Parts) (run : Run) (step operator step' operator' : ℕ)
+        → MayMean p run step operator → MayMean p run step' operator' → (step ≡ step')
+        × (operator ≡ operator') }
 {}
 
 /// Ensures the laws of derivations, in a settled state of a layered task.
@@ -31,18 +70,36 @@ pub fn name_laws()
 ///   before itself.
 /// - A derived variable that differs from its default has exactly one derivation, whose last rule gives it its value.
 pub fn derivation_laws()
-    ensures rank { RankIfDiffers }
-    ensures one_rank { OneRank }
-    ensures some_rule { SomeGiver }
-    ensures one_rule { OneGiver }
-    ensures fires { GiverFires }
-    ensures looks_down { GiverLooksDown }
-    ensures last { ItselfIsLast }
-    ensures no_circle { NoCircle }
-    ensures differ { AllDiffer }
-    ensures some_derivation { SomeDerivation }
-    ensures one_derivation { OneDerivation }
-    ensures own_last { OwnRuleIsLast }
+    ensures rank { (p : Parts) (s : List ℕ) (layer var : ℕ) → IsLayered p → IsSettled p s
+        → IsOnLayer p layer var → ((rank : ℕ) × IsRank p layer s var rank)
+        ↔ IsTrue (differs p s var) }
+    ensures one_rank { (p : Parts) (s : List ℕ) (layer var a b : ℕ) → IsRank p layer s var a
+        → IsRank p layer s var b → a ≡ b }
+    ensures some_rule { (p : Parts) (s : List ℕ) (layer var : ℕ) → IsLayered p → IsSettled p s
+        → IsOnLayer p layer var → IsTrue (differs p s var) → (rule : ℕ) × IsGivenBy p s var rule }
+    ensures one_rule { (p : Parts) (s : List ℕ) (var a b : ℕ) → IsGivenBy p s var a
+        → IsGivenBy p s var b → a ≡ b }
+    ensures fires { (p : Parts) (s : List ℕ) (var rule : ℕ) → IsLayered p → IsSettled p s
+        → IsGivenBy p s var rule → AllHold (slice_index s) (rule_at p rule).conditions
+        × ((rule_at p rule).var ≡ var) × ((rule_at p rule).new ≡ slice_index s var) }
+    ensures looks_down { (p : Parts) (s : List ℕ) (var rule : ℕ) → IsLayered p → IsSettled p s
+        → IsGivenBy p s var rule
+        → All (λ (c : Fact). IsBasic p c.var ⊎ (RequiresLower p var c ⊎ RequiresEarlier p s var c))
+        (rule_at p rule).conditions }
+    ensures last { (p : Parts) (s : List ℕ) (var other : ℕ) → IsLayered p → IsSettled p s
+        → InDerivation p s var other → (other ≡ var) ⊎ ComesBefore p s other var }
+    ensures no_circle { (p : Parts) (s : List ℕ) (a b : ℕ) → ComesBefore p s a b
+        → ComesBefore p s b a → ⊥ }
+    ensures differ { (p : Parts) (s : List ℕ) (var other : ℕ) → IsLayered p → IsSettled p s
+        → IsTrue (differs p s var) → InDerivation p s var other → IsTrue (differs p s other) }
+    ensures some_derivation { (p : Parts) (s : List ℕ) (layer var : ℕ) → IsLayered p → IsSettled p s
+        → IsOnLayer p layer var → IsTrue (differs p s var) → (rules : List ℕ)
+        × IsDerivation p s var rules }
+    ensures one_derivation { (p : Parts) (s : List ℕ) (var : ℕ) (a b : List ℕ)
+        → IsDerivation p s var a → IsDerivation p s var b → a ≡ b }
+    ensures own_last { (p : Parts) (s : List ℕ) (var rule : ℕ) (rules : List ℕ) → IsLayered p
+        → IsSettled p s → IsDerivation p s var rules → IsGivenBy p s var rule → (front : List ℕ)
+        × (rules ≡ front ++ rule ∷ []) }
 {}
 
 /// Ensures the laws of causes.
@@ -53,30 +110,54 @@ pub fn derivation_laws()
 /// - If effects that fire don't agree, two of them conflict, and exactly one such pair is reported.
 /// - Removing repeated lines of rules loses no line, and leaves each line of a rule once.
 pub fn cause_laws()
-    ensures default { DefaultIfNotGiven }
-    ensures each_fails { EachRuleFails }
-    ensures some_fails { SomePreconditionFails }
-    ensures named { OperatorsHaveName }
-    ensures first_goal { FirstGoalFact }
-    ensures some_conflict { SomeConflict }
-    ensures one_conflict { OneConflict }
-    ensures none_lost { NoneIsLost }
-    ensures rules_once { RulesStandOnce }
+    ensures default { (p : Parts) (s : List ℕ) (fact : Fact) → IsLayered p → IsSettled p s
+        → IsDerived p.variables fact.var → IsTrue (can_be_given p fact) → IsTrue (fails s fact)
+        → slice_index s fact.var ≡ default_of p fact.var }
+    ensures each_fails { (p : Parts) (s : List ℕ) (rule : ℕ) → IsLayered p → IsSettled p s
+        → rule < length p.rules → CanFire p (rule_at p rule)
+        → slice_index s (rule_at p rule).var ≡ default_of p (rule_at p rule).var → (c : Fact)
+        × (find (fails s) (rule_at p rule).conditions ≡ Some c) }
+    ensures some_fails { (s : List ℕ) (o : Operator) → filter (fails s) (preconditions o) ≡ []
+        → IsApplicable s o }
+    ensures named { (p : Parts) (name : List ℕ) (operator : ℕ)
+        → Contains (places (λ (o : Operator). bytes_eq o.name name) p.operators) operator
+        ↔ IsNamed p name operator }
+    ensures first_goal { (p : Parts) (s : List ℕ) (index : ℕ)
+        → IsFirstMissed (slice_index s) p.goal index → (behind : List ℕ)
+        × (places (fails s) p.goal ≡ index ∷ behind) }
+    ensures some_conflict { (s : List ℕ) (o : Operator) → (Agree s o.effects → ⊥) → (e d : ℕ)
+        × AreLowest (ConflictsWith s o) e d }
+    ensures one_conflict { (s : List ℕ) (o : Operator) (e d e' d' : ℕ)
+        → AreLowest (ConflictsWith s o) e d → AreLowest (ConflictsWith s o) e' d' → (e ≡ e')
+        × (d ≡ d') }
+    ensures none_lost { (lines : List Line) (line : Line) → Contains (with_lines [] lines) line
+        ↔ Contains lines line }
+    ensures rules_once { (lines : List Line)
+        → AllPairs (λ a b. IsTrue (is_rule_line a) → a ≢ b) (with_lines [] lines) }
 {}
 
 /// Ensures that each fault of a plan of a layered task has exactly one list of reasons.
 pub fn why_laws()
-    ensures some { SomeWhy }
-    ensures one { OneWhy }
+    ensures some { (p : Parts) (plan : PlanParts) (fault : PlanFault) → IsLayered p
+        → IsFaultOf p plan fault → (lines : List Line) × IsWhy p plan fault lines }
+    ensures one { (p : Parts) (plan : PlanParts) (fault : PlanFault) (a b : List Line) → IsLayered p
+        → IsWhy p plan fault a → IsWhy p plan fault b → a ≡ b }
 {}
 
 /// Ensures the laws of traces. The changes, written over the initial values in turn, give the state after each step. The answer
 /// that there is without it follows the trace. The costs of a valid plan's steps add up to its cost. A plan of a layered task has
 /// one trace.
 pub fn trace_laws()
-    ensures replays { Replays }
-    ensures verdict { EndsWithVerdict }
-    ensures costs { CostsAddUp }
-    ensures some { SomeTrace }
-    ensures one { OneTrace }
+    ensures replays { (p : Parts) (run : Run) (k : ℕ) → WellRanged p → StepsSucceed p run
+        → k ≤ length run.steps → replayed p run k ≡ state_at run k }
+    ensures verdict { (p : Parts) (plan : PlanParts) (output : Output) → TraceVerdict p plan output
+        → (verdict : Output) × VerdictAnswer p plan verdict × (front : List ℕ)
+        × (output.text ≡ front ++ verdict.text) × (output.status ≡ verdict.status) }
+    ensures costs { (p : Parts) (plan : PlanParts) (output : Output)
+        (trace : TraceVerdict p plan output) → output.status ≡ Yes
+        → sum_by (cost_of p) trace.run.operators ≡ plan.cost }
+    ensures some { (p : Parts) (plan : PlanParts) → WellRanged p → IsLayered p → (output : Output)
+        × TraceVerdict p plan output }
+    ensures one { (p : Parts) (plan : PlanParts) (a b : Output) → IsLayered p
+        → TraceVerdict p plan a → TraceVerdict p plan b → a ≡ b }
 {}

@@ -1,5 +1,6 @@
 // The operator with a similar name.
-ghost use Rattle.std.specs.Prelude.{◌≡◌, ◌↔◌, ◌<◌, [], ◌∷◌, length, IsTrue, IfSome, IfNone};
+ghost use Rattle.std.specs.Prelude.{◌≡◌, ◌≢◌, ◌↔◌, ◌<◌, [], ◌∷◌, length, IsTrue, IfSome, IfNone};
+ghost use Rattle.std.specs.Char.{to_ascii_lowercase};
 ghost use Rattle.sas_plan_reasons.specs.MayMean.{after_spaces, squeezed, folded, similar_operator};
 
 use sas_core::Grounded;
@@ -10,11 +11,35 @@ pub fn like<T: Grounded>(task: &T, name: &[u8]) -> Option<u32>
     ensures { result ≡ similar_operator (T.says task.now) name.now }
 {
     for operator in 0..task.operators() {
-        if are_alike(task.name(operator), name) {
+        let other = task.name(operator);
+        if !end_apart(other, name) && are_alike(other, name) {
             return Some(operator);
         }
     }
     None
+}
+
+/// Returns whether the ends of the names show that their folded names differ. Most names differ in their last bytes.
+#[tactic(auto, using(crate::proofs::FoldedNames::one_more_same, crate::proofs::FoldedNames::never_alike))]
+fn end_apart(name: &[u8], other: &[u8]) -> bool
+    ensures { IsTrue result → folded name.now ≡ folded other.now → ⊥ }
+{
+    let mut end = name.len();
+    let mut others = other.len();
+    while end > 0 && others > 0 && name[end - 1] == other[others - 1] {
+        end -= 1;
+        others -= 1;
+    }
+    end > 0 && others > 0 && differ(name[end - 1], other[others - 1])
+}
+
+/// Returns whether neither of the bytes is a space, and they differ not only in that one is a capital letter.
+fn differ(byte: u8, other: u8) -> bool
+    ensures { IsTrue result → (byte ≢ 32) × (other ≢ 32)
+        × (to_ascii_lowercase byte ≢ to_ascii_lowercase other) }
+{
+    let same = byte.to_ascii_lowercase() == other.to_ascii_lowercase();
+    byte != b' ' && other != b' ' && !same
 }
 
 /// Returns whether the folded names are the same.

@@ -3,7 +3,7 @@ ghost use Rattle.std.specs.Prelude.{◌≡◌, ℕ, ◌+◌, ◌^◌, ◌<◌, �
 ghost use Rattle.sas_core.specs.Grounded.{rule_at};
 ghost use Rattle.sas_core.specs.Variables.{IsState};
 ghost use Rattle.sas_meaning.specs.Settled.{IsSettled};
-ghost use Rattle.sas_plan_reasons.specs.OriginRounds.{HaveOrigins, value_in_round, IsReached, OriginsUpToRound, IsFirstOpen, AtRound, InRound, ContinuesRound, Reaches, AreAllRules, AreBefore, waiting_rules};
+ghost use Rattle.sas_plan_reasons.specs.Origins.{HaveOrigins, value_in_round, IsReached, OriginsUpToRound, IsFirstOpen, AtRound, InRound, ContinuesRound, Reaches, AreAllRules, AreBefore, waiting_rules};
 
 use sas_axioms::{RuleCondition, index_of_all};
 use sas_core::Grounded;

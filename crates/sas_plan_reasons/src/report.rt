@@ -12,6 +12,7 @@ use sas_meaning::{Layered, State};
 use std::alloc::{AllocError, Global};
 
 /// The lines of reasons so far, and what keeps a line of a rule from standing twice.
+#[derive(Drop)]
 pub struct Report {
     pub lines: Items<Line>,
     /// The rules that give derived variables their values, and for which of them there is a line.
@@ -22,23 +23,6 @@ pub struct Report {
     pub kept: Items<bool>,
     /// The rules of one derivation whose lines come next.
     pub next: Vec<u32>,
-}
-
-impl Drop for Report {
-    fn drop(self) {
-        let Report {
-            lines,
-            origins,
-            rules,
-            kept,
-            next,
-        } = self;
-        drop(lines);
-        drop(origins);
-        drop(rules);
-        drop(kept);
-        drop(next);
-    }
 }
 
 impl Report {
@@ -62,19 +46,5 @@ impl Report {
             kept: Items::from_vec(vec![in alloc; false; task.variables() as usize]?),
             next: Vec::new(alloc),
         })
-    }
-
-    /// Returns the lines, and drops all else.
-    pub fn into_lines(self) -> Items<Line>
-        ensures { result ≡ self.lines }
-    {
-        let Report {
-            lines,
-            origins: _,
-            rules: _,
-            kept: _,
-            next: _,
-        } = self;
-        lines
     }
 }

@@ -3,8 +3,7 @@ ghost use Rattle.std.specs.Prelude.{◌≡◌, ◌+◌, ◌<◌, length, IfOk, S
 ghost use Rattle.sas_meaning.specs.DerivedVariables.{AreDerived};
 ghost use Rattle.sas_run.specs.Executions.{IsFound, Executes};
 ghost use Rattle.sas_run.specs.Runs.{Run};
-ghost use Rattle.sas_plan_reasons.specs.Noting.{HavePlaces, looked_at, AddsOther, NotesStep};
-ghost use Rattle.sas_plan_reasons.specs.Retracing.{AreNotes, IsRetraced};
+ghost use Rattle.sas_plan_reasons.specs.Retracing.{HavePlaces, looked_at, AddsOther, NotesStep, AreNotes, IsRetraced};
 
 use crate::changes::Changes;
 use crate::plan_history::{OtherOperator, PlanHistory};
@@ -98,10 +97,7 @@ fn note_step<E: Settle<T> + Drop, T: Grounded, P: Stepwise>(
 fn touched_among<'a>(derived: &'a [u32], touched: &'a ChangedVariables) -> &'a [u32]
     ensures { result.now ≡ looked_at derived.now touched.now }
 {
-    match touched.vars() {
-        Some(variables) => variables,
-        None => derived,
-    }
+    touched.vars().unwrap_or(derived)
 }
 
 /// Returns what is noted of other operators with the next step, which has this number.
@@ -117,8 +113,6 @@ fn other_with<E: Settle<T> + Drop, T: Grounded, P: Stepwise>(
     if noted.is_some() {
         return noted;
     }
-    match execution.later() {
-        Some(operator) => Some(OtherOperator { step, operator }),
-        None => None,
-    }
+    let operator = execution.later()?;
+    Some(OtherOperator { step, operator })
 }

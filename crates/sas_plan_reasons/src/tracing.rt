@@ -8,8 +8,7 @@ ghost use Rattle.sas_answers.specs.Sink.{Pushes};
 ghost use Rattle.sas_run.specs.Executions.{Executes, Advances, next_operator};
 ghost use Rattle.sas_run.specs.Stepping.{ListsChanges};
 ghost use Rattle.sas_run.specs.Runs.{Run};
-ghost use Rattle.sas_plan_reasons.specs.Changed.{ListCoversChanges, change_text};
-ghost use Rattle.sas_plan_reasons.specs.Tracing.{HasTraced};
+ghost use Rattle.sas_plan_reasons.specs.Tracing.{ListCoversChanges, change_text, HasTraced};
 ghost use Rattle.sas_plan_reasons.specs.Trace.{step_line, change_lines, step_lines, run_lines};
 
 use crate::changed::list_changes;

@@ -3,7 +3,7 @@ ghost use Rattle.std.specs.Prelude.{◌≡◌, ℕ, List, false, IfOk};
 ghost use Rattle.sas_core.specs.declared.parts.Parts.{Parts};
 ghost use Rattle.sas_answers.specs.Ending.{EndsCounting, Writes};
 ghost use Rattle.sas_run.specs.Plans.{IsValid};
-ghost use Rattle.sas_plan_reasons.specs.Explained.{IsExplained, MakeAnswer};
+ghost use Rattle.sas_plan_reasons.specs.Report.{IsExplained, MakeAnswer};
 ghost use Rattle.sas_plan_reasons.specs.Retracing.{IsRetraced};
 
 use crate::faults::reasons;

@@ -1,4 +1,5 @@
 -- A layered task has an answer about its groups with reasons, and only one; and how the answer comes about.
+use Rattle.std.proofs.lemmas.Grind.{common_steps}
 use Rattle.sas_task_reasons.proofs.Imports.{◌≡◌, Bool, true, false, IsTrue, IsFalse, ℕ, zero, suc, ◌<◌, ◌≤◌, List, [], ◌∷◌, ◌++◌, length, refl, sym, ap, ◌∙◌, subst, inl, inr, arith, Option, Some, None, cases_eq, ext_get_or, length_push, get_or_push, get_or_append_left, Parts, Verdict, Exclusive, Derived, Initial, Broken, IsJointVerdict, verdict_at, AreJointVerdicts, one_list, some_list, OneAnswer, SomeAnswer, text, groups_status, Reason, OnDerived, verdict_of, IsReasonIfAny, reason_at, AreReasons, why_lines, WhyGroupsAnswer, GroupsAnswerWith, Output}
 use Rattle.sas_task_reasons.proofs.GroupReasons.{one_reason, some_reason}
 use Rattle.sas_task_reasons.proofs.GroupTexts.{plain_lines}
@@ -83,6 +84,4 @@ some_groups_answer p none = some_list p (λ verdicts joint.
 pub answers_with : (wanted : Bool) (p : Parts) (verdicts : List Verdict) (reasons : List (Option Reason)) → AreJointVerdicts p verdicts
     → (IsFalse wanted → reasons ≡ []) → (IsTrue wanted → AreReasons p verdicts reasons) → GroupsAnswerWith wanted p (groups_output p verdicts reasons)
 answers_with true p verdicts reasons joint none are = (verdicts, reasons, joint, are refl, refl)
-answers_with false p verdicts reasons joint none are =
-    let plain = ap (why_lines p verdicts) (none refl) ∙ plain_lines p 0 verdicts in
-    (verdicts, joint, ap (λ (lines : List (List ℕ)). record { text = text lines; status = groups_status verdicts }) plain)
+answers_with false p verdicts reasons joint none are = grind (arith, common_steps, plain_lines)

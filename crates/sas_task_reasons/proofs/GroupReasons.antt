@@ -1,7 +1,7 @@
 -- Each group that isn't exclusive has exactly one reason; that it exists is stated as a double
 -- negation.
 use Rattle.std.proofs.lemmas.Grind.{common_steps}
-use Rattle.sas_task_reasons.proofs.Imports.{◌≡◌, ℕ, ◌==◌, ◌⊎◌, Bool, false, List, length, Option, None, Some, refl, sym, ◌∙◌, ap, subst, inl, inr, arith, eqb-true, eq-eqb, true≢false, cases_lt, find_at, fails_before_first, none-some, slice_get-get_or, All-contains, All, position_or_len, ◌&&◌, not, is_some, slice_index, Fact, Parts, operator_at, group_at, layer_of, Holds, Exclusive, Reason, OnDerived, HoldsTwo, Breaks, IsFirstFailure, holds, verdict_of, TrueOfGroup, NotKeptIfFails, FailsIfNotKept, SomeFirstFailure, OneFirstFailure, SomeReason, OneReason, Derived, Initial, Broken, IsExclusiveIn, IsOnBasic, IsGroupOfOr, fact_same, same_or_itself}
+use Rattle.sas_task_reasons.proofs.Imports.{Failure, IsFailure, IsJointVerdict, IsReason, Keeps, Operator, Verdict, ◌<◌, ◌≢◌, ◌≡◌, ℕ, ◌==◌, ◌⊎◌, Bool, false, List, length, Option, None, Some, refl, sym, ◌∙◌, ap, subst, inl, inr, arith, eqb-true, eq-eqb, true≢false, cases_lt, find_at, fails_before_first, none-some, slice_get-get_or, All-contains, All, position_or_len, ◌&&◌, not, is_some, slice_index, Fact, Parts, operator_at, group_at, layer_of, Holds, Exclusive, Reason, OnDerived, HoldsTwo, Breaks, IsFirstFailure, holds, verdict_of, TrueOfGroup, Derived, Initial, Broken, IsExclusiveIn, IsOnBasic, IsGroupOfOr, fact_same, same_or_itself}
 use Rattle.std.specs.List.{find}
 use Rattle.sas_task_reasons.proofs.Failing.{fails_not_kept, some_failure, some_first, one_first, first_too}
 
@@ -48,16 +48,20 @@ module _ (s : List ℕ) (group : List Fact) where
 
 -- ---- failures
 
-pub not_kept_if_fails : NotKeptIfFails
+pub not_kept_if_fails : (p : Parts) (family : ℕ → Bool) (o : Operator) (group : List Fact) (failure : Failure) → IsFailure (IsGroupOfOr p family group) o group failure
+    → Keeps (IsGroupOfOr p family group) o group → ⊥
 not_kept_if_fails p family o group = fails_not_kept (IsGroupOfOr p family group) o group
 
-pub fails_if_not_kept : FailsIfNotKept
+pub fails_if_not_kept : (p : Parts) (family : ℕ → Bool) (o : Operator) (group : List Fact) → (Keeps (IsGroupOfOr p family group) o group → ⊥)
+    → ((failure : Failure) → IsFailure (IsGroupOfOr p family group) o group failure → ⊥) → ⊥
 fails_if_not_kept p family o group = some_failure (IsGroupOfOr p family group) o group
 
-pub some_first_failure : SomeFirstFailure
+pub some_first_failure : (p : Parts) (family : ℕ → Bool) (o : Operator) (group : List Fact) → (Keeps (IsGroupOfOr p family group) o group → ⊥)
+    → ((failure : Failure) → IsFirstFailure (IsGroupOfOr p family group) o group failure → ⊥) → ⊥
 some_first_failure p family o group = some_first (IsGroupOfOr p family group) o group
 
-pub one_first_failure : OneFirstFailure
+pub one_first_failure : (p : Parts) (family : ℕ → Bool) (o : Operator) (group : List Fact) (a b : Failure) → IsFirstFailure (IsGroupOfOr p family group) o group a
+    → IsFirstFailure (IsGroupOfOr p family group) o group b → a ≡ b
 one_first_failure p family o group = one_first (IsGroupOfOr p family group) o group
 
 -- ---- reasons
@@ -84,10 +88,11 @@ one_says p place (Breaks operator failure) (Breaks operator' failure') same (fam
     is : operator ≡ operator'
     is = cc
 
-pub one_reason : OneReason
+pub one_reason : (p : Parts) (place : ℕ) (verdict : Verdict) (a b : Reason) → IsReason p place verdict a → IsReason p place verdict b → a ≡ b
 one_reason p place verdict a b reason reason' = one_says p place a b (sym reason.reported ∙ reason'.reported) reason.says reason'.says
 
-pub some_reason : SomeReason
+pub some_reason : (p : Parts) (place : ℕ) (verdict : Verdict) → place < length p.groups → IsJointVerdict p place verdict → verdict ≢ Exclusive
+    → ((reason : Reason) → IsReason p place verdict reason → ⊥) → ⊥
 some_reason p place Exclusive exists joint apart none = apart refl
 some_reason p place Derived exists joint apart none =
     elim (found_or_not (find (λ (f : Fact). is_some (layer_of p.variables f.var)) (group_at p place))) [

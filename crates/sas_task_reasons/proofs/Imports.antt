@@ -67,11 +67,9 @@ pub use Rattle.sas_answers.specs.Sink.{Pushes}
 pub use Rattle.sas_answers.specs.declared.ending.Status.{Status}
 pub use Rattle.sas_answers.specs.declared.line.Line.{Line}
 pub use Rattle.sas_task_reasons.specs.Failures.{IsFailure, IsEarlier, IsFirstFailure}
-pub use Rattle.sas_task_reasons.specs.GroupLaws.{NotKeptIfFails, FailsIfNotKept, SomeFirstFailure, OneFirstFailure, SomeReason, OneReason}
+pub use Rattle.sas_task_reasons.specs.ReasonLaws.{IsOtherGiver, IsReportedOther, IsReportedOld, IsWhole, LayerReasonsAreWhole}
 pub use Rattle.sas_task_reasons.specs.GroupReasons.{verdict_of, IsReasonIfAny, reason_at, AreReasons, holds, TrueOfGroup, IsReason}
-pub use Rattle.sas_task_reasons.specs.LayerLaws.{IsOtherGiver, IsReportedOther, IsReportedOld, IsWhole, LayerReasonsAreWhole}
-pub use Rattle.sas_task_reasons.specs.Lowest.{effect_of_failure, IsFirstOfEffect, IsLowestPartner, IsAny, IsFirstStaying, SetsVariable}
-pub use Rattle.sas_task_reasons.specs.Reporting.{GroupsAnswerWith, KeptBelow, IsPending, IsReasonSoFar, AreReasonsSoFar, LacksReason, IsBroken}
+pub use Rattle.sas_task_reasons.specs.Reporting.{effect_of_failure, IsFirstOfEffect, IsLowestPartner, IsAny, IsFirstStaying, SetsVariable, GroupsAnswerWith, KeptBelow, IsPending, IsReasonSoFar, AreReasonsSoFar, LacksReason, IsBroken}
 pub use Rattle.sas_task_reasons.specs.WhyGroups.{why_lines, WhyGroupsAnswer, explained_group_lines, why_lines_from}
 pub use Rattle.sas_task_reasons.specs.WhyLayers.{layer_reasons, with_reasons, why_refusal, WhyAnswer, WhyCheckAnswer, WhyMutexAnswer}
 pub use Rattle.sas_task_reasons.specs.declared.broken.GreatestFamily.{GreatestFamily}

@@ -1,6 +1,6 @@
 -- The other giver of a rule's variable, where a rule before it has another new value.
 use Rattle.std.proofs.lemmas.Grind.{common_steps}
-use Rattle.sas_task_reasons.proofs.Imports.{◌≡◌, ◌≢◌, ℕ, ◌<◌, ◌≤◌, ◌==◌, Bool, true, false, cond, [], length, take, sym, ap, ◌∙◌, inl, inr, arith, eqb-true, eq-eqb, Some, None, ◌&&◌, not, position_or_len, lt-ltb, cases_lt, fails_before_first, passes_at_first, Effect, Parts, rule_at, CanFire, can_fire, agrees_with, fires, agrees_with_earlier, IsOtherGiver, IsReportedOther}
+use Rattle.sas_task_reasons.proofs.Imports.{◌≡◌, ◌≢◌, ℕ, ◌<◌, ◌≤◌, ◌==◌, Bool, true, false, cond, [], length, take, sym, ap, ◌∙◌, arith, eqb-true, eq-eqb, Some, None, ◌&&◌, not, position_or_len, lt-ltb, cases_lt, fails_before_first, passes_at_first, Effect, Parts, rule_at, CanFire, can_fire, agrees_with, fires, agrees_with_earlier, IsOtherGiver, IsReportedOther}
 
 abbrev none : Effect
 none = record { conditions = []; var = 0; old = None; new = 0 }
@@ -66,7 +66,4 @@ module _ (p : Parts) (place : ℕ) (within : place < length p.rules) where
       }
 
   pub other_reported : agrees_with p (take place p.rules) rule ≡ false → (other : ℕ) × IsReportedOther p place other
-  other_reported disagrees = elim (cases_lt lowest place) [
-    | inl before ↦ (lowest, is_reported before)
-    | inr past ↦ absurd (let agree = all_agree past in let apart : true ≡ false = sym agree ∙ disagrees in cc)
-  ]
+  other_reported disagrees = grind (arith, common_steps, cases_lt, is_reported, all_agree)

@@ -1,9 +1,7 @@
 -- The modules that public contracts cite.
 pub mod Failures
 pub mod GroupReasons
-pub mod GroupLaws
-pub mod Lowest
 pub mod Reporting
 pub mod WhyGroups
 pub mod WhyLayers
-pub mod LayerLaws
+pub mod ReasonLaws

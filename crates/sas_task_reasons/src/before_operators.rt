@@ -98,7 +98,7 @@ fn first_initial<T: Grounded>(task: &Layered<T>, facts: &[Fact]) -> Option<Fact>
     facts
         .iter()
         .copied()
-        .find(|fact| holds_initially(task, *fact))
+        .find(|fact| task.initial_value(fact.var) == fact.value)
 }
 
 /// Returns the first of the facts that holds in the state section and is on another variable.
@@ -107,16 +107,5 @@ fn first_beside<T: Grounded>(task: &Layered<T>, facts: &[Fact], var: u32) -> Opt
     ensures { result
         ≡ find (λ (f : Fact). spec.holds task.now.init f && not (f.var == var)) facts.now }
 {
-    facts
-        .iter()
-        .copied()
-        .find(|fact| holds_initially(task, *fact) && fact.var != var)
-}
-
-/// Returns whether the fact holds in the state section.
-fn holds_initially<T: Grounded>(task: &Layered<T>, fact: Fact) -> bool
-    requires { fact.var < length task.now.variables }
-    ensures { result ≡ spec.holds task.now.init fact }
-{
-    task.initial_value(fact.var) == fact.value
+    facts.iter().copied().find(|fact| task.initial_value(fact.var) == fact.value && fact.var != var)
 }

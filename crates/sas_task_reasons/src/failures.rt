@@ -7,7 +7,7 @@ ghost use Rattle.sas_groups.specs.Kept.{family_of};
 ghost use Rattle.sas_mutex.specs.Effects.{IsKept};
 ghost use Rattle.sas_mutex.specs.Firing.{operator_of, effect_of};
 ghost use Rattle.sas_mutex.specs.ByNotes.{IsNotedAt, EffectKeepsGroup, EffectKeepsGroupWithItself};
-ghost use Rattle.sas_task_reasons.specs.Lowest.{IsFirstStaying, IsFirstOfEffect};
+ghost use Rattle.sas_task_reasons.specs.Reporting.{IsFirstStaying, IsFirstOfEffect};
 
 use crate::lowest::lowest_together;
 use crate::reason::Failure;

@@ -92,21 +92,8 @@ fn push_groups<W: Write>(
         (text (why_lines task.now verdicts.now reasons.now)) }
 {
     for (place, verdict) in verdicts.iter().enumerate() {
-        let group = Group {
-            place,
-            verdict: *verdict,
-            reason: reason_of(reasons, place),
-        };
-        push_group(sink, task, group);
+        push_group(sink, task, place, *verdict, reason_of(reasons, place));
     }
-}
-
-/// The verdict on the group at a place, and why it isn't exclusive.
-#[derive(Clone, Copy)]
-struct Group {
-    place: usize,
-    verdict: Verdict,
-    reason: Option<Reason>,
 }
 
 /// Returns the reason at this place, if there is one.
@@ -116,14 +103,20 @@ fn reason_of(reasons: &[Option<Reason>], place: usize) -> Option<Reason>
     reasons.get(place).copied().unwrap_or(None)
 }
 
-/// Adds the lines of the group, each with its end, to the text.
-fn push_group<W: Write>(sink: &mut Sink<'_, W>, task: &FlatTask, group: Group)
+/// Adds the lines of the group at this place, each with its end, to the text.
+fn push_group<W: Write>(
+    sink: &mut Sink<'_, W>,
+    task: &FlatTask,
+    place: usize,
+    verdict: Verdict,
+    reason: Option<Reason>,
+)
     ensures { Pushes W.contents sink.old sink.new
-        (text (spec.explained_group_lines task.now group.place group.verdict group.reason)) }
+        (text (spec.explained_group_lines task.now place verdict reason)) }
 {
-    push_verdict(sink, group.place, group.verdict);
-    if let Some(reason) = group.reason {
-        push_why(sink, task, group.place, reason);
+    push_verdict(sink, place, verdict);
+    if let Some(reason) = reason {
+        push_why(sink, task, place, reason);
     }
 }
 

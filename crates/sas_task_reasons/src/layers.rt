@@ -19,92 +19,49 @@ pub fn layer_reasons(
 ) -> Result<Items<Line>, AllocError>
     ensures { IfOk result (λ lines. lines ≡ spec.layer_reasons task.now fault) }
 {
+    let mut lines = Items::new(alloc);
     match fault {
         LayerFault::EffectOnDerived { operator, effect } => {
-            effect_reasons(alloc, task, operator, effect)
+            lines.push(Line::NamedOperator { operator })?;
+            lines.push(Line::EffectSets { operator, effect })?;
+            push_layer(task, set_by(task, operator, effect).var, &mut lines)?;
         }
-        LayerFault::RuleOnBasic { rule } => rule_reasons(alloc, rule),
-        LayerFault::OldValue { rule } => old_reasons(alloc, task, rule),
-        LayerFault::TwoValues { rule } => value_reasons(alloc, task, rule),
-        LayerFault::LayerOrder { rule, condition } => order_reasons(alloc, task, rule, condition),
-        LayerFault::Memory => Ok(Items::new(alloc)),
+        LayerFault::RuleOnBasic { rule } => lines.push(Line::Rule { rule })?,
+        LayerFault::OldValue { rule } => push_values(task, rule, &mut lines)?,
+        LayerFault::TwoValues { rule } => {
+            lines.push(Line::Rule { rule })?;
+            if let Some(other) = other_giver(task, rule) {
+                lines.push(Line::Rule { rule: other })?;
+            }
+        }
+        LayerFault::LayerOrder { rule, condition } => {
+            lines.push(Line::Rule { rule })?;
+            push_layer(task, change_by(task, rule).var, &mut lines)?;
+            let fact = condition_of(task, rule, condition);
+            lines.push(Line::ConditionRequires { condition, fact })?;
+            push_layer(task, fact.var, &mut lines)?;
+        }
+        LayerFault::Memory => {}
     }
-}
-
-/// Returns the lines for an effect on a derived variable.
-fn effect_reasons(
-    alloc: Global,
-    task: &FlatTask,
-    operator: u32,
-    effect: u32,
-) -> Result<Items<Line>, AllocError>
-    ensures { IfOk result (λ lines.
-        lines ≡ spec.layer_reasons task.now (fault.EffectOnDerived operator effect)) }
-{
-    let mut lines = Items::new(alloc);
-    lines.push(Line::NamedOperator { operator })?;
-    lines.push(Line::EffectSets { operator, effect })?;
-    push_layer(task, set_by(task, operator, effect).var, &mut lines)?;
     Ok(lines)
 }
 
-/// Returns the line for a rule on a basic variable.
-fn rule_reasons(alloc: Global, rule: u32) -> Result<Items<Line>, AllocError>
-    ensures { IfOk result (λ lines. lines ≡ Line.Rule rule ∷ []) }
+/// Adds the lines for a rule with an old value that isn't the default.
+fn push_values(task: &FlatTask, rule: u32, lines: &mut Items<Line>) -> Result<(), AllocError>
+    ensures { OnOk result (lines.new
+        ≡ lines.old ++ spec.layer_reasons task.now (fault.OldValue rule)) }
 {
-    let mut lines = Items::new(alloc);
-    lines.push(Line::Rule { rule })?;
-    Ok(lines)
-}
-
-/// Returns the lines for a rule with an old value that isn't the default.
-fn old_reasons(alloc: Global, task: &FlatTask, rule: u32) -> Result<Items<Line>, AllocError>
-    ensures { IfOk result (λ lines. lines ≡ spec.layer_reasons task.now (fault.OldValue rule)) }
-{
-    let mut lines = Items::new(alloc);
     lines.push(Line::Rule { rule })?;
     let change = change_by(task, rule);
+    let var = change.var;
     if let Some(value) = change.old {
-        let fact = Fact {
-            var: change.var,
-            value,
-        };
-        lines.push(Line::OldValue { fact })?;
+        lines.push(Line::OldValue {
+            fact: Fact { var, value },
+        })?;
     }
-    let fact = default_fact(task, change.var);
-    lines.push(Line::DefaultValue { fact })?;
-    Ok(lines)
-}
-
-/// Returns the lines for a rule that derives another value than an earlier one.
-fn value_reasons(alloc: Global, task: &FlatTask, rule: u32) -> Result<Items<Line>, AllocError>
-    ensures { IfOk result (λ lines. lines ≡ spec.layer_reasons task.now (fault.TwoValues rule)) }
-{
-    let mut lines = Items::new(alloc);
-    lines.push(Line::Rule { rule })?;
-    if let Some(other) = other_giver(task, rule) {
-        lines.push(Line::Rule { rule: other })?;
-    }
-    Ok(lines)
-}
-
-/// Returns the lines for a condition that doesn't look down.
-fn order_reasons(
-    alloc: Global,
-    task: &FlatTask,
-    rule: u32,
-    condition: u32,
-) -> Result<Items<Line>, AllocError>
-    ensures { IfOk result (λ lines.
-        lines ≡ spec.layer_reasons task.now (fault.LayerOrder rule condition)) }
-{
-    let mut lines = Items::new(alloc);
-    lines.push(Line::Rule { rule })?;
-    push_layer(task, change_by(task, rule).var, &mut lines)?;
-    let fact = condition_of(task, rule, condition);
-    lines.push(Line::ConditionRequires { condition, fact })?;
-    push_layer(task, fact.var, &mut lines)?;
-    Ok(lines)
+    lines.push(Line::DefaultValue {
+        fact: default_fact(task, var),
+    })
 }
 
 /// Adds the line of the variable's layer, if it is derived.

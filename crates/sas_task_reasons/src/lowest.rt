@@ -3,7 +3,7 @@ ghost use Rattle.std.specs.Prelude.{Contains};
 ghost use Rattle.sas_groups.specs.Families.{IsIn};
 ghost use Rattle.sas_groups.specs.Kept.{family_of};
 ghost use Rattle.sas_mutex.specs.ByNotes.{IsNotedAt};
-ghost use Rattle.sas_task_reasons.specs.Lowest.{IsLowestPartner, IsAny, SetsVariable};
+ghost use Rattle.sas_task_reasons.specs.Reporting.{IsLowestPartner, IsAny, SetsVariable};
 
 use sas_core::Grounded;
 use sas_mutex::{FiringEffect, Marks, begins_run};

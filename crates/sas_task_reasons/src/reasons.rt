@@ -68,19 +68,9 @@ fn report_breaking<T: Grounded>(
 fn some_broken(verdicts: &[Verdict]) -> bool
     ensures { IsFalse result → All (λ (verdict : Verdict). IsBroken verdict → ⊥) verdicts.now }
 {
-    for verdict in verdicts {
-        if is_broken(*verdict) {
-            return true;
-        }
-    }
-    false
-}
-
-/// Returns whether the verdict is `Broken`.
-fn is_broken(verdict: Verdict) -> bool
-    ensures { IsTrue result ↔ IsBroken verdict }
-{
-    matches!(verdict, Verdict::Broken { .. })
+    verdicts
+        .iter()
+        .any(|verdict| matches!(verdict, Verdict::Broken { .. }))
 }
 
 /// Returns for each operator whether it breaks a group.

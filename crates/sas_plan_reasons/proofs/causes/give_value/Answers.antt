@@ -1,5 +1,7 @@
 -- All rules derive the value that the first derives.
-use Rattle.sas_plan_reasons.proofs.Imports.{sym, ◌∙◌, ap, subst, ◌==◌, Contains, Change, of_variable}
+use Rattle.std.proofs.lemmas.Grind.{common_steps}
+use Rattle.std.proofs.Common.{arith}
+use Rattle.sas_plan_reasons.proofs.Imports.{sym, ◌∙◌, subst, Contains, of_variable}
 use Rattle.sas_plan_reasons.proofs.RulesOf.{none_gives, one_gives, first_is, first_is_none}
 use Rattle.sas_plan_reasons.proofs.causes.give_value.Goals as goal
 
@@ -10,10 +12,7 @@ rule_change-requires g c =
     (first_is c.args.rules.now c.in-Some.rule.now (sym c.in-Some.ensures.value)))).0
 
 pub returns-in-Some : goal.returns-in-Some
-returns-in-Some g c =
-    ap (λ n. n == c.args.fact.value) (ap (λ (x : Change). x.new) (rw c.task.ensures.task at c.rule_change.ensures))
-    ∙ sym (one_gives _ c.task.ensures.layered _ _ (subst (λ l. Contains l c.in-Some.rule.now) c.requires
-    (first_is _ _ (sym c.in-Some.ensures.value))))
+returns-in-Some g c = grind (arith, common_steps, one_gives, first_is)
 
 pub returns-in-None : goal.returns-in-None
 returns-in-None g c =

@@ -1,5 +1,6 @@
 -- One effect more: it doesn't fire, or it is the first on its variable, or the first one agrees with it or contradicts it.
-use Rattle.sas_plan_reasons.proofs.Imports.{◌≡◌, ℕ, ◌+◌, ◌∙◌, List, length, set, Option, Some, sym, ap, subst, arith, slice_index, Change, operator_at, effect_at, AllHold, effect_within, first_on, AreFirstEffects}
+use Rattle.std.proofs.lemmas.Grind.{common_steps}
+use Rattle.sas_plan_reasons.proofs.Imports.{◌≡◌, ℕ, ◌+◌, ◌∙◌, List, set, Option, Some, sym, ap, subst, arith, slice_index, Change, operator_at, effect_at, AllHold, effect_within, first_on, AreFirstEffects}
 use Rattle.sas_plan_reasons.proofs.Firsts.{quiet, again, first_here, contradicted}
 use Rattle.sas_plan_reasons.proofs.conflicts.contradicting.Goals as goal
 
@@ -10,16 +11,10 @@ returns-then-not-holds_all-clause-none g c =
     let not = c.if-not-holds_all.true in absurd cc)
 
 pub bounds : goal.bounds
-bounds g c =
-    let lt = effect_within c.args.layered.now c.task-task.ensures.well_ranged c.args.operator c.requires.operator c.args.effect c.requires.effect in
-    let var = ap (λ (x : Change). x.var) (rw c.task-task.ensures.task at c.effect_change-change.ensures) in
-    omega (arith, ap (λ (l : List (Option ℕ)). length l) c.as_slice.ensures, c.requires.firsts.one_each, var, lt)
+bounds g c = grind (arith, common_steps, effect_within)
 
 pub set-requires : goal.set-requires
-set-requires g c =
-    let lt = effect_within c.args.layered.now c.task-task.ensures.well_ranged c.args.operator c.requires.operator c.args.effect c.requires.effect in
-    let var = ap (λ (x : Change). x.var) (rw c.task-task.ensures.task at c.effect_change-change.ensures) in
-    omega (arith, c.requires.firsts.one_each, var, lt)
+set-requires g c = grind (arith, common_steps, effect_within)
 
 pub effect_change-requires-clause-effect : goal.effect_change-requires-clause-effect
 effect_change-requires-clause-effect g c =

@@ -1,4 +1,6 @@
 -- The operator, and then each precondition in turn.
+use Rattle.std.proofs.lemmas.Grind.{common_steps}
+use Rattle.std.proofs.Common.{arith}
 use Rattle.sas_plan_reasons.proofs.Imports.{◌≡◌, ◌<◌, List, [], ◌∷◌, ◌++◌, length, refl, sym, ◌∙◌, ap, subst, append_assoc, filter, All, append-nil, All-head, All-rest, Fact, operator_at, preconditions, LinesOfEach, last_state, fails, IsCause}
 use Rattle.sas_answers.specs.declared.line.Line.TheVariants.{Operator}
 use Rattle.sas_plan_reasons.proofs.Within.{preconditions_have_values}
@@ -7,16 +9,7 @@ use Rattle.sas_plan_reasons.proofs.Faulty.{one_more_fails, one_more_holds, at_la
 use Rattle.sas_plan_reasons.proofs.faults.report_inapplicable.Goals as goal
 
 pub loop-fact-init : goal.loop-fact-init
-loop-fact-init g c =
-    let p = c.args.layered.now in
-    let all = preconditions (operator_at p c.args.operator) in
-    let is : c.into_iter-fact-iterator.result ≡ all = c.into_iter-fact-iterator.ensures.into_iter_gives ∙ (rw c.task.ensures.task at c.new-fact-items.ensures) in
-    record {
-      left = sym is;
-      within = subst (All (λ (f : Fact). f.var < length c.args.history.now.last)) (sym is)
-          (preconditions_have_values p c.task.ensures.well_ranged c.args.history.now.last c.requires.report.1.state c.args.operator c.requires.operator);
-      reported = none_yet p c.args.history.now (λ run. IsCause p run) _;
-    }
+loop-fact-init g c = grind (arith, common_steps, preconditions_have_values, none_yet)
 
 pub value-requires : goal.value-requires
 value-requires g c =

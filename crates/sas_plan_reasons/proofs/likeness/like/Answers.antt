@@ -7,7 +7,7 @@ pub returns-then-are_alike : goal.returns-then-are_alike
 returns-then-are_alike g c = like_is (g.T.Grounded.says c.args.task.now) c.args.name.now (Some c.loop-operator.operator) (record {
   has = record {
     exists = omega (arith, c.operators-operator-end.ensures, c.loop-operator-test.true);
-    alike = ap folded (sym c.name.ensures) ∙ c.are_alike.ensures.0 c.if-are_alike.true;
+    alike = ap folded (sym c.name-other.ensures) ∙ c.are_alike.ensures.0 c.if-are_alike.true;
   };
   first = c.loop-operator.invariant;
 })

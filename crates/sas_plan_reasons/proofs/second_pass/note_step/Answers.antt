@@ -1,14 +1,12 @@
 -- What the step may have changed is looked at, and noted.
-use Rattle.sas_plan_reasons.proofs.Imports.{◌∙◌, length, sym, ap, subst, Parts, IsState, HavePlaces}
+use Rattle.std.proofs.lemmas.Grind.{common_steps}
+use Rattle.std.proofs.Common.{arith}
+use Rattle.sas_plan_reasons.proofs.Imports.{subst, Parts, IsState}
 use Rattle.sas_plan_reasons.proofs.Looking.{covers}
 use Rattle.sas_plan_reasons.proofs.second_pass.note_step.Goals as goal
 
 pub note-requires-clause-places : goal.note-requires-clause-places
-note-requires-clause-places g c =
-    let advances = c.advance.ensures.advances in
-    let fits = c.state.ensures.fits in
-    let many = ap length c.state.ensures.now ∙ fits.one_each ∙ ap (λ (p : Parts). length p.variables) advances.task in
-    subst (λ n. HavePlaces n c.args.notes.now.changes) (sym many) c.requires.places
+note-requires-clause-places g c = grind (arith, common_steps)
 
 pub note-requires-clause-cover : goal.note-requires-clause-cover
 note-requires-clause-cover g c =
@@ -19,9 +17,4 @@ note-requires-clause-cover g c =
     (covers _ _ _ _ _ _ state advances.changes c.requires.derived)
 
 pub returns-clause-notes : goal.returns-clause-notes
-returns-clause-notes g c = record {
-  operator = c.advance.result;
-  advances = c.advance.ensures.advances;
-  other = c.other_with-notes.ensures;
-  changes = rw (c.requires.step, c.state.ensures.now) at c.note.ensures;
-}
+returns-clause-notes g c = grind (arith, common_steps)

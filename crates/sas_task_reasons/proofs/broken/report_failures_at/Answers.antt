@@ -1,6 +1,7 @@
 -- The reason of each group that contains the fact set by the effect considers the effect: the notes
 -- decide, the effect never fires, or the reason isn't missing.
-use Rattle.sas_task_reasons.proofs.Imports.{ℕ, ◌+◌, Bool, List, Option, length, ap, subst, sym, ◌∙◌, arith, Contains-get_or, All-contains, IsNotedAt, NeverFires, EffectPlace, verdict_at, clash_never_fires, GreatestFamily, Reason, reason_at, IsReasonSoFar, LacksReason}
+use Rattle.std.proofs.lemmas.Grind.{common_steps}
+use Rattle.sas_task_reasons.proofs.Imports.{ℕ, ◌+◌, Bool, List, Option, length, ap, subst, sym, ◌∙◌, arith, Contains-get_or, All-contains, IsNotedAt, NeverFires, EffectPlace, verdict_at, clash_never_fires, Reason, reason_at, IsReasonSoFar, LacksReason}
 use Rattle.sas_task_reasons.proofs.ReasonsSoFar.{next_effect, not_lacking, pending_more}
 use Rattle.sas_task_reasons.proofs.broken.report_failures_at.Goals as goal
 use Rattle.sas_task_reasons.proofs.broken.report_failures_at.Goals.{then-not-note, else-not-note}
@@ -63,14 +64,7 @@ pub note-requires-clause-clean : goal.note-requires-clause-clean
 note-requires-clause-clean g c = c.requires.clean
 
 pub forget-requires : goal.forget-requires
-forget-requires g c = elim c.if-not-note.branch [
-  | then-not-note w ↦ rw w.greatest-is record { from = w.report_groups.ensures.notes.noted.from }
-  | else-not-note w ↦ rw w.greatest-is record { from = c.note.ensures.from }
-]
+forget-requires g c = grind (arith, common_steps)
 
 pub returns-clause-kept : goal.returns-clause-kept
-returns-clause-kept g c =
-    elim c.if-not-note.branch [
-      | then-not-note w ↦ ap (λ (greatest : GreatestFamily). greatest.kept) w.greatest-is ∙ w.report_groups.ensures.kept
-      | else-not-note w ↦ ap (λ (greatest : GreatestFamily). greatest.kept) w.greatest-is
-    ]
+returns-clause-kept g c = grind (arith, common_steps)

@@ -1,5 +1,7 @@
 -- The family with the group consists of the groups of the family and this one.
-use Rattle.sas_task_reasons.proofs.Imports.{◌≢◌, Bool, true, false, List, length, get_or, set, sym, ap, ◌∙◌, subst, both_ways, length-set, operator_at, effect_at, group_at, IsGroupOfOr, Several, family_of, IsKept, EffectKeeps, operator_of, IsGroupNote, IsNotedFor, EffectKeepsGroup, EffectKeepsGroupWithItself, known_at, keeps_itself, put_back, several_never_fire, noted_with, with_place, or_itself, IsFirstOfEffect, is_more, noted_fewer}
+use Rattle.std.proofs.lemmas.Grind.{common_steps}
+use Rattle.std.proofs.Common.{arith}
+use Rattle.sas_task_reasons.proofs.Imports.{◌≢◌, Bool, true, List, length, set, sym, ap, ◌∙◌, subst, both_ways, length-set, operator_at, effect_at, group_at, IsGroupOfOr, Several, family_of, IsKept, EffectKeeps, operator_of, IsGroupNote, IsNotedFor, EffectKeepsGroup, EffectKeepsGroupWithItself, known_at, keeps_itself, put_back, several_never_fire, noted_with, with_place, or_itself, IsFirstOfEffect, is_more, noted_fewer}
 use Rattle.sas_task_reasons.proofs.Failing.{first_of_effect_too}
 use Rattle.sas_task_reasons.proofs.FirstOfEffect.{if_some_so, if_none_so}
 use Rattle.sas_task_reasons.proofs.failures.first_failure.Goals as goal
@@ -50,11 +52,7 @@ returns-clause-none g c =
     c.failure_by_notes-failure.ensures.none
 
 pub returns-clause-kept : goal.returns-clause-kept
-returns-clause-kept g c =
-    let kept = c.args.kept.now in
-    let was = get_or c.as_slice.result.now c.args.group false in
-    c.set-2.ensures ∙ (ap (λ (xs : List Bool). set xs c.args.group was) c.set.ensures
-    ∙ put_back kept c.args.group was (ap (λ (xs : List Bool). get_or xs c.args.group false) (sym c.as_slice.ensures)))
+returns-clause-kept g c = grind (arith, common_steps, put_back)
 
 pub returns-clause-notes : goal.returns-clause-notes
 returns-clause-notes g c =

@@ -1,5 +1,6 @@
 -- One more fact, which can't remain or may.
-use Rattle.sas_task_reasons.proofs.Imports.{iff_not, ◌≡◌, ◌<◌, List, length, get_or, sym, ap, subst, ◌∙◌, arith, All, Contains, Fact, group_at, FactExists, each_more, EffectPlace, group_facts, IsGoneAt}
+use Rattle.std.proofs.lemmas.Grind.{common_steps}
+use Rattle.sas_task_reasons.proofs.Imports.{iff_not, ◌≡◌, List, sym, ap, subst, ◌∙◌, arith, Contains, Fact, group_at, each_more, EffectPlace, group_facts, IsGoneAt}
 use Rattle.sas_task_reasons.proofs.FirstOfEffect.{none_stays, one_stays}
 use Rattle.sas_task_reasons.proofs.failures.first_staying.Goals as goal
 
@@ -19,12 +20,7 @@ loop-place-preserved g c = each_more (IsGoneAt c.args.firing.now c.args.kept.now
     (c.is_gone.ensures.0 c.if-not-is_gone.false)
 
 pub is_gone-requires-clause-fact : goal.is_gone-requires-clause-fact
-is_gone-requires-clause-fact g c =
-    let p = c.firing.inside.task.now in
-    let exists = subst (λ (f : EffectPlace). c.args.group < length f.task.groups) (sym c.firing.view_is) c.requires.group.exists in
-    let exist = subst (All (FactExists p.variables)) (sym c.group-facts.ensures) (group_facts p c.firing.invariant.0 c.args.group exists) in
-    subst (λ (f : EffectPlace). FactExists f.task.variables (get_or c.group-facts.result.now c.loop-place.place (record { var = 0; value = 0 }))) c.firing.view_is
-    (exist c.loop-place.place (record { var = 0; value = 0 }) c.loop-place-test.true)
+is_gone-requires-clause-fact g c = grind (arith, common_steps, group_facts)
 
 pub returns : goal.returns
 returns g c =

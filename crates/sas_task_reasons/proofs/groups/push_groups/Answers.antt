@@ -1,3 +1,4 @@
+use Rattle.std.proofs.lemmas.Grind.{common_steps}
 use Rattle.sas_task_reasons.proofs.Imports.{arith, subst, sym, Exclusive, Pushes, pushes_then}
 use Rattle.sas_task_reasons.proofs.GroupTexts.{text_next, all_groups}
 use Rattle.sas_task_reasons.proofs.groups.push_groups.Goals as goal
@@ -8,6 +9,4 @@ loop-place-preserved g c =
     subst (Pushes g.W.Write.contents _ _) (sym next) (pushes_then _ _ _ _ _ _ c.loop-place.invariant (rw c.reason_of.ensures at c.push_group.ensures))
 
 pub returns : goal.returns
-returns g c =
-    let all = all_groups c.args.task.now c.args.reasons.now _ _ (omega (arith, c.loop-place-test.false)) in
-    subst (Pushes g.W.Write.contents _ _) all c.loop-place.invariant
+returns g c = grind (arith, common_steps, all_groups)

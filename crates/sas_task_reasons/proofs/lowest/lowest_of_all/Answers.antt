@@ -1,4 +1,5 @@
 -- One more effect.
+use Rattle.std.proofs.lemmas.Grind.{common_steps}
 use Rattle.sas_task_reasons.proofs.Imports.{iff_not, ◌≡◌, ◌<◌, length, ap, subst, ◌∙◌, below_more, arith, EffectPlace, operator_of}
 use Rattle.sas_task_reasons.proofs.lowest.lowest_of_all.Goals as goal
 use Rattle.sas_task_reasons.proofs.lowest.lowest_of_all.Given.{Over}
@@ -25,10 +26,4 @@ returns-then-not-not_both-clause-lowest g c = record {
 }
 
 pub returns-clause-lowest : goal.returns-clause-lowest
-returns-clause-lowest g c =
-    let all = count g (goal.at.returns-clause-lowest g c).After-effects-effects in
-    record {
-      within = omega (arith, all);
-      may = λ lt. absurd (omega (arith, all, lt));
-      below = λ other lt looked. c.loop-other.invariant.below other (omega (arith, lt, c.loop-other-test.false));
-    }
+returns-clause-lowest g c = grind (arith, common_steps, count)

@@ -1,34 +1,20 @@
 -- Each round leads to the next one, and none is left when no rule is.
-use Rattle.sas_plan_reasons.proofs.Imports.{◌≡◌, ℕ, ◌<◌, ◌==◌, Bool, true, false, Vec, Global, vec_len, [], length, refl, sym, ap, subst, ◌∙◌, inl, inr, arith, cases_lt, false≢true, eqb_tells, InRound, nil_from_length}
+use Rattle.std.proofs.lemmas.Grind.{common_steps}
+use Rattle.sas_plan_reasons.proofs.Imports.{◌≡◌, ℕ, ◌<◌, ◌==◌, Bool, true, false, Vec, Global, vec_len, [], length, refl, ap, subst, arith, cases_lt, false≢true, eqb_tells, InRound, nil_from_length}
 use Rattle.sas_plan_reasons.proofs.RoundEnds.{AreDue, found_all, first_begins, next_begins}
 use Rattle.sas_plan_reasons.proofs.origin_rounds.OriginRounds.finish.Goals as goal
 
 some_rule : (rules : Vec ℕ Global) (empty : Bool) → empty ≡ (vec_len rules == 0) → empty ≡ false → 0 < length rules.items
-some_rule rules empty tested is = elim (eqb_tells (vec_len rules) 0) [
-  | inl w ↦ absurd (false≢true (sym is ∙ (tested ∙ w.0)))
-  | inr w ↦ omega (arith, rules.ok.0, w.1)
-]
+some_rule rules empty tested is = grind (arith, common_steps, eqb_tells, false≢true)
 
 no_rule : (rules : Vec ℕ Global) (empty : Bool) → empty ≡ (vec_len rules == 0) → empty ≡ true → rules.items ≡ []
-no_rule rules empty tested is = elim (eqb_tells (vec_len rules) 0) [
-  | inl w ↦ nil_from_length rules.items (omega (arith, rules.ok.0, w.1))
-  | inr w ↦ absurd (false≢true (sym w.0 ∙ (sym tested ∙ is)))
-]
+no_rule rules empty tested is = grind (arith, common_steps, eqb_tells, nil_from_length, false≢true)
 
 pub loop-self-init : goal.loop-self-init
 loop-self-init g c = first_begins _ _ _ _ c.requires.before c.requires.rules
 
 pub loop-self-smaller : goal.loop-self-smaller
-loop-self-smaller g c =
-    let some = some_rule c.loop-self.rules c.is_empty.result c.is_empty.ensures c.loop-self-test.true in
-    let goes = c.in_ok-look_at_all.ensures.goes_on in
-    let none = ap length c.loop-self.invariant.none in
-    let is = ap (λ v. length v.items) c.swap.ensures.x_after in
-    let fewer = goes.fewer in
-    elim (cases_lt 0 (length c.swap.new.x.items)) [
-      | inl lt ↦ (let f = goes.some (omega arith) in omega arith)
-      | inr le ↦ omega arith
-    ]
+loop-self-smaller g c = grind (arith, common_steps, some_rule, cases_lt)
 
 pub loop-self-preserved : goal.loop-self-preserved
 loop-self-preserved g c =

@@ -1,4 +1,5 @@
 -- A rule that doesn't fire reaches nothing, and one that fires reaches its variable.
+use Rattle.std.proofs.lemmas.Grind.{common_steps}
 use Rattle.sas_plan_reasons.proofs.Imports.{ℕ, ◌<◌, List, ◌∷◌, [], ◌++◌, length, refl, sym, ap, subst, ◌∙◌, arith, on_ok_weaker, Change, Parts, rule_at, layer_of, IsOnLayer, on_layer_within, FiresNext, OriginRounds, InRound}
 use Rattle.sas_plan_reasons.proofs.RoundSteps.{fires_now, looked_none, passed_set, passed_round, reach_round, reach_goes_on, goes_as, sets_default, fails_now, all_hold_now, sets_new}
 use Rattle.sas_plan_reasons.proofs.origin_rounds.OriginRounds.look_at.Goals as goal
@@ -29,10 +30,7 @@ returns-then-place-rule_conditions-clause-looked g c looked inside =
 
 -- the variable exists
 within : (p : Parts) (s : List ℕ) (r : OriginRounds) (looked : List ℕ) (layer var : ℕ) → InRound p s r looked → IsOnLayer p layer var → var < length r.origins.items
-within p s r looked layer var inside on =
-    let e = inside.at.known.one_each in
-    let lt = on_layer_within p layer var on in
-    omega arith
+within p s r looked layer var inside on = grind (arith, common_steps, on_layer_within)
 
 pub reach-requires-clause-var : goal.reach-requires-clause-var
 reach-requires-clause-var g c = within c.args.layered.now c.args.state.now c.args.self.now c.requires.round.0 c.in-Some.layer c.rule_change-change.result.var

@@ -1,6 +1,6 @@
 -- Why the operators so far aren't applicable is reported.
 use Rattle.sas_plan_reasons.proofs.Imports.{bytes_eq, Operator, places_to, LinesOfEach, AreFailedPreconditionLines, AddsLines}
-use Rattle.sas_plan_reasons.proofs.faults.report_blocked.Given as goal
+use Rattle.sas_plan_reasons.proofs.faults.blocked.Given as goal
 
 abbrev pub invariant-loop-operator : goal.invariant-loop-operator
 invariant-loop-operator g l = AddsLines l.task l.history l.initial.report l.report

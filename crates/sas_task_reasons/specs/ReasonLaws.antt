@@ -1,7 +1,7 @@
--- What follows from the definition of the reasons: none of their lines is left out.
+-- Consequences of the definitions: reasons exist and are unique, and none of their lines is left out.
 use Rattle.std.specs.Prelude.{◌≡◌, ◌≢◌, ℕ, ◌<◌, length, Some}
-use Rattle.sas_core.specs.declared.parts.Effect.{Effect}
 use Rattle.sas_core.specs.declared.parts.Parts.{Parts}
+use Rattle.sas_core.specs.declared.parts.Effect.{Effect}
 use Rattle.sas_core.specs.FirstFault.{first_fault}
 use Rattle.sas_core.specs.Grounded.{operator_at, effect_at, rule_at}
 use Rattle.sas_core.specs.Variables.{IsDerived}
@@ -11,6 +11,8 @@ use Rattle.sas_meaning.specs.LayerChecks.{layer_checks}
 use Rattle.sas_meaning.specs.Layers.{CanFire, IsBasic, default_of}
 use Rattle.sas_task_reasons.specs.WhyLayers.{other_giver}
 use Rattle.sas_task_reasons.specs.WhyGroups.{fact_at}
+
+-- ---- why a task isn't layered
 
 -- a rule is of the same variable as this one, can fire, and has another new value
 pub record IsOtherGiver (p : Parts) (rule other : Effect) : Type 0 where

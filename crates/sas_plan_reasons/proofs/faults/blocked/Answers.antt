@@ -1,17 +1,17 @@
 -- The step, and then each operator of its name.
 use Rattle.sas_plan_reasons.proofs.Imports.{◌≡◌, ◌<◌, ℕ, List, [], ◌∷◌, length, bytes_eq, refl, sym, ◌∙◌, ap, arith, operator_at, places_to, places_all, LinesOfEach, AreFailedPreconditionLines, AreOperatorLines, Step}
 use Rattle.sas_plan_reasons.proofs.Composing.{more_is_report, plain_is_report, line_and_more, one_more}
-use Rattle.sas_plan_reasons.proofs.Faulty.{place_more, place_not}
-use Rattle.sas_plan_reasons.proofs.faults.report_blocked.Goals as goal
-use Rattle.sas_plan_reasons.proofs.faults.report_blocked.Goals.{then-eq+in_ok-report_inapplicable, else-eq}
+use Rattle.sas_plan_reasons.proofs.Faulty.{place_more, place_not, all_reported}
+use Rattle.sas_plan_reasons.proofs.faults.blocked.Goals as goal
+use Rattle.sas_plan_reasons.proofs.faults.blocked.Goals.{then-eq+in_ok-report_inapplicable, else-eq}
 
 pub report_inapplicable-requires-clause-report : goal.report_inapplicable-requires-clause-report
 report_inapplicable-requires-clause-report g c =
     let p = c.args.task.now in
     more_is_report p c.args.history.now (λ run. LinesOfEach (AreFailedPreconditionLines p run) (places_to (λ o. bytes_eq o.name c.args.name.now) c.loop-operator.operator p.operators))
     _ c.loop-operator.report c.loop-operator.invariant
-    (plain_is_report p c.args.history.now c.args.report.now c.push.new.self (Step c.args.step ∷ []) (refl, tt) c.in_ok-push.ensures.ok
-    c.requires)
+    (plain_is_report p c.args.history.now c.in_ok-report.report c.push.new.self (Step c.args.step ∷ []) (refl, tt) c.in_ok-push.ensures.ok
+    (c.requires.0, c.requires.1, c.in_ok-report.ensures.report))
 
 pub loop-operator-preserved : goal.loop-operator-preserved
 loop-operator-preserved g c =
@@ -31,4 +31,5 @@ returns g c =
     let p = c.args.task.now in
     let name = c.args.name.now in
     let all = places_all (λ o. bytes_eq o.name name) c.loop-operator.operator p.operators (omega (arith, c.operators-operator-end.ensures, c.loop-operator-test.false)) in
-    line_and_more _ _ _ _ c.push.new.self (Step c.args.step) (λ run. AreOperatorLines p run name) refl c.in_ok-push.ensures.ok (rw all at c.loop-operator.invariant)
+    all_reported p c.args.history.now _ c.in_ok-report.report c.loop-operator.report c.in_ok-report.ensures.report c.in_ok-report.ensures.empty
+    (line_and_more _ _ _ _ c.push.new.self (Step c.args.step) (λ run. AreOperatorLines p run name) refl c.in_ok-push.ensures.ok (rw all at c.loop-operator.invariant))
