@@ -115,9 +115,8 @@ pub use Rattle.sas_task_file.proofs.TaskGrammar.{task_grammar}
 pub use Rattle.sas_task_file.proofs.TaskLaws.{task_laws_hold}
 pub use Rattle.sas_task_file.proofs.TaskSections.{less, is_less, all_map}
 pub use Rattle.sas_task_file.specs.Marks.{fixed_word_bytes}
-pub use Rattle.sas_task_file.specs.Process.{process_node}
+pub use Rattle.sas_task_file.specs.TaskStates.{table_node, table_start}
 pub use Rattle.sas_task_file.specs.TaskFormat.{task_texts, task_format, TaskSlot, word_slot, name_slot, number_slot, signed_slot, fact_slot, effect_slot, head_slot, NumbersKind, no_shape, no_value, TaskLineFits, TaskLine, word, name, signed, fact, task_line_bytes, single_line, between, counted, version_lines, metric_lines, variable_lines, group_lines, state_lines, operator_lines, rule_lines, task_layout}
-pub use Rattle.sas_task_file.specs.TaskProcess.{task_start}
 pub use Rattle.sas_task_file.specs.declared.marks.Due.{Due}
 pub use Rattle.sas_task_file.specs.declared.marks.FixedWord.{FixedWord}
 pub use Rattle.sas_task_file.specs.declared.marks.Location.{Location}

@@ -1,16 +1,15 @@
 -- The counts of a task are those of a tracker over its lines. After the same lines of a task, one
 -- count applies, or none.
-use Rattle.sas_task_file.proofs.Imports.{◌≡◌, ℕ, suc, ◌+◌, ◌-◌, List, [], ◌∷◌, ◌++◌, length, map, refl, sym, ap, ◌∙◌, append_assoc, append-nil, map-append, arith, codes, length-map, Option, Some, None, slice_get, flat_map, Variable, Parts, WellRanged, IsBegun, cut_at, Paired, TaskLine, word, number, fact, single_line, version_lines, metric_lines, variable_lines, group_lines, operator_lines, rule_lines, task_layout, task_line_bytes, task_format, Tracker, tracker_start, track_line, track, row_in, number_in, Counts, ListCount, after_count, counts_start, counts_after, count_at, before_items, list_counts, section_counts, variable_counts, group_counts, operator_counts, rule_counts, task_counts, IsCounted, OneCount, SomeCount}
+use Rattle.sas_task_file.proofs.Imports.{ranges_of, ◌≡◌, ℕ, suc, ◌+◌, ◌-◌, List, [], ◌∷◌, ◌++◌, length, map, refl, sym, ap, ◌∙◌, append_assoc, append-nil, map-append, arith, codes, length-map, Option, Some, None, slice_get, flat_map, Variable, Parts, WellRanged, IsBegun, cut_at, TaskLine, word, number, fact, single_line, version_lines, metric_lines, variable_lines, group_lines, operator_lines, rule_lines, task_layout, task_line_bytes, task_format, Tracker, tracker_start, track_line, track, row_in, number_in, Counts, ListCount, after_count, counts_start, counts_after, count_at, before_items, list_counts, section_counts, variable_counts, group_counts, operator_counts, rule_counts, task_counts, IsCounted, OneCount, SomeCount}
 use Rattle.sas_task_file.specs.declared.places.Place.TheVariants as place
-use Rattle.sas_task_file.proofs.TaskSections.{InRange, state_paired}
+use Rattle.sas_task_file.proofs.TaskSections.{InRanges, state_paired}
 use Rattle.sas_task_file.proofs.TrackedSections.{variables_scan, groups_scan, operators_scan, rules_scan}
-use Rattle.sas_task_file.proofs.TrackedTask.{ranges_in}
 use Rattle.sas_task_file.proofs.Counting.{counts_along, Tells, spelled_so, leading_to, ◌and◌, no_line, each_told, list_told, variable_told, group_told, operator_told, rule_told, section_told}
 use Rattle.sas_task_file.proofs.MarkLaws.{same_items}
 
 -- ---- all lines of a task
 
-many_values : (vs : List Variable) (xs : List ℕ) → Paired InRange vs xs → length vs ≡ length xs
+many_values : (vs : List Variable) (xs : List ℕ) → InRanges vs xs → length vs ≡ length xs
 many_values [] [] h = refl
 many_values [] (x ∷ xs) h = absurd h
 many_values (v ∷ vs) [] h = absurd h
@@ -25,7 +24,7 @@ parts_told a vs gs init goal ops rules n g b e f m w o r i = simp (append_assoc,
 module _ (p : Parts) (good : WellRanged p) where
   -- a tracker behind the variables, with these items left of these many
   abbrev in_section : ℕ → ℕ → Tracker
-  in_section total left = record tracker_start { total = total; left = left; ranges = ranges_in p.variables }
+  in_section total left = record tracker_start { total = total; left = left; ranges = ranges_of p.variables }
 
   -- the lines of the task, and any line behind them
   abbrev behind_all : TaskLine → List TaskLine
@@ -34,7 +33,7 @@ module _ (p : Parts) (good : WellRanged p) where
   told : (i : TaskLine) → (u : Tracker) × (d : Counts) × Tells 1 tracker_start counts_start (behind_all i) (task_counts p) u d
   told i =
       let vs = p.variables in
-      let ranges = ranges_in vs in
+      let ranges = ranges_of vs in
       let first = in_section (length vs) 0 in
       let begin : Tells 1 tracker_start counts_start (version_lines ++ metric_lines p.metric ++ number (length vs) ∷ []) (None ∷ None ∷ None ∷ None ∷ None ∷ None ∷ None ∷ [])
       (record tracker_start { place = place.Variables; total = length vs; left = length vs }) (record counts_start { section = record { line = 7; number = length vs } }) = record { counts = refl; tracks = refl; notes = refl } in

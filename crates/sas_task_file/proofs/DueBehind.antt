@@ -1,10 +1,10 @@
 -- What is expected after the first lines of a task, by a tracker over them.
-use Rattle.sas_task_file.proofs.Imports.{◌≡◌, ℕ, zero, suc, List, [], ◌∷◌, ◌++◌, length, map, refl, sym, ap, subst, ◌∙◌, slice_get, Some, None, append-nil, map-append, length-map, Parts, WellRanged, cut_at, Place, Due, Mark, TaskLine, task_slot, task_line_bytes, task_layout, slot_of_due, task_marks, IsDue, Tracker, tracker_start, by_count, track_line, track, mark_in, Row, row_at}
+use Rattle.sas_task_file.proofs.Imports.{ranges_of, ◌≡◌, ℕ, zero, suc, List, [], ◌∷◌, ◌++◌, length, map, refl, sym, ap, subst, ◌∙◌, slice_get, Some, None, append-nil, map-append, length-map, Parts, WellRanged, cut_at, Place, Due, Mark, TaskLine, task_slot, task_line_bytes, task_layout, slot_of_due, task_marks, IsDue, Tracker, tracker_start, by_count, track_line, track, mark_in, Row, row_at}
 use Rattle.sas_task_file.specs.declared.places.Place.TheVariants as place
 use Rattle.sas_task_file.specs.declared.marks.Due.TheVariants as due
 use Rattle.sas_task_file.specs.declared.marks.Location.TheVariants as at
 use Rattle.sas_task_file.proofs.Tracking.{track_marks, IsBehindVariables, Known, Along}
-use Rattle.sas_task_file.proofs.TrackedTask.{ranges_in, behind_all, task_scan}
+use Rattle.sas_task_file.proofs.TrackedTask.{behind_all, task_scan}
 use Rattle.sas_task_file.proofs.WrongWords.{HasBounds}
 
 -- ---- lines in two parts
@@ -38,8 +38,8 @@ pub record IsAtEnd (t : Tracker) : Type 0 where
   pub mark : mark_in t ≡ end_mark
 
 module _ (v : Parts) (good : WellRanged v) where
-  along_behind : (before more : List TaskLine) → task_layout v ≡ before ++ more → Along (ranges_in v.variables) (track tracker_start before) more
-  along_behind before more e = along_rest (ranges_in v.variables) tracker_start before more (subst (Along (ranges_in v.variables) tracker_start) e (task_scan v good).along)
+  along_behind : (before more : List TaskLine) → task_layout v ≡ before ++ more → Along (ranges_of v.variables) (track tracker_start before) more
+  along_behind before more e = along_rest (ranges_of v.variables) tracker_start before more (subst (Along (ranges_of v.variables) tracker_start) e (task_scan v good).along)
 
   -- the mark of the task there
   pub due_behind : (before : List TaskLine) (i : TaskLine) (more : List TaskLine) → task_layout v ≡ before ++ i ∷ more → slice_get (task_marks v) (length before) ≡ Some (mark_in (track tracker_start before))
@@ -54,7 +54,7 @@ module _ (v : Parts) (good : WellRanged v) where
 
   -- all ranges are known, both at lines with facts and after all lines
   pub ranges_behind : (before more : List TaskLine) → task_layout v ≡ before ++ more → IsBehindVariables (track tracker_start before).place → (track tracker_start before).ranges ≡ map (λ x. length x.values) v.variables
-  ranges_behind before more e = along_known (ranges_in v.variables) (track tracker_start before) more (along_behind before more e)
+  ranges_behind before more e = along_known (ranges_of v.variables) (track tracker_start before) more (along_behind before more e)
 
   all_behind : (items : List TaskLine) → task_layout v ≡ items → track tracker_start items ≡ behind_all v
   all_behind items e = ap (track tracker_start) (sym e) ∙ (task_scan v good).ends

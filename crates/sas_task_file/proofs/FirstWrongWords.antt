@@ -69,17 +69,6 @@ module _ (ranges : List ℕ) (e : Effect) where
   pub change_left : (n : ℕ) → n ≡ length e.conditions → wrong_from n ≡ first_wrong (2 * n + 2) last
   change_left n is = ap (λ (fs : List Fact). first_wrong (2 * n + 2) (flat_map (fact_bounds ranges) fs ++ last)) (ap (λ (m : ℕ). drop m e.conditions) is ∙ drop_all e.conditions)
 
--- ---- by the variables
-
-pub ranges_many : (vs : List Variable) → length (ranges_of vs) ≡ length vs
-ranges_many [] = refl
-ranges_many (v ∷ vs) = ap suc (ranges_many vs)
-
-pub range_is : (vs : List Variable) (var : ℕ) → range_in (ranges_of vs) var ≡ range_of vs var
-range_is [] var = refl
-range_is (v ∷ vs) zero = refl
-range_is (v ∷ vs) (suc var) = range_is vs var
-
 -- ---- the number of a line
 
 -- the number found from the content of the line is its first wrong number, or there is none

@@ -41,7 +41,7 @@ pub use Rattle.sas_reader.proofs.About.{about_laws_of}
 pub use Rattle.sas_reader.proofs.Ends.{ended_line}
 pub use Rattle.sas_reader.proofs.Every.{laws_of}
 pub use Rattle.sas_reader.proofs.Live.{leads_line}
-pub use Rattle.sas_reader.proofs.Paths.{after_ends, cut_at, ends_split, same_path, one_ended}
+pub use Rattle.sas_reader.proofs.Paths.{after_append, ended_stops, after_ends, cut_at, ends_split, same_path, one_ended}
 pub use Rattle.sas_reader.proofs.Plain.{plain-decimal, plain_lines}
 pub use Rattle.sas_reader.specs.About.{of_line, of_byte, of_end}
 pub use Rattle.sas_reader.specs.Ends.{StandsBefore}
@@ -49,7 +49,7 @@ pub use Rattle.sas_reader.specs.Faults.{IsOfBytes}
 pub use Rattle.sas_reader.specs.Format.{IsBegun, Format, EndOf, KindAt, too_long, trailing, wrong, FaultOf}
 pub use Rattle.sas_reader.specs.Laws.{Laws}
 pub use Rattle.sas_reader.specs.Limit.{most_bytes}
-pub use Rattle.sas_reader.specs.System.{After, LeadsToEnd, Leads, IsAllowed, Grammar, IsRejected}
+pub use Rattle.sas_reader.specs.System.{OneLine, before, ended, After, LeadsToEnd, Leads, IsAllowed, Grammar, IsRejected}
 pub use Rattle.sas_reader.specs.Texts.{lines_of}
 pub use Rattle.sas_reader.specs.declared.fault.Fault.{Fault}
 pub use Rattle.sas_reader.specs.declared.fault.Kind.{Kind}
@@ -58,18 +58,21 @@ pub use Rattle.sas_reader.specs.declared.reader.Front.{Front}
 pub use Rattle.sas_task_file.specs.Ahead.{LineAhead, NumberAhead, SignedAhead, FactAhead, ChangeAhead}
 pub use Rattle.sas_task_file.specs.Counts.{Counted, in_order, uncounted, before_items, list_counts, section_counts, variable_counts, group_counts, operator_counts, rule_counts, task_counts, IsCounted, OneCount, SomeCount}
 pub use Rattle.sas_task_file.specs.FirstWrong.{HasWrong, FirstWrong}
-pub use Rattle.sas_task_file.specs.LinesBefore.{LinesBefore, CountedBefore, AppendedBefore, EffectsBefore, FactsBefore, NamesBefore}
-pub use Rattle.sas_task_file.specs.Marks.{slot_of_due, IsDue, any_number, task_marks, OneDue, SomeDue, between_words, counted_dues, there, variable_dues, group_dues, operator_dues, rule_dues, numbered, positive_number}
-pub use Rattle.sas_task_file.specs.Process.{process_node, done, read, a_line, repeat, each, a_list, Process, Part, Paired}
+pub use Rattle.sas_task_file.specs.LinesBefore.{LinesBefore, AppendedBefore, EffectsBefore, FactsBefore, NamesBefore}
+pub use Rattle.sas_task_file.specs.Marks.{fixed_word_bytes, slot_of_due, IsDue, any_number, task_marks, OneDue, SomeDue, between_words, counted_dues, there, variable_dues, group_dues, operator_dues, rule_dues, numbered, positive_number}
 pub use Rattle.sas_task_file.specs.Sections.{spelled, LinesAhead, VariableAhead, GroupAhead, OperatorAhead, RuleAhead}
 pub use Rattle.sas_task_file.specs.TaskFormat.{TaskLine, TaskLineFits, TaskSlot, task_line_bytes, task_layout, task_format, task_slot, fact, effect, head, word_slot, name_slot, number_slot, signed_slot, fact_slot, effect_slot, head_slot, NumbersKind, no_shape, no_value, TaskKind, task_texts, HasShape, number, word, name, signed, fact_words, head_words, FactNumbers, HeadNumbers, EffectNumbers, effect_words, single_line, between, counted, version_lines, metric_lines, variable_lines, group_lines, goal_lines, operator_lines, rule_lines, state_lines}
 pub use Rattle.sas_task_file.specs.TaskLaws.{number_filling, filling, FillingsInBytes, last_slot, AreFillings, Completion, TaskIsFilled, OneCompletion}
-pub use Rattle.sas_task_file.specs.TaskLine.{IsOfLine}
-pub use Rattle.sas_task_file.specs.TaskProcess.{TaskProcess, task_start, TaskPart, name_in, number_in, signed_in, fact_in, effect_in, head_in, any, positive, may_change, effect_may_stand, head_may_stand, a_word, a_name, a_number, a_signed, a_fact, an_effect, a_head, a_value, a_version, a_metric, a_variable, a_group, a_state, a_goal, an_operator, a_rule, a_task}
-pub use Rattle.sas_task_file.specs.TaskRanges.{fact_in_ranges, effect_in_ranges, change_in_ranges, ranges_of, range_in}
+pub use Rattle.sas_task_file.specs.TaskLine.{IsOfLine, test_of_due}
+pub use Rattle.sas_task_file.specs.TaskStates.{TaskState, table_node, table_start, state_after, node_of_due, one_allocator}
+pub use Rattle.sas_task_file.specs.TaskEvents.{behind_variable, behind_group, behind_operator, behind_rule, no_parts}
+pub use Rattle.sas_task_file.specs.TaskValues.{name_in, number_in, signed_in, fact_in, effect_in, head_in, is_from}
+pub use Rattle.sas_task_file.specs.declared.so_far.SoFar.{SoFar}
+pub use Rattle.sas_task_file.specs.declared.marks.FixedWord.{FixedWord}
+pub use Rattle.sas_task_file.specs.TaskRanges.{value_in, fact_in_ranges, effect_in_ranges, change_in_ranges, ranges_of, range_in}
 pub use Rattle.sas_task_file.specs.TaskReasons.{first_wrong, line_bounds, OneTaskReason, OneWrongWord, Bounded, fact_bounds, change_bounds, IsTaskReason, SomeTaskReason, IsFirstWrong, SpeaksOfFacts, SomeWrongWord, WrongWordIsNamed, below}
 pub use Rattle.sas_task_file.specs.TaskWords.{Spells, TakesNumber, TakesFact, TakesFacts, TakesHead}
-pub use Rattle.sas_task_file.specs.Tracker.{tracker_start, track, mark_in, by_count, track_line, mark, row_at, row_in, IsRow, this_number, counts_start, after_count, counts_after, count_at}
+pub use Rattle.sas_task_file.specs.Tracker.{after_move, tracker_start, track, mark_in, by_count, track_line, mark, row_at, row_in, IsRow, this_number, counts_start, after_count, counts_after, count_at}
 pub use Rattle.sas_task_file.specs.declared.counts.Counts.{Counts}
 pub use Rattle.sas_task_file.specs.declared.counts.ListCount.{ListCount}
 pub use Rattle.sas_task_file.specs.declared.marks.Due.{Due}

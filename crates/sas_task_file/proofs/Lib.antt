@@ -1,12 +1,16 @@
-pub mod SectionReads
+pub mod Ranges
+pub mod Stretches
+pub mod Blocks
+pub mod TaskEnds
+pub mod TableLines
 pub mod TaskSections
 pub mod TaskLines
 pub mod TaskPlain
+mod Fills
 pub mod TaskGrammar
 pub mod TaskFilling
 pub mod TaskLaws
 mod Beginnings
-pub mod RowsOfPlaces
 pub mod Tracking
 pub mod TrackedSections
 pub mod TrackedTask

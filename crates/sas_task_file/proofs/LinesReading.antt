@@ -1,5 +1,5 @@
 -- Reading several lines, each up to its end.
-use Rattle.sas_task_file.proofs.Imports.{◌≡◌, ℕ, ◌+◌, ◌-◌, ◌<◌, ◌≤◌, inl, inr, Bool, List, [], ◌∷◌, ◌++◌, length, Option, refl, sym, ap, subst, ◌∙◌, append_assoc, length-append, arith, IsTrue, codes, flat_map, list_all, AllByRecursion, and_parts, flat_map-append, map-append, length-map, list_all-append, Fact, is_name, IsName, Change, Effect, EndedLines, LinesStandFirst, lines_stand_first, ended_lines_then, plain_lines, LineAhead, NumberAhead, LinesBefore, CountedBefore, AppendedBefore, spelled, LinesAhead, VariableAhead, GroupAhead, OperatorAhead, RuleAhead, fact_in_ranges, effect_in_ranges, change_in_ranges, Front, IsPlain, TaskLine, word, name, number, signed, fact, effect, head, single_line, task_line_bytes, TaskLineFits, variable_lines, group_lines, operator_lines, rule_lines, and_from}
+use Rattle.sas_task_file.proofs.Imports.{◌≡◌, ℕ, ◌+◌, ◌-◌, ◌<◌, ◌≤◌, inl, inr, Bool, List, [], ◌∷◌, ◌++◌, length, Option, refl, sym, ap, subst, ◌∙◌, append_assoc, length-append, arith, IsTrue, codes, flat_map, list_all, AllByRecursion, and_parts, flat_map-append, map-append, length-map, list_all-append, Fact, is_name, IsName, Change, Effect, EndedLines, LinesStandFirst, lines_stand_first, ended_lines_then, plain_lines, LineAhead, NumberAhead, LinesBefore, AppendedBefore, spelled, LinesAhead, VariableAhead, GroupAhead, OperatorAhead, RuleAhead, fact_in_ranges, effect_in_ranges, change_in_ranges, Front, IsPlain, TaskLine, word, name, number, signed, fact, effect, head, single_line, task_line_bytes, TaskLineFits, variable_lines, group_lines, operator_lines, rule_lines, and_from}
 use Rattle.std.proofs.Common.{append-nil}
 use Rattle.sas_flat.specs.Effects.{effect_with}
 use Rattle.sas_flat.specs.Operators as flat
@@ -40,10 +40,14 @@ rest_fits {items = items} {bytes = bytes} {rest = rest} h = ends_shorten (spelle
 
 -- ---- a number, and this many lines
 
-module _ {A : Type 0} (says : A → TaskLine) (may_stand : A → Bool) where
-  pub none_yet : (count : ℕ) {bytes rest : List ℕ} → NumberAhead bytes count 10 rest → CountedBefore says may_stand count [] bytes rest
-  none_yet count h = record { lines = one_line (number_is_ahead _ _ count h); stand = refl }
+-- the bytes are this number, a line for each of these items, which are all allowed, and then the
+-- rest
+pub record CountedBefore {A : Type 0} (says : A → TaskLine) (may_stand : A → Bool)
+    (count : ℕ) (each : List A) (bytes rest : List ℕ) : Type 0 where
+  pub lines : LinesBefore (number count ∷ flat_map (single_line says) each) bytes rest
+  pub stand : IsTrue (list_all may_stand each)
 
+module _ {A : Type 0} (says : A → TaskLine) (may_stand : A → Bool) where
   pub one_more : {count : ℕ} (xs : List A) (x : A) {bytes more rest : List ℕ} → CountedBefore says may_stand count xs bytes more → LineAhead (says x) more rest → IsTrue (may_stand x) → CountedBefore says may_stand count (xs ++ x ∷ []) bytes rest
   one_more {count = count} xs x {bytes = bytes} {rest = rest} h g may =
       let more_lines : number count ∷ flat_map (single_line says) (xs ++ x ∷ []) ≡ (number count ∷ flat_map (single_line says) xs) ++ says x ∷ [] = ap (λ l. number count ∷ l) (flat_map-append (single_line says) xs (x ∷ [])) in
@@ -54,20 +58,23 @@ module _ {A : Type 0} (says : A → TaskLine) (may_stand : A → Bool) where
 
   -- the same, where the items are appended to a list
   pub none_appended : (count : ℕ) (old : List A) {bytes rest : List ℕ} → NumberAhead bytes count 10 rest → AppendedBefore says may_stand count 0 old old bytes rest
-  none_appended count old h = record { items = []; are = sym (append-nil old); many = refl; lines = none_yet count h }
+  none_appended count old h = record { items = []; are = sym (append-nil old); many = refl; lines = one_line (number_is_ahead _ _ count h); stand = refl }
 
   -- one more was appended
   pub one_more_appended : {count done : ℕ} {old new end : List A} (x : A) {bytes more rest : List ℕ} → AppendedBefore says may_stand count done old new bytes more → end ≡ new ++ x ∷ [] → LineAhead (says x) more rest → IsTrue (may_stand x) → AppendedBefore says may_stand count (done + 1) old end bytes rest
-  one_more_appended {old = old} x h is ahead may = record {
-    items = h.items ++ x ∷ [];
-    are = is ∙ ap (λ l. l ++ x ∷ []) h.are ∙ append_assoc old h.items (x ∷ []);
-    many = omega (arith, h.many, length-append h.items (x ∷ []));
-    lines = one_more h.items x h.lines ahead may;
-  }
+  one_more_appended {old = old} x h is ahead may =
+      let more = one_more h.items x (record { lines = h.lines; stand = h.stand }) ahead may in
+      record {
+        items = h.items ++ x ∷ [];
+        are = is ∙ ap (λ l. l ++ x ∷ []) h.are ∙ append_assoc old h.items (x ∷ []);
+        many = omega (arith, h.many, length-append h.items (x ∷ []));
+        lines = more.lines;
+        stand = more.stand;
+      }
 
   -- all were appended
   pub all_appended : {count : ℕ} {old new : List A} {bytes rest : List ℕ} (h : AppendedBefore says may_stand count count old new bytes rest) → CountedBefore says may_stand (length h.items) h.items bytes rest
-  all_appended h = rw h.many h.lines
+  all_appended h = rw h.many (record { lines = h.lines; stand = h.stand })
 
 -- ---- from the first byte on
 

@@ -1,7 +1,6 @@
 -- Each fault of a task file has a reason: what is expected there, and which number is wrong, if any.
-use Rattle.sas_task_file.proofs.Imports.{◌≡◌, ℕ, List, [], ◌∷◌, ◌++◌, map, refl, sym, ap, subst, ◌∙◌, Option, None, append-nil, Parts, WellRanged, lines, unfinished, Fault, Kind, lines_of, EndOf, most_bytes, of_line, of_byte, of_end, cut_at, Mark, WrongWord, TaskLine, TaskSlot, word_slot, name_slot, number_slot, signed_slot, fact_slot, effect_slot, head_slot, task_line_bytes, task_layout, NumbersKind, no_shape, no_value, TaskKind, task_texts, task_format, IsDue, slot_of_due, tracker_start, track, mark_in, first_wrong, line_bounds, IsTaskReason, SomeTaskReason}
+use Rattle.sas_task_file.proofs.Imports.{ranges_of, ◌≡◌, ℕ, List, [], ◌∷◌, ◌++◌, map, refl, sym, ap, subst, ◌∙◌, Option, None, append-nil, Parts, WellRanged, lines, unfinished, Fault, Kind, lines_of, EndOf, most_bytes, of_line, of_byte, of_end, cut_at, Mark, WrongWord, TaskLine, TaskSlot, word_slot, name_slot, number_slot, signed_slot, fact_slot, effect_slot, head_slot, task_line_bytes, task_layout, NumbersKind, no_shape, no_value, TaskKind, task_texts, task_format, IsDue, slot_of_due, tracker_start, track, mark_in, first_wrong, line_bounds, IsTaskReason, SomeTaskReason}
 use Rattle.sas_task_file.proofs.DueBehind.{end_mark, is_due}
-use Rattle.sas_task_file.proofs.WrongWords.{ranges_in}
 use Rattle.sas_task_file.proofs.MarkLaws.{some_due}
 
 -- a text is refused for a reason
@@ -12,7 +11,7 @@ HasReason kind begun found = (m : Mark) × (w : Option WrongWord) × IsTaskReaso
 
 numbers_reason : (kind : Kind) (begun : List (List ℕ)) (found : List ℕ) (m : Mark) → IsDue begun m → (s : TaskSlot) → slot_of_due m.due ≡ s → NumbersKind s found kind → HasReason kind begun found
 numbers_reason kind begun found m d s e (no_shape h) = (m, None, (d, refl))
-numbers_reason kind begun found m d s e (no_value h) = (m, first_wrong 1 (line_bounds (ranges_in d.begins.0.variables) h.0), record { due = d; shape = (h.0, h.1 ∙ sym e, h.2, h.3); first = refl })
+numbers_reason kind begun found m d s e (no_value h) = (m, first_wrong 1 (line_bounds (ranges_of d.begins.0.variables) h.0), record { due = d; shape = (h.0, h.1 ∙ sym e, h.2, h.3); first = refl })
 
 line_reason : (kind : Kind) (begun : List (List ℕ)) (found : List ℕ) (m : Mark) → IsDue begun m → (s : TaskSlot) → slot_of_due m.due ≡ s → TaskKind s found kind → HasReason kind begun found
 line_reason kind begun found m d (word_slot w) e k = subst (λ (x : Kind). HasReason x begun found) (sym k) (m, None, (d, refl))

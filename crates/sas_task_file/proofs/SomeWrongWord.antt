@@ -1,12 +1,12 @@
 -- If a fact, a head or an effect is expected, a refused line of its shape has a wrong number, which
 -- the reason names.
-use Rattle.sas_task_file.proofs.Imports.{◌≡◌, ℕ, ◌≤◌, List, [], ◌∷◌, ◌++◌, length, length-append, map, refl, sym, ap, subst, ◌∙◌, inl, inr, arith, Option, Some, None, IsSome, eqb_tells, lines, unfinished, lines-plain, unfinished-end, Fault, Kind, lines_of, Format, IsBegun, KindAt, too_long, trailing, wrong, FaultOf, most_bytes, of_line, of_byte, of_end, Due, Mark, WrongWord, TaskSlot, word_slot, name_slot, number_slot, signed_slot, fact_slot, effect_slot, head_slot, task_slot, task_line_bytes, HasShape, NumbersKind, no_shape, no_value, TaskKind, task_texts, task_format, IsDue, slot_of_due, Bounded, first_wrong, line_bounds, IsFirstWrong, IsTaskReason, SpeaksOfFacts, SomeWrongWord, WrongWordIsNamed}
+use Rattle.sas_task_file.proofs.Imports.{ranges_of, ◌≡◌, ℕ, ◌≤◌, List, [], ◌∷◌, ◌++◌, length, length-append, map, refl, sym, ap, subst, ◌∙◌, inl, inr, arith, Option, Some, None, IsSome, eqb_tells, lines, unfinished, lines-plain, unfinished-end, Fault, Kind, lines_of, Format, IsBegun, KindAt, too_long, trailing, wrong, FaultOf, most_bytes, of_line, of_byte, of_end, Due, Mark, WrongWord, TaskSlot, word_slot, name_slot, number_slot, signed_slot, fact_slot, effect_slot, head_slot, task_slot, task_line_bytes, HasShape, NumbersKind, no_shape, no_value, TaskKind, task_texts, task_format, IsDue, slot_of_due, Bounded, first_wrong, line_bounds, IsFirstWrong, IsTaskReason, SpeaksOfFacts, SomeWrongWord, WrongWordIsNamed}
 use Rattle.sas_reader.proofs.Paths.{map-append}
 use Rattle.sas_reader.specs.declared.fault.Kind.TheVariants as kinds
 use Rattle.sas_task_file.proofs.DueBehind.{belongs_behind, HasFacts, standing}
 use Rattle.sas_task_file.proofs.MarkLaws.{one_due, some_due, one_wrong_word, same_ranges}
 use Rattle.sas_task_file.proofs.MayStand.{goes_on}
-use Rattle.sas_task_file.proofs.WrongWords.{AllStand, all_stand, HasBounds, ranges_in, same_bounds}
+use Rattle.sas_task_file.proofs.WrongWords.{AllStand, all_stand, HasBounds, same_bounds}
 
 -- ---- a wrong number
 
@@ -17,7 +17,7 @@ has_bounds d (inr (inr e)) = subst HasFacts (sym e) tt
 
 module _ (begun : List (List ℕ)) (line : List ℕ) (m : Mark) (d : IsDue begun m) (speaks : SpeaksOfFacts m.due) (shape : HasShape (slot_of_due m.due) line) (none : IsBegun task_format (begun ++ line ∷ []) → ⊥) where
   abbrev bounds : List Bounded
-  bounds = line_bounds (ranges_in d.begins.0.variables) shape.0
+  bounds = line_bounds (ranges_of d.begins.0.variables) shape.0
 
   -- if all numbers were allowed, a task would begin with the lines and this line
   not_all : AllStand bounds → ⊥
@@ -27,7 +27,7 @@ module _ (begun : List (List ℕ)) (line : List ℕ) (m : Mark) (d : IsDue begun
       let has : HasBounds (task_slot a.item) = subst HasBounds slot (has_bounds m.due speaks) in
       let more : List (List ℕ) = map task_line_bytes (a.item ∷ a.more) in
       let whole : lines_of task_texts a.task ≡ begun ++ more = ap (map task_line_bytes) a.layout ∙ map-append task_line_bytes a.items (a.item ∷ a.more) ∙ ap (λ (x : List (List ℕ)). x ++ more) a.spells in
-      let same : bounds ≡ line_bounds (ranges_in a.task.variables) shape.0 = same_bounds (ranges_in d.begins.0.variables) (ranges_in a.task.variables) (slot_of_due m.due) shape.0 shape.1 (same_ranges begun m d d.begins (a.task, more, a.good, whole)) in
+      let same : bounds ≡ line_bounds (ranges_of a.task.variables) shape.0 = same_bounds (ranges_of d.begins.0.variables) (ranges_of a.task.variables) (slot_of_due m.due) shape.0 shape.1 (same_ranges begun m d d.begins (a.task, more, a.good, whole)) in
       none (subst (λ (x : List ℕ). IsBegun task_format (begun ++ x ∷ [])) shape.3 (goes_on a.task a.good begun a.items a.item a.more a.layout a.spells has shape.0 (shape.1 ∙ slot) shape.2 (subst AllStand same all)))
 
   first_of : (r : Option WrongWord) → first_wrong 1 bounds ≡ r → (w : WrongWord) × IsFirstWrong begun m line (Some w)

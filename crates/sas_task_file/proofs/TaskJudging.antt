@@ -1,6 +1,6 @@
 -- Why a line may not stand in a task.
 use Rattle.sas_task_file.proofs.Imports.{◌≡◌, ◌≢◌, ℕ, Bool, List, refl, sym, ap, subst, ◌∙◌, IsTrue, Option, decimal, Fact, Effect, IsNumber, IsSigned, signed_decimal, Kind, Shape, Value, Memory, IsOfBytes, TaskLine, number, signed, fact, effect, head, TaskSlot, number_slot, signed_slot, fact_slot, effect_slot, head_slot, task_slot, task_line_bytes, TaskLineFits, HasShape, NumbersKind, no_shape, IsOfLine, Spells, no_value, TaskKind, task_format, number_in, signed_in, fact_in, effect_in, head_in, IsRejected}
-use Rattle.sas_task_file.proofs.TaskSections.{number_is, signed_is, fact_is, effect_is, head_is}
+use Rattle.sas_task_file.proofs.Blocks.{number_is, signed_is, fact_is, effect_is, head_is}
 use Rattle.sas_task_file.proofs.TaskLines.{one_task_line}
 
 abbrev pub Refused : TaskSlot → (TaskLine → Bool) → List ℕ → Kind → Type 0

@@ -2,7 +2,7 @@
 -- CR.
 use Rattle.std.proofs.lemmas.Grind.{common_steps}
 use Rattle.sas_task_file.proofs.Imports.{◌≡◌, ℕ, List, [], ◌∷◌, ◌++◌, length, refl, sym, ap, subst, ◌∙◌, arith, Option, flat_map, AllByRecursion, decimal, Fact, Effect, IsNumber, IsSigned, signed_decimal, NoSpace, same_words, NoSpace-number, NoSpace-signed, same_signed, Kind, Keyword, Name, Shape, Value, decimal_injective, TaskLine, word, name, number, signed, fact, effect, head, TaskSlot, word_slot, name_slot, number_slot, signed_slot, fact_slot, effect_slot, head_slot, task_slot, fact_words, head_words, task_line_bytes, TaskLineFits, FactNumbers, HeadNumbers, EffectNumbers, NumbersKind, no_shape, no_value, TaskKind, number_in, signed_in, fact_in, effect_in, head_in, fact_same}
-use Rattle.sas_task_file.proofs.TaskSections.{word_is, name_is, number_is, signed_is, fact_is, effect_is, head_is}
+use Rattle.sas_task_file.proofs.Blocks.{word_is, name_is, number_is, signed_is, fact_is, effect_is, head_is}
 
 -- ---- one meaning
 

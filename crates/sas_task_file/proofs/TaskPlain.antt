@@ -1,6 +1,6 @@
 -- No line of a well ranged task contains LF or CR.
-use Rattle.sas_task_file.proofs.Imports.{ℕ, ◌<◌, Bool, true, false, List, [], ◌∷◌, ◌++◌, length, map, refl, arith, IsTrue, Option, Some, None, codes, flat_map, list_all, AllByRecursion, decimal, Fact, Variable, Effect, Operator, Parts, is_plain, IsName, IsNumber, IsSigned, FactExists, Listed, VariableFits, EffectFits, OperatorFits, WellRanged, signed_decimal, joined, lines_of, Paired, TaskLine, word, name, number, signed, fact, effect, head, fact_words, head_words, effect_words, task_line_bytes, TaskLineFits, FactNumbers, HeadNumbers, EffectNumbers, single_line, between, counted, version_lines, metric_lines, variable_lines, group_lines, goal_lines, operator_lines, rule_lines, task_layout, task_texts, IsPlain, plain-decimal, plain-name, plain-append}
-use Rattle.sas_task_file.proofs.TaskSections.{Known, known, Ranged, InRange, state_paired, fact_numbers, effect_numbers, change_numbers}
+use Rattle.sas_task_file.proofs.Imports.{ℕ, ◌<◌, Bool, true, false, List, [], ◌∷◌, ◌++◌, length, map, refl, arith, IsTrue, Option, Some, None, codes, flat_map, list_all, AllByRecursion, decimal, Fact, Variable, Effect, Operator, Parts, is_plain, IsName, IsNumber, IsSigned, FactExists, Listed, VariableFits, EffectFits, OperatorFits, WellRanged, signed_decimal, joined, lines_of, TaskLine, word, name, number, signed, fact, effect, head, fact_words, head_words, effect_words, task_line_bytes, TaskLineFits, FactNumbers, HeadNumbers, EffectNumbers, single_line, between, counted, version_lines, metric_lines, variable_lines, group_lines, goal_lines, operator_lines, rule_lines, task_layout, task_texts, IsPlain, plain-decimal, plain-name, plain-append}
+use Rattle.sas_task_file.proofs.TaskSections.{Known, known, Ranged, InRanges, state_paired, fact_numbers, effect_numbers, change_numbers}
 
 -- ---- one line
 
@@ -81,7 +81,7 @@ of_names xs h = of_list (single_line name) (λ b g. one (name b) g) xs h
 of_variable : (v : Variable) → VariableFits v → AllSayable (variable_lines v)
 of_variable v h = enclosed (codes "begin_variable") (codes "end_variable") refl refl (also (also (one (name v.name) h.name) (one (signed v.layer) h.layer)) (of_names v.values h.values))
 
-of_values : (vs : List Variable) (xs : List ℕ) → AllByRecursion Ranged vs → Paired InRange vs xs → AllSayable (flat_map (single_line number) xs)
+of_values : (vs : List Variable) (xs : List ℕ) → AllByRecursion Ranged vs → InRanges vs xs → AllSayable (flat_map (single_line number) xs)
 of_values [] [] r h = record { all = tt }
 of_values [] (x ∷ xs) r h = absurd h
 of_values (v ∷ vs) [] r h = absurd h
@@ -113,7 +113,7 @@ of_version = record { all = (refl, (omega arith, (refl, tt))) }
 
 of_task : (p : Parts) → WellRanged p → AllSayable (task_layout p)
 of_task p h =
-    let k = known p.variables (h.some_variable, h.variables) in
+    let k = known p.variables h.variables in
     let variables = also (also of_version (of_metric p.metric)) (of_list variable_lines of_variable p.variables h.variables) in
     let groups = also variables (of_list group_lines (of_group p.variables k) p.groups h.groups) in
     let init = also groups (enclosed (codes "begin_state") (codes "end_state") refl refl (of_values p.variables p.init k.each (state_paired p.variables p.init h.init))) in

@@ -1,16 +1,12 @@
 -- A tracker over all lines of a task: its marks are those of the task.
-use Rattle.sas_task_file.proofs.Imports.{◌≡◌, ℕ, suc, ◌+◌, ◌-◌, List, [], ◌∷◌, ◌++◌, length, map, refl, sym, ap, ◌∙◌, append_assoc, arith, codes, length-append, slice_index_or, flat_map, map-append, length-map, get_or-append-add, Variable, Parts, WellRanged, Due, Mark, Paired, TaskLine, word, number, single_line, counted, version_lines, metric_lines, variable_lines, group_lines, state_lines, goal_lines, operator_lines, rule_lines, task_layout, between_words, there, any_number, positive_number, numbered, variable_dues, group_dues, operator_dues, rule_dues, task_marks, Tracker, tracker_start, mark}
+use Rattle.sas_task_file.proofs.Imports.{ranges_of, ◌≡◌, ℕ, suc, ◌+◌, ◌-◌, List, [], ◌∷◌, ◌++◌, length, map, refl, sym, ap, ◌∙◌, append_assoc, arith, codes, length-append, slice_index_or, flat_map, map-append, length-map, get_or-append-add, Variable, Parts, WellRanged, Due, Mark, TaskLine, word, number, single_line, counted, version_lines, metric_lines, variable_lines, group_lines, state_lines, goal_lines, operator_lines, rule_lines, task_layout, between_words, there, any_number, positive_number, numbered, variable_dues, group_dues, operator_dues, rule_dues, task_marks, Tracker, tracker_start, mark}
 use Rattle.sas_task_file.specs.declared.places.Place.TheVariants as place
 use Rattle.sas_task_file.specs.declared.marks.Due.TheVariants as due
 use Rattle.sas_task_file.specs.declared.marks.FixedWord.TheVariants as fixed
 use Rattle.sas_task_file.specs.declared.marks.Location.TheVariants as at
-use Rattle.sas_task_file.proofs.TaskSections.{InRange, state_paired, eight}
+use Rattle.sas_task_file.proofs.TaskSections.{InRanges, state_paired, eight}
 use Rattle.sas_task_file.proofs.Tracking.{Scan, ◌then◌, marked, spelled, one}
 use Rattle.sas_task_file.proofs.TrackedSections.{version_scan, metric_scan, variables_scan, groups_scan, goal_scan, operators_scan, rules_scan}
-
--- the number of values of each variable
-abbrev pub ranges_in : List Variable → List ℕ
-ranges_in vs = map (λ v. length v.values) vs
 
 -- what is expected as the value of a variable in the initial state
 abbrev due_of : Variable → Due
@@ -24,26 +20,26 @@ module _ (ranges : List ℕ) (t : Tracker) where
   abbrev at_value : ℕ → Tracker
   at_value n = record t { place = place.StateValues; left = 0; more = n; ranges = ranges }
 
-  value_scan : (done : List ℕ) (v : Variable) (vs : List Variable) (x : ℕ) → ranges ≡ done ++ ranges_in (v ∷ vs)
+  value_scan : (done : List ℕ) (v : Variable) (vs : List Variable) (x : ℕ) → ranges ≡ done ++ ranges_of (v ∷ vs)
       → Scan ranges (at_value (suc (length vs))) (number x ∷ []) (there at.State (due_of v ∷ [])) (at_value (length vs))
   value_scan done v vs x e =
-      let many : length ranges ≡ length done + length (ranges_in (v ∷ vs)) = ap length e ∙ length-append done (ranges_in (v ∷ vs)) in
+      let many : length ranges ≡ length done + length (ranges_of (v ∷ vs)) = ap length e ∙ length-append done (ranges_of (v ∷ vs)) in
       let next : length ranges - suc (length vs) ≡ length done = omega (arith, many, length-map vs (λ (w : Variable). length w.values)) in
       let less : suc (length vs) - 1 ≡ length vs = omega arith in
       marked ranges (one ranges (number x) (λ h. refl) refl (ap at_value less) (λ h. refl))
       (ap (λ (i : ℕ). mark at.State (due.Number 0 (slice_index_or ranges i 0 - 1)) ∷ []) next
       ∙ ap (λ (r : List ℕ). mark at.State (due.Number 0 (slice_index_or r (length done) 0 - 1)) ∷ []) e
-      ∙ ap (λ (n : ℕ). mark at.State (due.Number 0 (n - 1)) ∷ []) (read_next done (length v.values) (ranges_in vs)))
+      ∙ ap (λ (n : ℕ). mark at.State (due.Number 0 (n - 1)) ∷ []) (read_next done (length v.values) (ranges_of vs)))
 
-  values_scan : (done : List ℕ) (vs : List Variable) (xs : List ℕ) → Paired InRange vs xs → ranges ≡ done ++ ranges_in vs
+  values_scan : (done : List ℕ) (vs : List Variable) (xs : List ℕ) → InRanges vs xs → ranges ≡ done ++ ranges_of vs
       → Scan ranges (at_value (length vs)) (flat_map (single_line number) xs) (there at.State (map due_of vs)) (at_value 0)
   values_scan done [] [] p e = record { marks = refl; ends = refl; along = λ h. refl }
   values_scan done [] (x ∷ xs) p e = absurd p
   values_scan done (v ∷ vs) [] p e = absurd p
   values_scan done (v ∷ vs) (x ∷ xs) p e =
-      ◌then◌ ranges (value_scan done v vs x e) (values_scan (done ++ length v.values ∷ []) vs xs p.1 (e ∙ sym (append_assoc done (length v.values ∷ []) (ranges_in vs))))
+      ◌then◌ ranges (value_scan done v vs x e) (values_scan (done ++ length v.values ∷ []) vs xs p.1 (e ∙ sym (append_assoc done (length v.values ∷ []) (ranges_of vs))))
 
-  state_scan : (vs : List Variable) (xs : List ℕ) → Paired InRange vs xs → ranges ≡ ranges_in vs
+  state_scan : (vs : List Variable) (xs : List ℕ) → InRanges vs xs → ranges ≡ ranges_of vs
       → Scan ranges (record t { place = place.Groups; left = 0; more = 0; ranges = ranges }) (state_lines xs) (there at.State (between_words fixed.BeginState (map due_of vs) fixed.EndState))
       (record t { place = place.GoalBegin; left = 0; more = 0; ranges = ranges })
   state_scan vs xs p e =
@@ -58,7 +54,7 @@ module _ (ranges : List ℕ) (t : Tracker) where
 module _ (p : Parts) where
   -- after the variables, the groups, the state, and all lines
   abbrev behind_variables : Tracker
-  behind_variables = record tracker_start { place = place.Variables; total = length p.variables; ranges = ranges_in p.variables }
+  behind_variables = record tracker_start { place = place.Variables; total = length p.variables; ranges = ranges_of p.variables }
 
   abbrev behind_groups : Tracker
   behind_groups = record behind_variables { place = place.Groups; total = length p.groups }
@@ -73,33 +69,33 @@ module _ (p : Parts) where
   behind_all = record behind_operators { place = place.Rules; total = length p.rules }
 
   abbrev Scans : Tracker → List TaskLine → List Mark → Tracker → Type 0
-  Scans = Scan (ranges_in p.variables)
+  Scans = Scan (ranges_of p.variables)
 
   variables_part : Scans (record tracker_start { place = place.VariableCount }) (counted variable_lines p.variables) (mark at.Variables positive_number ∷ numbered at.Variable variable_dues 0 p.variables) behind_variables
   variables_part =
       let n = length p.variables in
       let count : Scans (record tracker_start { place = place.VariableCount }) (number n ∷ []) (mark at.Variables positive_number ∷ []) (record tracker_start { place = place.Variables; total = n; left = n }) = record { marks = refl; ends = refl; along = (λ h. absurd h, refl, λ h. absurd h) } in
-      ◌then◌ (ranges_in p.variables) count (variables_scan (ranges_in p.variables) (record tracker_start { total = n }) 0 p.variables (omega arith))
+      ◌then◌ (ranges_of p.variables) count (variables_scan (ranges_of p.variables) (record tracker_start { total = n }) 0 p.variables (omega arith))
 
   groups_part : Scans behind_variables (counted group_lines p.groups) (mark at.Groups any_number ∷ numbered at.Group group_dues 0 p.groups) behind_groups
   groups_part =
       let count : Scans behind_variables (number (length p.groups) ∷ []) (mark at.Groups any_number ∷ []) (record behind_groups { left = length p.groups }) = record { marks = refl; ends = refl; along = (λ h. absurd h, refl, λ h. refl) } in
-      ◌then◌ (ranges_in p.variables) count (groups_scan (ranges_in p.variables) behind_groups refl p.groups (omega arith))
+      ◌then◌ (ranges_of p.variables) count (groups_scan (ranges_of p.variables) behind_groups refl p.groups (omega arith))
 
   operators_part : Scans (record behind_state { place = place.OperatorCount }) (counted operator_lines p.operators) (mark at.Operators any_number ∷ numbered at.Operator operator_dues 0 p.operators) behind_operators
   operators_part =
       let count : Scans (record behind_state { place = place.OperatorCount }) (number (length p.operators) ∷ []) (mark at.Operators any_number ∷ []) (record behind_operators { left = length p.operators }) = record { marks = refl; ends = refl; along = (λ h. refl, refl, λ h. refl) } in
-      ◌then◌ (ranges_in p.variables) count (operators_scan (ranges_in p.variables) behind_operators refl p.operators (omega arith))
+      ◌then◌ (ranges_of p.variables) count (operators_scan (ranges_of p.variables) behind_operators refl p.operators (omega arith))
 
   rules_part : Scans behind_operators (counted rule_lines p.rules) (mark at.Rules any_number ∷ numbered at.Rule rule_dues 0 p.rules) behind_all
   rules_part =
       let count : Scans behind_operators (number (length p.rules) ∷ []) (mark at.Rules any_number ∷ []) (record behind_all { left = length p.rules }) = record { marks = refl; ends = refl; along = (λ h. refl, refl, λ h. refl) } in
-      ◌then◌ (ranges_in p.variables) count (rules_scan (ranges_in p.variables) behind_all refl p.rules (omega arith))
+      ◌then◌ (ranges_of p.variables) count (rules_scan (ranges_of p.variables) behind_all refl p.rules (omega arith))
 
   -- the marks of a tracker are those of a task, line by line
-  pub task_scan : WellRanged p → Scan (ranges_in p.variables) tracker_start (task_layout p) (task_marks p) behind_all
+  pub task_scan : WellRanged p → Scan (ranges_of p.variables) tracker_start (task_layout p) (task_marks p) behind_all
   task_scan good =
-      let r = ranges_in p.variables in
+      let r = ranges_of p.variables in
       let state = state_scan r behind_groups p.variables p.init (state_paired p.variables p.init good.init) refl in
       let goal = goal_scan r behind_state refl p.goal in
       spelled r (◌then◌ r (version_scan r) (◌then◌ r (metric_scan r p.metric) (◌then◌ r variables_part (◌then◌ r groups_part (◌then◌ r state (◌then◌ r goal (◌then◌ r operators_part rules_part)))))))

@@ -1,6 +1,5 @@
 -- The numbers of a line: if none is wrong, all are allowed. The ranges of the variables decide.
-use Rattle.sas_task_file.proofs.Imports.{◌≡◌, ℕ, zero, suc, ◌+◌, ◌-◌, Bool, true, false, IsTrue, List, [], ◌∷◌, refl, ap, subst, sym, Some, None, nat_lt, if◌then◌else◌, slice_index, option_map_or, AllByRecursion, none-some, Variable, range_of, WrongWord, TaskLine, fact, effect, head, TaskSlot, task_slot, Bounded, first_wrong, line_bounds, fact_slot, effect_slot, head_slot}
-pub use Rattle.sas_task_file.proofs.TrackedTask.{ranges_in}
+use Rattle.sas_task_file.proofs.Imports.{ranges_of, ◌≡◌, ℕ, zero, suc, ◌+◌, ◌-◌, Bool, true, false, IsTrue, List, [], ◌∷◌, refl, ap, subst, sym, Some, None, nat_lt, if◌then◌else◌, slice_index, option_map_or, AllByRecursion, none-some, Variable, range_of, WrongWord, TaskLine, fact, effect, head, TaskSlot, task_slot, Bounded, first_wrong, line_bounds, fact_slot, effect_slot, head_slot}
 
 -- whether the number is allowed
 abbrev pub may_stand : Bounded → Bool
@@ -29,11 +28,6 @@ HasBounds fact_slot = Unit {0}
 HasBounds effect_slot = Unit {0}
 HasBounds head_slot = Unit {0}
 HasBounds _ = ⊥
-
-pub range_is : (vs : List Variable) (var : ℕ) → slice_index (ranges_in vs) var ≡ range_of vs var
-range_is [] var = refl
-range_is (v ∷ vs) zero = refl
-range_is (v ∷ vs) (suc var) = range_is vs var
 
 -- the same ranges give a line the same bounds
 pub same_bounds : (a b : List ℕ) (slot : TaskSlot) (i : TaskLine) → task_slot i ≡ slot → (HasBounds slot → a ≡ b) → line_bounds a i ≡ line_bounds b i

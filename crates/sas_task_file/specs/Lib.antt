@@ -1,8 +1,7 @@
-pub mod Process
 pub mod TaskTexts
 pub mod Beginnings
 pub mod TaskFormat
-pub mod TaskProcess
+pub mod TaskValues
 pub mod TaskLaws
 pub mod Marks
 pub mod Counts
@@ -16,3 +15,4 @@ pub mod Sections
 pub mod LinesBefore
 pub mod TaskEvents
 pub mod FirstWrong
+pub mod TaskStates

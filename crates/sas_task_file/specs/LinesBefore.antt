@@ -16,13 +16,6 @@ pub record LinesBefore (items : List TaskLine) (bytes rest : List ℕ) : Type 0 
   pub plain : AllByRecursion IsPlain (spelled items)
   pub before : EndedLines (spelled items) rest bytes
 
--- the bytes are this number, a line for each of these items, which are all allowed, and then the
--- rest
-pub record CountedBefore {A : Type 0} (says : A → TaskLine) (may_stand : A → Bool)
-    (count : ℕ) (each : List A) (bytes rest : List ℕ) : Type 0 where
-  pub lines : LinesBefore (number count ∷ flat_map (single_line says) each) bytes rest
-  pub stand : IsTrue (list_all may_stand each)
-
 -- items were appended to a list, as many as `done`: the bytes are this number, a line for each of
 -- these items, which are all allowed, and then the rest
 pub record AppendedBefore {A : Type 0} (says : A → TaskLine) (may_stand : A → Bool)
@@ -30,7 +23,8 @@ pub record AppendedBefore {A : Type 0} (says : A → TaskLine) (may_stand : A �
   pub items : List A
   pub are : new ≡ old ++ items
   pub many : length items ≡ done
-  pub lines : CountedBefore says may_stand count items bytes rest
+  pub lines : LinesBefore (number count ∷ flat_map (single_line says) items) bytes rest
+  pub stand : IsTrue (list_all may_stand items)
 
 -- names were appended to a list
 abbrev pub NamesBefore : ℕ → ℕ → List (List ℕ) → List (List ℕ) → List ℕ → List ℕ → Type 0

@@ -47,18 +47,30 @@ abbrev pub finished_rule : SoFar → LineValues → Effect
 finished_rule s said =
     record { conditions = s.facts; var = said.head.var; old = said.head.old; new = said.head.new }
 
--- parts with one more variable, group, operator or rule
-abbrev pub with_variable : Parts → Variable → Parts
-with_variable p v = record p { variables = p.variables ++ v ∷ [] }
+-- the content after all lines of a variable, a mutex group, an operator or a rule
+abbrev pub behind_variable : SoFar → Variable → SoFar
+behind_variable s v = record s {
+  parts = record s.parts { variables = s.parts.variables ++ v ∷ [] };
+  name = [];
+  layer = v.layer;
+  values = [];
+}
 
-abbrev pub with_group : Parts → List Fact → Parts
-with_group p g = record p { groups = p.groups ++ g ∷ [] }
+abbrev pub behind_group : SoFar → List Fact → SoFar
+behind_group s g =
+    record s { parts = record s.parts { groups = s.parts.groups ++ g ∷ [] }; facts = [] }
 
-abbrev pub with_operator : Parts → Operator → Parts
-with_operator p o = record p { operators = p.operators ++ o ∷ [] }
+abbrev pub behind_operator : SoFar → Operator → SoFar
+behind_operator s o = record s {
+  parts = record s.parts { operators = s.parts.operators ++ o ∷ [] };
+  name = [];
+  facts = [];
+  effects = [];
+}
 
-abbrev pub with_rule : Parts → Effect → Parts
-with_rule p r = record p { rules = p.rules ++ r ∷ [] }
+abbrev pub behind_rule : SoFar → Effect → SoFar
+behind_rule s r =
+    record s { parts = record s.parts { rules = s.parts.rules ++ r ∷ [] }; facts = [] }
 
 -- the content after a line that adds this
 abbrev pub after : SoFar → Event → LineValues → List ℕ → SoFar
@@ -68,22 +80,15 @@ after s event.Name said line = record s { name = line }
 after s event.Layer said line = record s { layer = said.layer }
 after s event.Values said line = record s { values = [] }
 after s event.Value said line = record s { values = s.values ++ line ∷ [] }
-after s event.Variable said line =
-    record s { parts = with_variable s.parts (finished_variable s); name = []; values = [] }
+after s event.Variable said line = behind_variable s (finished_variable s)
 after s event.Facts said line = record s { facts = [] }
 after s event.Fact said line = record s { facts = s.facts ++ said.fact ∷ [] }
-after s event.Group said line = record s { parts = with_group s.parts s.facts; facts = [] }
+after s event.Group said line = behind_group s s.facts
 after s event.State said line =
     record s { parts = record s.parts { init = s.parts.init ++ said.number ∷ [] } }
 after s event.Goal said line =
     record s { parts = record s.parts { goal = s.parts.goal ++ said.fact ∷ [] } }
 after s event.Effects said line = record s { effects = [] }
 after s event.Effect said line = record s { effects = s.effects ++ said.effect ∷ [] }
-after s event.Operator said line =
-    let o = finished_operator s said in
-    record s { parts = with_operator s.parts o; name = []; facts = []; effects = [] }
-after s event.Rule said line = record s {
-  parts = with_rule s.parts
-      (finished_rule s said);
-  facts = [];
-}
+after s event.Operator said line = behind_operator s (finished_operator s said)
+after s event.Rule said line = behind_rule s (finished_rule s said)

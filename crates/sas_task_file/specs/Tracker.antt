@@ -19,7 +19,7 @@ use Rattle.sas_task_file.specs.declared.marks.Location.TheVariants as at
 use Rattle.sas_task_file.specs.declared.marks.Mark.{Mark}
 use Rattle.sas_task_file.specs.Marks.{any_number, positive_number}
 use Rattle.sas_task_file.specs.TaskFormat.{TaskLine}
-use Rattle.sas_task_file.specs.TaskProcess.{number_in}
+use Rattle.sas_task_file.specs.TaskValues.{number_in}
 use Rattle.sas_task_file.specs.declared.tracker.Tracker.{Tracker}
 use Rattle.sas_task_file.specs.declared.counts.Counts.{Counts}
 use Rattle.sas_task_file.specs.declared.counts.ListCount.{ListCount}

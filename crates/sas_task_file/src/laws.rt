@@ -3,25 +3,25 @@ ghost use Rattle.std.specs.Prelude.{Option};
 ghost use Rattle.sas_reader.specs.About.{AboutLaws};
 ghost use Rattle.sas_reader.specs.Laws.{Laws};
 ghost use Rattle.sas_reader.specs.System.{Grammar};
-ghost use Rattle.sas_task_file.specs.Process.{process_node};
 ghost use Rattle.sas_task_file.specs.Beginnings.{OperatorsBegin, RulesBegin};
 ghost use Rattle.sas_task_file.specs.TaskFormat.{TaskSlot, task_format, TaskLineFits};
 ghost use Rattle.sas_task_file.specs.Marks.{OneDue, SomeDue};
 ghost use Rattle.sas_task_file.specs.Counts.{OneCount, SomeCount};
 ghost use Rattle.sas_task_file.specs.TaskLaws.{TaskIsFilled, OneCompletion, FillingsInBytes};
 ghost use Rattle.sas_task_file.specs.TaskReasons.{OneTaskReason, OneWrongWord, SomeTaskReason, SomeWrongWord, WrongWordIsNamed};
-ghost use Rattle.sas_task_file.specs.TaskProcess.{task_start};
+ghost use Rattle.sas_task_file.specs.TaskStates.{table_node, table_start};
 
 /// Ensures the laws of task files. No byte list is a text of two tasks. The texts of a task are its lines, each ended by LF or by CR LF.
 /// Bytes have at most one fault, and are live exactly if they have none. Reading any bytes has exactly one result. Lines that begin a task
 /// can be completed by fillings, in one way: `x` for a name, `-1` for a layer, `0 0` for a fact, `0 0 -1 0` for an effect, `0 -1 0` for a
-/// head, 3 for the version, 1 for the number of variables and for a range, 0 for every other number.
+/// head, 3 for the version, 1 for the number of variables and for a range, 0 for every other number. The table of places describes the
+/// format: lines that it allows, from the first to the end, are those of a task, and it allows the lines of each task.
 pub fn task_laws()
     ensures laws { Laws task_format }
     ensures filled { TaskIsFilled }
     ensures one_completion { OneCompletion }
     ensures fillings { (before : Option TaskSlot) → FillingsInBytes before }
-    ensures grammar { Grammar task_format TaskLineFits process_node task_start }
+    ensures grammar { Grammar task_format TaskLineFits table_node table_start }
 {}
 
 /// Ensures the laws about what is expected in task files, and about why a file is refused.

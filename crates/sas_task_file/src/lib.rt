@@ -27,6 +27,4 @@ pub use task_events::LineValues;
 pub use task_line::{change_in, value_in};
 pub use tracker::Tracker;
 pub use variables_and_groups::{ParsedVariable, read_group, read_variable};
-pub use wrong_word::{
-    change_wrong, effect_wrong, fact_wrong, wrong_in_effect, wrong_in_fact, wrong_in_head,
-};
+pub use wrong_word::{wrong_in_effect, wrong_in_fact, wrong_in_head};

@@ -136,6 +136,10 @@ impl Tracker {
     {
         let next = self.next_number();
         let this = self.this_number();
+        let variable = At::Variable(this);
+        let group = At::Group(this);
+        let operator = At::Operator(this);
+        let rule = At::Rule(this);
         match self.place {
             Place::VersionBegin => word_row(At::Version, Word::BeginVersion, Place::VersionNumber),
             Place::VersionNumber => line_row(
@@ -155,31 +159,26 @@ impl Tracker {
                 Word::BeginVariable,
                 Place::VariableName,
             ),
-            Place::VariableName => line_row(
-                At::Variable(this),
-                Due::Name,
-                Event::Name,
-                Place::VariableLayer,
-            ),
+            Place::VariableName => line_row(variable, Due::Name, Event::Name, Place::VariableLayer),
             Place::VariableLayer => line_row(
-                At::Variable(this),
+                variable,
                 Due::Layer,
                 Event::Layer,
                 Place::VariableRange,
             ),
             Place::VariableRange => Row {
-                at: At::Variable(this),
+                at: variable,
                 due: POSITIVE_NUMBER,
                 adds: Event::Values,
                 moves: Move::Range(Place::VariableValues),
             },
             Place::VariableValues if self.more == 0 => line_row(
-                At::Variable(this),
+                variable,
                 Due::Word(Word::EndVariable),
                 Event::Variable,
                 Place::Variables,
             ),
-            Place::VariableValues => item_row(At::Variable(this), Due::Name, Event::Value),
+            Place::VariableValues => item_row(variable, Due::Name, Event::Value),
             Place::Groups if self.left == 0 => Row {
                 at: At::State,
                 due: Due::Word(Word::BeginState),
@@ -187,14 +186,14 @@ impl Tracker {
                 moves: Move::State(Place::StateValues),
             },
             Place::Groups => begin_row(At::Group(next), Word::BeginMutexGroup, Place::GroupSize),
-            Place::GroupSize => list_row(At::Group(this), Event::Facts, Place::GroupFacts),
+            Place::GroupSize => list_row(group, Event::Facts, Place::GroupFacts),
             Place::GroupFacts if self.more == 0 => line_row(
-                At::Group(this),
+                group,
                 Due::Word(Word::EndMutexGroup),
                 Event::Group,
                 Place::Groups,
             ),
-            Place::GroupFacts => item_row(At::Group(this), Due::Fact, Event::Fact),
+            Place::GroupFacts => item_row(group, Due::Fact, Event::Fact),
             Place::StateValues if self.more == 0 => word_row(
                 At::State,
                 Word::EndState,
@@ -216,27 +215,18 @@ impl Tracker {
                 Word::BeginOperator,
                 Place::OperatorName,
             ),
-            Place::OperatorName => line_row(
-                At::Operator(this),
-                Due::Name,
-                Event::Name,
-                Place::PrevailCount,
-            ),
-            Place::PrevailCount => list_row(At::Operator(this), Event::Facts, Place::Prevail),
-            Place::Prevail if self.more == 0 => list_row(
-                At::Operator(this),
-                Event::Effects,
-                Place::Effects,
-            ),
-            Place::Prevail => item_row(At::Operator(this), Due::Fact, Event::Fact),
+            Place::OperatorName => line_row(operator, Due::Name, Event::Name, Place::PrevailCount),
+            Place::PrevailCount => list_row(operator, Event::Facts, Place::Prevail),
+            Place::Prevail if self.more == 0 => list_row(operator, Event::Effects, Place::Effects),
+            Place::Prevail => item_row(operator, Due::Fact, Event::Fact),
             Place::Effects if self.more == 0 => line_row(
-                At::Operator(this),
+                operator,
                 ANY_NUMBER,
                 Event::Operator,
                 Place::OperatorEnd,
             ),
-            Place::Effects => item_row(At::Operator(this), Due::Effect, Event::Effect),
-            Place::OperatorEnd => word_row(At::Operator(this), Word::EndOperator, Place::Operators),
+            Place::Effects => item_row(operator, Due::Effect, Event::Effect),
+            Place::OperatorEnd => word_row(operator, Word::EndOperator, Place::Operators),
             Place::Rules if self.left == 0 => line_row(
                 At::End,
                 Due::Nothing,
@@ -244,15 +234,15 @@ impl Tracker {
                 Place::Rules,
             ),
             Place::Rules => begin_row(At::Rule(next), Word::BeginRule, Place::RuleSize),
-            Place::RuleSize => list_row(At::Rule(this), Event::Facts, Place::RuleConditions),
+            Place::RuleSize => list_row(rule, Event::Facts, Place::RuleConditions),
             Place::RuleConditions if self.more == 0 => line_row(
-                At::Rule(this),
+                rule,
                 Due::Head,
                 Event::Rule,
                 Place::RuleEnd,
             ),
-            Place::RuleConditions => item_row(At::Rule(this), Due::Fact, Event::Fact),
-            Place::RuleEnd => word_row(At::Rule(this), Word::EndRule, Place::Rules),
+            Place::RuleConditions => item_row(rule, Due::Fact, Event::Fact),
+            Place::RuleEnd => word_row(rule, Word::EndRule, Place::Rules),
         }
     }
 }

@@ -3,7 +3,7 @@ ghost use Rattle.std.specs.Prelude.{◌≡◌, ◌↔◌, ℕ, List, [], Option,
 ghost use Rattle.std.specs.List.{list_all};
 ghost use Rattle.sas_core.specs.Names.{is_name};
 ghost use Rattle.sas_task_file.specs.TaskFormat as format;
-ghost use Rattle.sas_task_file.specs.TaskProcess.{is_from, name_in, number_in, fact_in, effect_in, head_in};
+ghost use Rattle.sas_task_file.specs.TaskValues.{is_from, name_in, number_in, fact_in, effect_in, head_in};
 ghost use Rattle.sas_task_file.specs.TaskRanges.{value_in, change_in_ranges, fact_in_ranges, effect_in_ranges, head_in_ranges};
 ghost use Rattle.sas_task_file.specs.TaskLine.{ParsesLine, ParsesLineOrMemory, ParsesDue};
 ghost use Rattle.sas_task_file.specs.TaskWords.{Spells, TakesNumber, TakesSigned, TakesFact, TakesFacts, TakesHead};

@@ -69,7 +69,7 @@ fn old_wrong(ranges: &Items<u32>, var: u32, old: Option<u32>, word: u64) -> Opti
 }
 
 /// Checks a fact whose variable is the word with this number.
-fn fact_wrong_from(ranges: &Items<u32>, fact: Fact, word: u64) -> Option<WrongWord>
+fn fact_wrong(ranges: &Items<u32>, fact: Fact, word: u64) -> Option<WrongWord>
     requires { word < 2 ^ 63 }
     ensures { result ≡ first_wrong word (fact_bounds ranges.now fact) }
 {
@@ -93,7 +93,7 @@ fn values_wrong_from(ranges: &Items<u32>, change: Change, word: u64) -> Option<W
 }
 
 /// Checks a change whose variable is the word with this number.
-fn change_wrong_from(ranges: &Items<u32>, change: Change, word: u64) -> Option<WrongWord>
+fn change_wrong(ranges: &Items<u32>, change: Change, word: u64) -> Option<WrongWord>
     requires { word < 2 ^ 62 }
     ensures { result ≡ first_wrong word
         (change_bounds ranges.now change.var change.old change.new) }
@@ -104,29 +104,15 @@ fn change_wrong_from(ranges: &Items<u32>, change: Change, word: u64) -> Option<W
     }
 }
 
-/// Returns the first wrong word of a fact, or `None` if the fact exists.
-pub fn fact_wrong(ranges: &Items<u32>, fact: Fact) -> Option<WrongWord>
-    ensures { result ≡ first_wrong 1 (fact_bounds ranges.now fact) }
-{
-    fact_wrong_from(ranges, fact, 1)
-}
-
-/// Returns the first wrong word of the head of a rule, or `None` if its facts exist.
-pub fn change_wrong(ranges: &Items<u32>, change: Change) -> Option<WrongWord>
-    ensures { result ≡ first_wrong 1 (change_bounds ranges.now change.var change.old change.new) }
-{
-    change_wrong_from(ranges, change, 1)
-}
-
 /// Returns the first wrong word of an effect, or `None` if its facts exist. Word 1 is the count of its conditions.
-pub fn effect_wrong(ranges: &Items<u32>, effect: &Effect) -> Option<WrongWord>
+fn effect_wrong(ranges: &Items<u32>, effect: &Effect) -> Option<WrongWord>
     requires { length effect.now.conditions < 2 ^ 31 }
     ensures { result ≡ first_wrong 1 (line_bounds ranges.now (content.effect effect.now)) }
 {
     let count = effect.conditions.len();
     for i in 0..count {
         if let Some(&fact) = effect.conditions.get(i) {
-            if let Some(wrong) = fact_wrong_from(ranges, fact, 2 * i as u64 + 2) {
+            if let Some(wrong) = fact_wrong(ranges, fact, 2 * i as u64 + 2) {
                 return Some(wrong);
             }
         }
@@ -136,7 +122,7 @@ pub fn effect_wrong(ranges: &Items<u32>, effect: &Effect) -> Option<WrongWord>
         old: effect.old,
         new: effect.new,
     };
-    change_wrong_from(ranges, change, 2 * count as u64 + 2)
+    change_wrong(ranges, change, 2 * count as u64 + 2)
 }
 
 /// Parses the line as a fact, and returns its first wrong word. Returns `None` if no word is wrong or the line has another form.
@@ -144,7 +130,7 @@ pub fn wrong_in_fact(ranges: &Items<u32>, line: &[u8]) -> Option<WrongWord>
     ensures { FirstWrong ranges.now fact_slot line.now result }
 {
     match parse_fact(line) {
-        Some(fact) => fact_wrong(ranges, fact),
+        Some(fact) => fact_wrong(ranges, fact, 1),
         None => None,
     }
 }
@@ -155,7 +141,7 @@ pub fn wrong_in_head(ranges: &Items<u32>, line: &[u8]) -> Option<WrongWord>
     ensures { FirstWrong ranges.now head_slot line.now result }
 {
     match parse_change(line) {
-        Some(change) => change_wrong(ranges, change),
+        Some(change) => change_wrong(ranges, change, 1),
         None => None,
     }
 }

@@ -65,7 +65,8 @@ pub use Rattle.sas_task_file.specs.declared.counts.Counts.{Counts}
 pub use Rattle.sas_task_file.specs.declared.counts.ListCount.{ListCount}
 pub use Rattle.sas_task_reader.specs.declared.task_refusal.TaskRefusal.{TaskRefusal}
 pub use Rattle.sas_task_file.proofs.DueBehind.{HasFacts, end_mark, ranges_behind, is_due, speaks_behind_variables}
-pub use Rattle.sas_task_file.proofs.FirstWrongWords.{first_back, range_is, ranges_many}
+pub use Rattle.sas_task_file.proofs.FirstWrongWords.{first_back}
+pub use Rattle.sas_task_file.proofs.Ranges.{range_is, ranges_many}
 pub use Rattle.sas_task_file.proofs.MarkLaws.{same_items}
 pub use Rattle.sas_task_file.proofs.SomeWrongWord.{shape_of_value}
 pub use Rattle.sas_task_file.proofs.TaskGrammar.{task_grammar}
@@ -75,12 +76,11 @@ pub use Rattle.sas_task_file.proofs.WrongWords.{HasBounds, same_bounds}
 pub use Rattle.sas_task_file.specs.Ahead.{LineAhead}
 pub use Rattle.sas_task_file.specs.FirstWrong.{HasWrong, FirstWrong}
 pub use Rattle.sas_task_file.specs.Marks.{slot_of_due, IsDue}
-pub use Rattle.sas_task_file.specs.Process.{process_node, ◌>>=◌, ◌>>◌, repeat, each, done, read}
 pub use Rattle.sas_task_file.specs.Sections.{HasNames, OperatorInRanges, spelled, LinesAhead}
-pub use Rattle.sas_task_file.specs.TaskEvents.{after, nothing_yet}
+pub use Rattle.sas_task_file.specs.TaskEvents.{after, nothing_yet, behind_variable, behind_group, behind_operator, behind_rule}
 pub use Rattle.sas_task_file.specs.TaskFormat.{TaskLine, word, name, number, signed, fact, effect, head, task_slot, task_line_bytes, task_layout, task_format, TaskLineFits, HasShape, single_line, variable_lines, group_lines, operator_lines, rule_lines, number_slot, TaskSlot, word_slot, name_slot, signed_slot, fact_slot, effect_slot, head_slot, NumbersKind, no_shape, no_value, TaskKind, task_texts}
 pub use Rattle.sas_task_file.specs.TaskLine.{ParsesDue, test_of_due, line_of_due}
-pub use Rattle.sas_task_file.specs.TaskProcess.{TaskProcess, name_in, fact_in, effect_in, effect_may_stand, a_name, a_fact, an_effect, a_variable, a_group, an_operator, a_rule, a_word, a_number, number_in, is_from, any, positive, may_change, head_may_stand, head_in, a_signed, a_head, a_value}
+pub use Rattle.sas_task_file.specs.TaskValues.{name_in, fact_in, effect_in, number_in, is_from, head_in}
 pub use Rattle.sas_task_file.specs.TaskRanges.{ranges_of, fact_in_ranges, effect_in_ranges, change_in_ranges, head_in_ranges, value_in}
 pub use Rattle.sas_task_file.specs.TaskReasons.{first_wrong, line_bounds, IsFirstWrong, IsTaskReason}
 pub use Rattle.sas_task_file.specs.Tracker.{IsRow, value_due, tracker_start, track, mark_in, row_at, row_in, after_move, track_line, counts_start, after_count, counts_after, count_at}
@@ -95,13 +95,13 @@ pub use Rattle.sas_task_file.specs.declared.so_far.SoFar.{SoFar}
 pub use Rattle.sas_task_file.specs.declared.task_events.LineValues.{LineValues}
 pub use Rattle.sas_task_file.specs.declared.tracker.Tracker.{Tracker}
 pub use Rattle.sas_task_reader.specs.Marks.{due_slot, mark_of, WrongWordIn, count_of, IsLastLine}
-pub use Rattle.sas_task_reader.specs.Sections.{KeepsGroup, KeepsOperator, KeepsRule, behind_variable, behind_group, behind_operator, behind_rule, KeepsAhead}
+pub use Rattle.sas_task_reader.specs.Sections.{KeepsGroup, KeepsOperator, KeepsRule, KeepsAhead}
 pub use Rattle.sas_task_reader.specs.TaskJudge.{state_of, row_of, HasEnded, SectionDue, past_section, past_variable, RejectsLine, JudgesLine, MovesAhead, HasRow, NotesLine}
 pub use Rattle.sas_task_reader.specs.TaskMachine.{LedBy, MachineStopped, task_behavior, reader_behavior, counts_behind, HasNoted}
 pub use Rattle.sas_task_reader.specs.TaskOutline.{outline_in, kept_of}
 pub use Rattle.sas_task_reader.specs.TaskReader.{task_view}
 pub use Rattle.sas_task_reader.specs.TaskRefusal.{fault_in, found_in, HasReason}
-pub use Rattle.sas_task_reader.specs.TaskStates.{TaskState, table_start, numbers_of, state_after, node_of_due, table_node}
+pub use Rattle.sas_task_file.specs.TaskStates.{TaskState, table_start, numbers_of, state_after, node_of_due, table_node}
 pub use Rattle.sas_task_reader.specs.contracts.flat_so_far.FlatSoFar.{the_view}
 pub use Rattle.sas_task_reader.specs.declared.task_judge.TaskJudge.{TaskJudge}
 pub use Rattle.sas_task_reader.specs.declared.task_machine.TaskMachine.{TaskMachine}

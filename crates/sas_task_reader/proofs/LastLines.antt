@@ -3,8 +3,9 @@
 use Rattle.sas_task_reader.proofs.Imports.{◌≡◌, ◌≢◌, ◌↔◌, ℕ, zero, suc, ◌+◌, ◌≤◌, List, [], ◌∷◌, ◌++◌, length, map, take, refl, sym, ap, subst, ◌∙◌, arith, inl, inr, ◌⊎◌, IsTrue, Option, Some, None, IsSomeAnd, IfSome, IfNone, codes, take_all, length-take, map-append, decimal_digit, Parts, WellRanged, Kind, Excerpt, kept_bytes, IsFoundOf, without_return, return_length, lines_of, AreAllLines, EndsUnended, LeadsToEnd, ended, cut_at, ends_split, after_ends, same_path, TaskLine, word, number, task_slot, task_line_bytes, task_layout, task_texts, task_format, TaskLineFits, slot_of_due, number_in, Place, Tracker, row_at, row_in, after_move, TaskJudge, TaskMachine, TaskState, SoFar, state_after, state_of, table_node, table_start, LedBy, IsLastLine}
 use Rattle.sas_reader.specs.declared.fault.Kind.TheVariants as kinds
 use Rattle.sas_task_file.specs.declared.places.Place.TheVariants as at
-use Rattle.sas_task_reader.proofs.TaskEnds.{IsOver, over_if_ended}
-use Rattle.sas_task_reader.proofs.TableGrammar.{table_grammar, of_table_line, not_over}
+use Rattle.sas_task_file.proofs.TaskEnds.{IsOver, over_if_ended}
+use Rattle.sas_task_file.proofs.TaskGrammar.{task_grammar}
+use Rattle.sas_task_file.proofs.TableLines.{of_table_line, not_over}
 
 -- ---- the line that leads to the end
 
@@ -55,7 +56,7 @@ module _ {K : Type 0} (keeps : List (List ℕ) → SoFar → K → Type 0) (line
   all_lines : (line : List ℕ) → IsLastLine m.judge line → AreAllLines task_format (lines ++ line ∷ [])
   all_lines line last =
       let e = ends_by m.judge.tracker h.so_far line last in
-      let s = table_grammar.sound (h.leads.items ++ e.0 ∷ []) e.1 (after_ends task_format TaskLineFits table_node table_start there e.1 h.leads.items (e.0 ∷ []) h.leads.after e.2) in
+      let s = task_grammar.sound (h.leads.items ++ e.0 ∷ []) e.1 (after_ends task_format TaskLineFits table_node table_start there e.1 h.leads.items (e.0 ∷ []) h.leads.after e.2) in
       (e.1, s.0, ap (map task_line_bytes) (sym s.1) ∙ map-append task_line_bytes h.leads.items (e.0 ∷ []) ∙ ap (λ (l : List (List ℕ)). l ++ task_line_bytes e.0 ∷ []) h.leads.spells ∙ ap (λ (l : List ℕ). lines ++ l ∷ []) e.3)
 
   last_of : (v : Parts) (line : List ℕ) (after : List TaskLine) → map task_line_bytes after ≡ line ∷ [] → LeadsToEnd task_format TaskLineFits table_node there after v → IsLastLine m.judge line
@@ -73,8 +74,8 @@ module _ {K : Type 0} (keeps : List (List ℕ) → SoFar → K → Type 0) (line
   last_line : (line : List ℕ) → AreAllLines task_format (lines ++ line ∷ []) → IsLastLine m.judge line
   last_line line (v, good, e) =
       let c = cut_at task_line_bytes lines (line ∷ []) (task_layout v) e in
-      let s = ends_split task_format TaskLineFits table_node table_start v c.before c.after (subst (λ (l : List TaskLine). LeadsToEnd task_format TaskLineFits table_node table_start l v) c.whole (table_grammar.complete v good)) in
-      let same = (same_path task_format TaskLineFits table_node table_start table_grammar table_start there s.0 h.leads.items c.before h.leads.after s.1 (h.leads.spells ∙ sym c.front_is)).state in
+      let s = ends_split task_format TaskLineFits table_node table_start v c.before c.after (subst (λ (l : List TaskLine). LeadsToEnd task_format TaskLineFits table_node table_start l v) c.whole (task_grammar.complete v good)) in
+      let same = (same_path task_format TaskLineFits table_node table_start task_grammar table_start there s.0 h.leads.items c.before h.leads.after s.1 (h.leads.spells ∙ sym c.front_is)).state in
       last_of v line c.after c.back_is (subst (λ (x : TaskState). LeadsToEnd task_format TaskLineFits table_node x c.after v) (sym same) s.2)
 
   -- ---- a text at an early end

@@ -1,9 +1,3 @@
-pub mod TaskPlaces
-pub mod TaskRanges
-pub mod VariablesBehind
-pub mod Following
-pub mod TaskEnds
-pub mod TableGrammar
 pub mod TaskMoves
 pub mod TaskSteps
 pub mod Noting

@@ -2,8 +2,9 @@
 use Rattle.sas_task_reader.proofs.Imports.{◌≡◌, ◌≢◌, ℕ, List, [], ◌∷◌, ◌++◌, Option, None, refl, sym, ap, subst, ◌∙◌, Parts, WellRanged, Kind, IsBegun, LeadsToEnd, cut_at, after_ends, Mark, WrongWord, Place, IsDue, TaskLine, task_line_bytes, task_layout, task_format, TaskLineFits, HasShape, first_wrong, IsFirstWrong, IsTaskReason, Tracker, tracker_start, track, mark_in, TaskJudge, TaskMachine, mark_of, due_slot, WrongWordIn, table_node, table_start, state_of, HasEnded, LedBy, MachineStopped, end_mark, ranges_behind, is_due, HasFacts, speaks_behind_variables, same_items, IsBehindVariables, same_bounds, SoFar, LineValues, FirstWrong, ranges_of, first_back, IsCounted, count_of, count_at, count_after, counts_behind, is_counted}
 use Rattle.sas_reader.specs.declared.fault.Kind.TheVariants as kinds
 use Rattle.sas_task_file.specs.declared.places.Place.TheVariants as at
-use Rattle.sas_task_reader.proofs.TaskEnds.{over_if_ended}
-use Rattle.sas_task_reader.proofs.TableGrammar.{tracked, table_grammar}
+use Rattle.sas_task_file.proofs.TaskEnds.{over_if_ended}
+use Rattle.sas_task_file.proofs.TaskGrammar.{task_grammar}
+use Rattle.sas_task_file.proofs.TableLines.{tracked}
 
 -- ---- a task that begins with the lines
 
@@ -36,8 +37,8 @@ module _ {K : Type 0} (keeps : List (List ℕ) → SoFar → K → Type 0) (line
   pub count_there : IsCounted lines (count_of m.judge)
   count_there =
       let x = state_of m.judge h.so_far in
-      let f = table_grammar.fillable h.leads.items x h.leads.after in
-      let s = table_grammar.sound (h.leads.items ++ f.0) f.1 (after_ends task_format TaskLineFits table_node table_start x f.1 h.leads.items f.0 h.leads.after f.2) in
+      let f = task_grammar.fillable h.leads.items x h.leads.after in
+      let s = task_grammar.sound (h.leads.items ++ f.0) f.1 (after_ends task_format TaskLineFits table_node table_start x f.1 h.leads.items f.0 h.leads.after f.2) in
       let same : count_after h.leads.items ≡ count_of m.judge = ap (λ (t : Tracker). count_at t.place (counts_behind h.leads.items)) followed ∙ sym h.counts.here in
       subst (IsCounted lines) same (is_counted f.1 s.0 lines h.leads.items f.0 h.leads.spells (sym s.1))
 
@@ -47,11 +48,11 @@ module _ {K : Type 0} (keeps : List (List ℕ) → SoFar → K → Type 0) (line
     completed_by : (more : List TaskLine) (v : Parts) → LeadsToEnd task_format TaskLineFits table_node (state_of m.judge h.so_far) more v → Completed h.leads.items
     completed_by [] v e = absurd (going_on (over_if_ended (state_of m.judge h.so_far) v e))
     completed_by (i ∷ more) v e =
-        let s = table_grammar.sound (h.leads.items ++ i ∷ more) v (after_ends task_format TaskLineFits table_node table_start (state_of m.judge h.so_far) v h.leads.items (i ∷ more) h.leads.after e) in
+        let s = task_grammar.sound (h.leads.items ++ i ∷ more) v (after_ends task_format TaskLineFits table_node table_start (state_of m.judge h.so_far) v h.leads.items (i ∷ more) h.leads.after e) in
         record { task = v; good = s.0; item = i; more = more; layout = sym s.1 }
 
     completed : Completed h.leads.items
-    completed = let f = table_grammar.fillable h.leads.items (state_of m.judge h.so_far) h.leads.after in completed_by f.0 f.1 f.2
+    completed = let f = task_grammar.fillable h.leads.items (state_of m.judge h.so_far) h.leads.after in completed_by f.0 f.1 f.2
 
     pub due_there : IsDue lines mark_there
     due_there =

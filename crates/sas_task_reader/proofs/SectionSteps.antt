@@ -1,9 +1,10 @@
 -- The machine moves past a section that is stored at once.
 use Rattle.sas_task_reader.proofs.Imports.{◌≡◌, ℕ, ◌<◌, List, ◌++◌, ap, ◌∙◌, arith, Ok, Front, IsFront, AcceptsAhead, map-append, after_append, TaskLine, task_line_bytes, task_format, TaskLineFits, group_lines, operator_lines, rule_lines, spelled, TaskJudge, TaskMachine, table_node, table_start, state_of, behind_group, behind_operator, behind_rule, past_section, SectionDue, LedBy, KeepsGroup, KeepsOperator, KeepsRule, SoFar, Tracker, Option, Some, WrongWord, Place, Counts, count_at}
 use Rattle.sas_task_reader.specs.declared.task_judge.sections.Section.TheVariants as section
-use Rattle.sas_task_reader.proofs.TableGrammar.{tracked}
+use Rattle.sas_task_file.proofs.Stretches.{LeadsOn}
+use Rattle.sas_task_file.proofs.TableLines.{tracked}
 use Rattle.sas_task_reader.proofs.Noting.{KeepsCount, noted_past, group_keeps, operator_keeps, rule_keeps}
-use Rattle.sas_task_reader.proofs.SectionLines.{GoesOn, group_on, operator_on, rule_on}
+use Rattle.sas_task_reader.proofs.SectionLines.{group_on, operator_on, rule_on}
 
 -- the judge with another tracker
 abbrev pub with_tracker : TaskJudge → Tracker → TaskJudge
@@ -14,7 +15,7 @@ module _ {K : Type 0} (keeps : List (List ℕ) → SoFar → K → Type 0) (m : 
   pub record SectionKept : Type 0 where
     pub items : List TaskLine
     pub behind : SoFar → SoFar
-    pub leads : (s : SoFar) → GoesOn (state_of m.judge s) items (record { tracker = next; so_far = behind s })
+    pub leads : (s : SoFar) → LeadsOn (state_of m.judge s) items (record { tracker = next; so_far = behind s })
     pub keeps_on : (lines : List (List ℕ)) (s : SoFar) → keeps lines s m.kept → keeps (lines ++ spelled items) (behind s) kept
     pub stands : IsFront (spelled items) bytes front
     pub in_section : (c : Counts) → count_at next.place c ≡ Some c.section

@@ -4,7 +4,7 @@ use Rattle.sas_core.specs.declared.grounded.Change.{Change}
 use Rattle.sas_core.specs.declared.parts.Effect.{Effect}
 use Rattle.sas_core.specs.declared.parts.Fact.{Fact}
 use Rattle.sas_core.specs.declared.parts.Operator.{Operator}
-use Rattle.sas_task_reader.specs.Sections.{behind_variable, behind_group, behind_operator, behind_rule}
+use Rattle.sas_task_file.specs.TaskEvents.{behind_variable, behind_group, behind_operator, behind_rule}
 
 abbrev pub with_variables : SoFar → List Variable → SoFar
 with_variables s vs = record s { parts = record s.parts { variables = vs } }

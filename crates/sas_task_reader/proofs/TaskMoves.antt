@@ -4,8 +4,8 @@ use Rattle.sas_reader.specs.declared.fault.Kind.TheVariants as kinds
 use Rattle.sas_task_file.specs.declared.places.Place.TheVariants as at
 use Rattle.sas_task_file.specs.declared.marks.Due.TheVariants as due
 use Rattle.sas_task_file.specs.declared.places.Move.TheVariants as moves
-use Rattle.sas_task_reader.proofs.TaskEnds.{over_if_nothing, nothing_if_over}
-use Rattle.sas_task_reader.proofs.TableGrammar.{due_node, table_line}
+use Rattle.sas_task_file.proofs.TaskEnds.{over_if_nothing, nothing_if_over}
+use Rattle.sas_task_file.proofs.TableLines.{due_node, table_line}
 
 -- ---- a parsed line
 

@@ -1,7 +1,7 @@
 -- What a reader of tasks represents, in terms of the task format.
 use Rattle.sas_task_reader.proofs.Imports.{◌≡◌, ℕ, ◌≤◌, List, length, sym, subst, Ok, ∥∥₁_elim, props, checks_are_the_rules, WellRanged, SoFar, TaskMachine, Reads, ReadsAs, table_node, task_texts, task_format, TaskLineFits, state_of, HasEnded, task_behavior, table_start, reader_behavior, Follows, reads_of_format}
-use Rattle.sas_task_reader.proofs.TaskEnds.{over_if_ended, ends_with}
-use Rattle.sas_task_reader.proofs.TableGrammar.{table_grammar}
+use Rattle.sas_task_file.proofs.TaskEnds.{over_if_ended, ends_with}
+use Rattle.sas_task_file.proofs.TaskGrammar.{task_grammar}
 use Rattle.sas_reader.specs.Reader as reading
 
 module _ {K : Type 0} (keeps : List (List ℕ) → SoFar → K → Type 0) where
@@ -17,7 +17,7 @@ module _ {K : Type 0} (keeps : List (List ℕ) → SoFar → K → Type 0) where
   -- if the machine has ended, the bytes are read as the content so far
   pub reads_so_far : (m : TaskMachine K) (bytes : List ℕ) (h : reading.Reached (task_behavior keeps) m bytes) → HasEnded m.judge → Reads task_texts bytes h.led.so_far.parts
   unfolding machine_follows
-  reads_so_far m bytes h d = reads_of_format task_format TaskLineFits table_node table_start table_grammar (task_behavior keeps) machine_follows m h.led.so_far.parts bytes h (ends_with (state_of m.judge h.led.so_far) d)
+  reads_so_far m bytes h d = reads_of_format task_format TaskLineFits table_node table_start task_grammar (task_behavior keeps) machine_follows m h.led.so_far.parts bytes h (ends_with (state_of m.judge h.led.so_far) d)
 
 -- the reader stores the whole content
 pub reader_follows : Follows task_format TaskLineFits table_node table_start reader_behavior

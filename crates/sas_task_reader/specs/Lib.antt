@@ -1,4 +1,3 @@
-pub mod TaskStates
 pub mod TaskJudge
 pub mod TaskMachine
 pub mod Sections

@@ -11,25 +11,7 @@ use Rattle.sas_task_file.specs.TaskFormat.{TaskLine, variable_lines, group_lines
 use Rattle.sas_task_file.specs.Sections.{spelled, VariableAhead, GroupAhead, OperatorAhead, RuleAhead}
 use Rattle.sas_task_file.specs.declared.so_far.SoFar.{SoFar}
 use Rattle.sas_task_reader.specs.declared.keeper.KeptVariable.{KeptVariable}
-use Rattle.sas_task_file.specs.TaskEvents.{with_variable, with_group, with_operator, with_rule}
-
--- the content after all lines of a variable
-abbrev pub behind_variable : SoFar → Variable → SoFar
-behind_variable s v =
-    record s { parts = with_variable s.parts v; name = []; layer = v.layer; values = [] }
-
--- the content after all lines of a mutex group
-abbrev pub behind_group : SoFar → List Fact → SoFar
-behind_group s facts = record s { parts = with_group s.parts facts; facts = [] }
-
--- the content after all lines of an operator
-abbrev pub behind_operator : SoFar → Operator → SoFar
-behind_operator s o =
-    record s { parts = with_operator s.parts o; name = []; facts = []; effects = [] }
-
--- the content after all lines of a rule
-abbrev pub behind_rule : SoFar → Effect → SoFar
-behind_rule s r = record s { parts = with_rule s.parts r; facts = [] }
+use Rattle.sas_task_file.specs.TaskEvents.{behind_variable, behind_group, behind_operator, behind_rule}
 
 -- `kept` has the extent of the variable's lines and the number of its values
 abbrev pub VariableWithRange : List ℕ → Variable → KeptVariable → Type 0

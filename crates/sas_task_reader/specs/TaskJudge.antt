@@ -22,7 +22,7 @@ use Rattle.sas_task_file.specs.Tracker.{row_in, after_move, after_count}
 use Rattle.sas_task_file.specs.declared.tracker.Tracker.{Tracker}
 use Rattle.sas_task_file.specs.TaskEvents.{after}
 use Rattle.sas_task_file.specs.TaskFormat.{TaskLine, task_line_bytes, task_format, TaskLineFits}
-use Rattle.sas_task_reader.specs.TaskStates.{TaskState, table_node}
+use Rattle.sas_task_file.specs.TaskStates.{TaskState, table_node}
 
 -- ---- what is expected
 

@@ -9,7 +9,8 @@ ghost use Rattle.sas_task_file.specs.declared.places.Event.TheVariants as event;
 ghost use Rattle.sas_task_file.specs.declared.task_events.LineValues.{LineValues};
 ghost use Rattle.sas_task_file.specs.Sections.{GroupAhead, OperatorAhead, RuleAhead};
 ghost use Rattle.sas_task_file.specs.TaskEvents.{nothing_yet, after};
-ghost use Rattle.sas_task_reader.specs.Sections.{VariableWithRange, behind_variable, behind_group, behind_operator, behind_rule};
+ghost use Rattle.sas_task_file.specs.TaskEvents.{behind_variable, behind_group, behind_operator, behind_rule};
+ghost use Rattle.sas_task_reader.specs.Sections.{VariableWithRange};
 ghost use Rattle.sas_task_reader.specs.TaskOutline.{outline_with};
 
 use crate::fronts::NO_VARIABLE;

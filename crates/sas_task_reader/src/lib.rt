@@ -6,7 +6,6 @@ mod flat_so_far;
 mod flat_task;
 mod fronts;
 mod keeper;
-mod laws;
 mod outline;
 mod task;
 mod task_judge;
@@ -18,7 +17,6 @@ mod task_text;
 
 pub use flat_task::read_flat_task;
 pub use keeper::{Keeper, KeptVariable};
-pub use laws::table_law;
 pub use outline::read_outline;
 pub use sas_task_file::Place;
 pub use task::{read_task, read_task_text};

@@ -5,7 +5,7 @@ ghost use Rattle.sas_core.specs.declared.parts.Operator.{Operator};
 ghost use Rattle.sas_core.specs.declared.parts.Effect.{Effect};
 ghost use Rattle.sas_task_file.specs.declared.so_far.SoFar.{SoFar};
 ghost use Rattle.sas_task_file.specs.TaskEvents.{nothing_yet};
-ghost use Rattle.sas_task_reader.specs.Sections.{behind_group, behind_operator, behind_rule};
+ghost use Rattle.sas_task_file.specs.TaskEvents.{behind_group, behind_operator, behind_rule};
 ghost use Rattle.sas_task_reader.specs.TaskOutline.{outline_in, kept_of};
 
 use crate::flat_so_far::FlatSoFar;

@@ -1,4 +1,4 @@
-use Rattle.sas_task_file.proofs.Imports.{about_laws_of, process_node, TaskLineFits, task_format, task_start}
+use Rattle.sas_task_file.proofs.Imports.{about_laws_of, table_node, TaskLineFits, task_format, table_start}
 use Rattle.sas_task_file.proofs.CountLaws.{one_count, some_count}
 use Rattle.sas_task_file.proofs.MarkLaws.{one_due, some_due, one_wrong_word, one_task_reason}
 use Rattle.sas_task_file.proofs.SomeReason.{some_task_reason}
@@ -25,7 +25,7 @@ pub returns-clause-some_wrong_word : goal.returns-clause-some_wrong_word
 returns-clause-some_wrong_word c = some_wrong_word
 
 pub returns-clause-about : goal.returns-clause-about
-returns-clause-about c = about_laws_of task_format TaskLineFits process_node task_start task_grammar
+returns-clause-about c = about_laws_of task_format TaskLineFits table_node table_start task_grammar
 
 pub returns-clause-one_reason : goal.returns-clause-one_reason
 returns-clause-one_reason c = one_task_reason

@@ -17,4 +17,4 @@ pub overflow_sub-front : goal.overflow_sub-front
 overflow_sub-front c =
     let facts = rw c.in-Some-2.is at c.in_ok-facts.ensures.found in
     let effects = rw c.in-Some-3.is at c.in_ok-changed.ensures.found in
-    omega (arith, rest_fits c.in-Some.ensures.1, rest_fits facts.lines.lines, rest_fits effects.lines.lines, rest_fits c.in-Some-read_operator_end.ensures)
+    omega (arith, rest_fits c.in-Some.ensures.1, rest_fits facts.lines, rest_fits effects.lines, rest_fits c.in-Some-read_operator_end.ensures)

@@ -13,4 +13,4 @@ returns-clause-found c =
 pub overflow_sub-front : goal.overflow_sub-front
 overflow_sub-front c =
     let facts = rw c.in-Some-2.is at c.in_ok-count.ensures.found in
-    omega (arith, rest_fits (one_line c.in-Some.ensures), rest_fits facts.lines.lines, rest_fits c.in-Some-head_before.ensures.1)
+    omega (arith, rest_fits (one_line c.in-Some.ensures), rest_fits facts.lines, rest_fits c.in-Some-head_before.ensures.1)

@@ -14,4 +14,4 @@ returns-clause-found c =
 pub overflow_sub-front : goal.overflow_sub-front
 overflow_sub-front c =
     let (some, names) = rw c.in-Some-2.is at c.in_ok-range.ensures.found in
-    omega (arith, rest_fits c.in-Some.ensures.1, rest_fits names.lines.lines, rest_fits (one_line c.in-Some-read_word.ensures))
+    omega (arith, rest_fits c.in-Some.ensures.1, rest_fits names.lines, rest_fits (one_line c.in-Some-read_word.ensures))

@@ -1,5 +1,5 @@
 use Rattle.sas_task_reader.proofs.Imports.{ap, ◌∙◌, the_view, lists_opened, one_list_more}
-use Rattle.sas_task_reader.specs.Sections.{behind_group}
+use Rattle.sas_task_file.specs.TaskEvents.{behind_group}
 use Rattle.sas_task_file.specs.declared.so_far.SoFar.{SoFar}
 use Rattle.sas_task_reader.proofs.StoredParts.{with_groups, one_group_more}
 use Rattle.sas_task_reader.proofs.StoredText.{some_bytes}

@@ -1,5 +1,5 @@
 use Rattle.sas_task_reader.proofs.Imports.{refl, ap, ◌∙◌, the_view, operator, operators_opened, operators_more}
-use Rattle.sas_task_reader.specs.Sections.{behind_operator}
+use Rattle.sas_task_file.specs.TaskEvents.{behind_operator}
 use Rattle.sas_task_file.specs.declared.so_far.SoFar.{SoFar}
 use Rattle.sas_task_reader.proofs.StoredParts.{with_operators, one_operator_more}
 use Rattle.sas_task_reader.proofs.StoredText.{some_bytes}

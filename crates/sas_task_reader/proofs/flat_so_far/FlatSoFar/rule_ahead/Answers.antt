@@ -1,5 +1,5 @@
 use Rattle.sas_task_reader.proofs.Imports.{[], ◌∷◌, ◌++◌, length, sym, ap, ◌∙◌, the_view, lists_in, effect_with, effects_of, lists_opened, one_list_more, rules_more, pairs_more}
-use Rattle.sas_task_reader.specs.Sections.{behind_rule}
+use Rattle.sas_task_file.specs.TaskEvents.{behind_rule}
 use Rattle.sas_task_file.specs.declared.so_far.SoFar.{SoFar}
 use Rattle.sas_task_reader.proofs.StoredParts.{with_rules, another_rule}
 use Rattle.sas_task_reader.proofs.StoredText.{some_bytes}

@@ -1,5 +1,5 @@
 use Rattle.sas_task_reader.proofs.Imports.{refl, sym, ap, ◌∙◌, the_view, variable, variables_opened, variables_more}
-use Rattle.sas_task_reader.specs.Sections.{behind_variable}
+use Rattle.sas_task_file.specs.TaskEvents.{behind_variable}
 use Rattle.sas_task_file.specs.declared.so_far.SoFar.{SoFar}
 use Rattle.sas_task_reader.proofs.StoredParts.{with_variables, one_variable_more}
 use Rattle.sas_task_reader.proofs.StoredText.{some_bytes}

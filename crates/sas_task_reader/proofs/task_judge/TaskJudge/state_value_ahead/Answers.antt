@@ -1,7 +1,7 @@
 use Rattle.sas_task_reader.proofs.Imports.{refl, ap, arith, number, value_due}
 use Rattle.sas_task_file.specs.declared.places.Event.TheVariants as adds
 use Rattle.sas_task_reader.proofs.TaskMoves.{moves_ahead}
-use Rattle.sas_task_reader.proofs.Following.{is_between}
+use Rattle.sas_task_file.proofs.TaskSections.{is_between}
 use Rattle.sas_task_reader.proofs.task_judge.TaskJudge.state_value_ahead.Goals as goal
 
 pub returns-clause-some : goal.returns-clause-some

@@ -1,11 +1,11 @@
 use Rattle.sas_task_reader.proofs.Imports.{∥∥₁_map, ◌++◌, table_node, task_format, TaskLineFits, table_start, reader_behavior, feeds}
-use Rattle.sas_task_reader.proofs.TableGrammar.{table_grammar}
+use Rattle.sas_task_file.proofs.TaskGrammar.{task_grammar}
 use Rattle.sas_task_reader.proofs.TaskStanding.{reader_follows}
 use Rattle.sas_task_reader.proofs.task_reader.TaskReader.feed.Goals as goal
 
 pub returns : goal.returns
 returns c =
-    let f = feeds task_format TaskLineFits table_node table_start table_grammar reader_behavior reader_follows _ _ _ _ c.feed.ensures in
+    let f = feeds task_format TaskLineFits table_node table_start task_grammar reader_behavior reader_follows _ _ _ _ c.feed.ensures in
     record { stands = f.stands; live = f.live; fault = f.fault; answer = f.answer; kept = f.kept; kind = f.kind; memory = f.memory; limit = f.limit }
 
 pub invariant_of-self : goal.invariant_of-self

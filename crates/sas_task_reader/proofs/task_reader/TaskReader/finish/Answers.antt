@@ -1,5 +1,5 @@
 use Rattle.sas_task_reader.proofs.Imports.{sym, ap, subst, ◌∙◌, Ok, Err, ∥∥₁_map, Parts, WellRanged, Fault, ReadsAs, table_node, task_format, TaskLineFits, table_start, SoFar, reader_behavior, Finishes, end_fault, task_view}
-use Rattle.sas_task_reader.proofs.TableGrammar.{table_grammar}
+use Rattle.sas_task_file.proofs.TaskGrammar.{task_grammar}
 use Rattle.sas_task_reader.proofs.TaskStanding.{reader_follows, read_task_parts, ranged}
 use Rattle.sas_task_reader.proofs.task_reader.TaskReader.finish.Goals as goal
 
@@ -24,7 +24,7 @@ returns-in-Err c =
     let end = c.in-Err.ensures in
     subst (λ (f : Fault). Finishes task_view c.args.self (Err f)) (sym c.into_fault.ensures) (record {
       read = tt;
-      fault = end_fault task_format TaskLineFits table_node table_start table_grammar reader_behavior reader_follows c.args.self.reader c.in-Err.refused end.refused;
+      fault = end_fault task_format TaskLineFits table_node table_start task_grammar reader_behavior reader_follows c.args.self.reader c.in-Err.refused end.refused;
       memory = end.refused.memory;
       kept = λ f e. ap (λ (x : Fault). Err x) (end.kept f e);
     })

@@ -1,5 +1,5 @@
 use Rattle.sas_reader.specs.declared.reader.Front.{Front}
-use Rattle.sas_task_reader.specs.Sections.{behind_operator}
+use Rattle.sas_task_file.specs.TaskEvents.{behind_operator}
 use Rattle.sas_task_file.specs.Sections.{OperatorAhead}
 use Rattle.sas_task_file.specs.TaskFormat.{operator_lines}
 use Rattle.sas_task_reader.proofs.Imports.{ℕ, List, ◌++◌, take, ap, ◌∙◌}

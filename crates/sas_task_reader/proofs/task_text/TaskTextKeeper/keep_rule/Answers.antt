@@ -1,5 +1,5 @@
 use Rattle.sas_reader.specs.declared.reader.Front.{Front}
-use Rattle.sas_task_reader.specs.Sections.{behind_rule}
+use Rattle.sas_task_file.specs.TaskEvents.{behind_rule}
 use Rattle.sas_task_file.specs.Sections.{RuleAhead}
 use Rattle.sas_task_file.specs.TaskFormat.{rule_lines}
 use Rattle.sas_task_reader.proofs.Imports.{ℕ, List, ◌++◌, take, ap, ◌∙◌}

@@ -1,5 +1,6 @@
 use Rattle.sas_task_reader.specs.declared.keeper.KeptVariable.{KeptVariable}
-use Rattle.sas_task_reader.specs.Sections.{behind_variable, VariableWithRange}
+use Rattle.sas_task_file.specs.TaskEvents.{behind_variable}
+use Rattle.sas_task_reader.specs.Sections.{VariableWithRange}
 use Rattle.sas_task_file.specs.TaskFormat.{variable_lines}
 use Rattle.sas_task_reader.proofs.Imports.{ℕ, List, ◌++◌, take, ap, ◌∙◌}
 use Rattle.sas_task_reader.proofs.StoredText.{keeps_text}

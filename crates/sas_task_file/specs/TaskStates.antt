@@ -8,7 +8,7 @@ use Rattle.sas_task_file.specs.declared.marks.Due.TheVariants as due
 use Rattle.sas_task_file.specs.declared.tracker.Tracker.{Tracker}
 use Rattle.sas_task_file.specs.Marks.{slot_of_due}
 use Rattle.sas_task_file.specs.TaskFormat.{TaskLine, TaskSlot}
-use Rattle.sas_task_file.specs.TaskProcess.{name_in, number_in, signed_in, fact_in, effect_in, head_in}
+use Rattle.sas_task_file.specs.TaskValues.{name_in, number_in, signed_in, fact_in, effect_in, head_in}
 use Rattle.sas_task_file.specs.Tracker.{tracker_start, track_line, row_in}
 use Rattle.sas_task_file.specs.declared.so_far.SoFar.{SoFar}
 use Rattle.sas_task_file.specs.declared.task_events.LineValues.{LineValues}

@@ -1,5 +1,5 @@
 -- Nothing is expected exactly after the last rule.
-use Rattle.sas_task_reader.proofs.Imports.{◌≡◌, zero, suc, ℕ, refl, ap, ◌∙◌, Parts, Place, Due, Tracker, row_at, row_in, ended, TaskState, node_of_due, table_node}
+use Rattle.sas_task_file.proofs.Imports.{◌≡◌, zero, suc, ℕ, refl, ap, ◌∙◌, Parts, Place, Due, Tracker, row_at, row_in, ended, TaskState, node_of_due, table_node}
 use Rattle.sas_task_file.specs.declared.places.Place.TheVariants as at
 use Rattle.sas_task_file.specs.declared.marks.Due.TheVariants as due
 
