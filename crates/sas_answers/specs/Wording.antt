@@ -32,6 +32,15 @@ part_words p (part.Sets operator effect) = verb_words p effect (codes "sets")
     (fact_of (change_of (effect_at (operator_at p operator) effect)))
 part_words p (part.Requires number fact) = verb_words p number (codes "requires") fact
 
+-- a step, and an operator that it could also be
+abbrev pub could_be_words : ℕ → ℕ → List (List ℕ)
+could_be_words step operator =
+    decimal step ∷ codes "could also be operator" ∷ decimal operator ∷ []
+
+-- how many of all are such
+abbrev pub k_of_n_words : ℕ → ℕ → List ℕ → List (List ℕ)
+k_of_n_words count all what = decimal count ∷ codes "of" ∷ decimal all ∷ what ∷ []
+
 -- the words that follow the first ones
 abbrev pub rest_words : Parts → List (List ℕ) → LineRest → List (List ℕ)
 rest_words p steps rest.Nothing = []
@@ -42,12 +51,10 @@ rest_words p steps (rest.Step step) = named_words step (slice_index_or steps (st
 rest_words p steps (rest.OperatorLine operator) = operator_words p operator
 rest_words p steps (rest.Operator operator) = named_operator p operator
 rest_words p steps (rest.Rule rule) = rule_words p rule
-rest_words p steps (rest.CouldBe step operator) =
-    decimal step ∷ codes "could also be operator" ∷ decimal operator ∷ []
+rest_words p steps (rest.CouldBe step operator) = could_be_words step operator
 rest_words p steps (rest.OfFact fact) = words_of p fact
 rest_words p steps (rest.OfPart its) = part_words p its
-rest_words p steps (rest.KOfN count all what) =
-    decimal count ∷ codes "of" ∷ decimal all ∷ what.now ∷ []
+rest_words p steps (rest.KOfN count all what) = k_of_n_words count all what.now
 
 -- the line that begins so, and continues with these words
 abbrev pub line_with : LineStart → List (List ℕ) → List ℕ

@@ -1,10 +1,10 @@
 // How lines of reasons go out: names are looked up here.
-ghost use Rattle.std.specs.Prelude.{◌≡◌, false, [], ◌∷◌, ◌++◌, map, Some};
+ghost use Rattle.std.specs.Prelude.{◌≡◌, false, [], ◌∷◌, ◌++◌, map, Some, decimal};
 ghost use Rattle.sas_answers.specs.Ending.{EndsCounting, Writes};
 ghost use Rattle.sas_answers.specs.Sink.{Pushes};
 ghost use Rattle.sas_answers.specs.Words.{word_bytes};
-ghost use Rattle.sas_answers.specs.Line.{words_of, line_bytes, named_operator, operator_words, reasons_text, rule_words};
-ghost use Rattle.sas_answers.specs.Wording.{steps_of, verb_words, part_words, rest_words, line_with};
+ghost use Rattle.sas_answers.specs.Line.{words_of, line_bytes, named_operator, named_words, operator_words, reasons_text, rule_words};
+ghost use Rattle.sas_answers.specs.Wording.{steps_of, verb_words, part_words, could_be_words, k_of_n_words, rest_words, line_with};
 
 use crate::answer::Answer;
 use crate::ending::{Status, ToolFault};
@@ -77,35 +77,19 @@ fn push_rest<W: Write>(
     let task = named.task;
     match rest {
         LineRest::Nothing => push_words(sink, start, &[]),
-        LineRest::Number(number) => push_words(sink, start, &[Word::Number(number)]),
-        LineRest::Sum(sum) => push_words(sink, start, &[Word::Large(sum)]),
-        LineRest::Metric => push_words(sink, start, &[Word::Number(u64::from(task.metric()))]),
-        LineRest::Step(step) => {
-            let name = Word::Name(named.step_name(step));
-            push_words(sink, start, &[Word::Number(step as u64), name])
-        }
+        LineRest::Number(number) => push_with_number(sink, start, number),
+        LineRest::Sum(sum) => push_sum(sink, start, sum),
+        LineRest::Metric => push_with_number(sink, start, u64::from(task.metric())),
+        LineRest::Step(step) => push_named(sink, start, step as u64, named.step_name(step)),
         LineRest::OperatorLine(operator) => push_operator_line(sink, task, start, operator),
         LineRest::Operator(operator) => push_operator(sink, task, start, operator),
         LineRest::Rule(rule) => push_rule(sink, task, start, rule),
         LineRest::CouldBe(step, operator) => {
-            let could_be = Word::Text(b"could also be operator");
-            let operator = Word::Number(operator as u64);
-            push_words(
-                sink,
-                start,
-                &[Word::Number(step as u64), could_be, operator],
-            )
+            push_could_be(sink, start, step as u64, operator as u64)
         }
         LineRest::OfFact(fact) => push_fact(sink, task, start, fact),
         LineRest::OfPart(part) => push_part(sink, task, start, part),
-        LineRest::KOfN(count, all, what) => {
-            let (count, all) = (Word::Number(count), Word::Number(all));
-            push_words(
-                sink,
-                start,
-                &[count, Word::Text(b"of"), all, Word::Text(what)],
-            )
-        }
+        LineRest::KOfN(count, all, what) => push_k_of_n(sink, start, count, all, what),
     }
 }
 
@@ -120,6 +104,57 @@ fn push_words<W: Write>(sink: &mut Sink<'_, W>, start: LineStart, words: &[Word<
         rest: words,
     };
     sink.push_line(line);
+}
+
+/// Adds the line of a number, and its end.
+fn push_with_number<W: Write>(sink: &mut Sink<'_, W>, start: LineStart, number: u64)
+    ensures { Pushes W.contents sink.old sink.new
+        (line_with start (decimal number ∷ []) ++ 10 ∷ []) }
+{
+    push_words(sink, start, &[Word::Number(number)])
+}
+
+/// Adds the line of a number that may be larger than a `u64`, and its end.
+fn push_sum<W: Write>(sink: &mut Sink<'_, W>, start: LineStart, sum: u128)
+    ensures { Pushes W.contents sink.old sink.new
+        (line_with start (decimal sum ∷ []) ++ 10 ∷ []) }
+{
+    push_words(sink, start, &[Word::Large(sum)])
+}
+
+/// Adds the line of a step and an operator that it could also be, and its end.
+fn push_could_be<W: Write>(sink: &mut Sink<'_, W>, start: LineStart, step: u64, operator: u64)
+    ensures { Pushes W.contents sink.old sink.new
+        (line_with start (could_be_words step operator) ++ 10 ∷ []) }
+{
+    let could_be = Word::Text(b"could also be operator");
+    let words = [Word::Number(step), could_be, Word::Number(operator)];
+    push_words(sink, start, &words)
+}
+
+/// Adds the line of how many of all are such, and its end.
+fn push_k_of_n<W: Write>(
+    sink: &mut Sink<'_, W>,
+    start: LineStart,
+    count: u64,
+    all: u64,
+    what: &[u8],
+)
+    ensures { Pushes W.contents sink.old sink.new
+        (line_with start (k_of_n_words count all what.now) ++ 10 ∷ []) }
+{
+    let of = Word::Text(b"of");
+    let words = [Word::Number(count), of, Word::Number(all), Word::Text(what)];
+    push_words(sink, start, &words)
+}
+
+/// Adds the line of a number and a name, and its end.
+fn push_named<W: Write>(sink: &mut Sink<'_, W>, start: LineStart, number: u64, name: &[u8])
+    ensures { Pushes W.contents sink.old sink.new
+        (line_with start (named_words number name.now) ++ 10 ∷ []) }
+{
+    let words = [Word::Number(number), Word::Name(name)];
+    push_words(sink, start, &words)
 }
 
 /// Adds the line of an operator and the line at which it begins, and its end.
