@@ -1,5 +1,5 @@
 -- There is an answer about a plan, and only one.
-use Rattle.sas_answers.proofs.Imports.{◌≡◌, refl, sym, ap, ◌∙◌, inl, inr, Some, Parts, PlanParts, WellRanged, IsLayered, PlanFault, NoOperator, NotApplicable, Conflict, GoalMissed, CostDiffers, IsFaultOf, some_verdict, valid_has_no_fault, fault_is_one, Output, valid_answer, invalid_answer, VerdictAnswer}
+use Rattle.sas_answers.proofs.Imports.{◌≡◌, refl, sym, ap, ◌∙◌, inl, inr, Some, Parts, PlanParts, WellRanged, IsLayered, PlanFault, IsFaultOf, some_verdict, valid_has_no_fault, fault_is_one, Output, valid_answer, invalid_answer, VerdictAnswer}
 use Rattle.sas_run.specs.declared.plan_check.PlanFault.TheVariants.{Memory}
 use Rattle.sas_answers.proofs.AnswerLaws.{OneAnswer, SomeAnswer}
 
@@ -18,18 +18,13 @@ one_verdict_answer p layered plan o q a b = elim a [
   ]
 ]
 
-module _ (p : Parts) (plan : PlanParts) (none : (o : Output) → VerdictAnswer p plan o → ⊥) where
-  -- each fault has an answer
-  fault_answered : (fault : PlanFault) → IsFaultOf p plan fault → ⊥
-  fault_answered Memory f = f
-  fault_answered (NoOperator step) f = none _ (inr (NoOperator step, f, refl))
-  fault_answered (NotApplicable step) f = none _ (inr (NotApplicable step, f, refl))
-  fault_answered (Conflict step operator) f = none _ (inr (Conflict step operator, f, refl))
-  fault_answered (GoalMissed index) f = none _ (inr (GoalMissed index, f, refl))
-  fault_answered (CostDiffers sum) f = none _ (inr (CostDiffers sum, f, refl))
+-- each fault has an answer
+fault_answered : (p : Parts) (plan : PlanParts) (fault : PlanFault) → IsFaultOf p plan fault → (o : Output) × (invalid_answer plan.cost fault ≡ Some o)
+fault_answered p plan Memory f = absurd f
+fault_answered p plan _ f = (_, refl)
 
 pub some_verdict_answer : (p : Parts) → WellRanged p → IsLayered p → SomeAnswer (VerdictAnswer p)
 some_verdict_answer p ranged layered plan none = elim (some_verdict p plan ranged layered) [
   | inl valid ↦ none (valid_answer plan) (inl (valid, refl))
-  | inr fault ↦ fault_answered p plan none fault.0 fault.1
+  | inr fault ↦ (let answered = fault_answered p plan fault.0 fault.1 in none answered.0 (inr (fault.0, fault.1, answered.1)))
 ]

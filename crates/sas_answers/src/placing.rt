@@ -45,9 +45,7 @@ fn place_behind_space(piece: &mut [u8], at: usize, bytes: &[u8]) -> Option<usize
     ensures length { length piece.new ≡ length piece.old }
     ensures places { PlacesOrLeaves piece.old piece.new at (32 ∷ bytes.now) result }
 {
-    let Some(behind_space) = place_byte(piece, at, b' ') else {
-        return None;
-    };
+    let behind_space = place_byte(piece, at, b' ')?;
     place(piece, behind_space, bytes)
 }
 
@@ -112,9 +110,7 @@ fn place_small(piece: &mut [u8], at: usize, number: u64) -> Option<usize>
     if number < 100 {
         return place_short(piece, at, number);
     }
-    let Some(behind_hundreds) = place_short(piece, at, number / 100) else {
-        return None;
-    };
+    let behind_hundreds = place_short(piece, at, number / 100)?;
     place_pair(piece, behind_hundreds, number % 100)
 }
 
@@ -127,12 +123,8 @@ fn place_middle(piece: &mut [u8], at: usize, number: u64) -> Option<usize>
     ensures places { PlacesOrLeaves piece.old piece.new at (32 ∷ decimal number) result }
 {
     let hundreds = number / 100;
-    let Some(behind_ten_thousands) = place_small(piece, at, hundreds / 100) else {
-        return None;
-    };
-    let Some(behind_hundreds) = place_pair(piece, behind_ten_thousands, hundreds % 100) else {
-        return None;
-    };
+    let behind_ten_thousands = place_small(piece, at, hundreds / 100)?;
+    let behind_hundreds = place_pair(piece, behind_ten_thousands, hundreds % 100)?;
     place_pair(piece, behind_hundreds, number % 100)
 }
 
@@ -202,9 +194,7 @@ fn place_rest(piece: &mut [u8], at: usize, words: &[Word<'_>]) -> Option<usize>
 {
     let mut end = at;
     for word in words {
-        let Some(next) = place_word(piece, end, *word) else {
-            return None;
-        };
+        let next = place_word(piece, end, *word)?;
         end = next;
     }
     Some(end)
@@ -232,15 +222,9 @@ pub(crate) fn place_line(piece: &mut [u8], at: usize, line: Words<'_>) -> Option
     ensures places { PlacesOrLeaves piece.old piece.new at
         (words_line line.entry ++ 10 ∷ []) result }
 {
-    let Some(behind_spaces) = place_spaces(piece, at, line.indent) else {
-        return None;
-    };
-    let Some(behind_first) = place(piece, behind_spaces, line.first) else {
-        return None;
-    };
-    let Some(behind_rest) = place_rest(piece, behind_first, line.rest) else {
-        return None;
-    };
+    let behind_spaces = place_spaces(piece, at, line.indent)?;
+    let behind_first = place(piece, behind_spaces, line.first)?;
+    let behind_rest = place_rest(piece, behind_first, line.rest)?;
     place_byte(piece, behind_rest, b'\n')
 }
 
@@ -252,20 +236,10 @@ pub(crate) fn place_numbered(piece: &mut [u8], at: usize, line: NumberedLine<'_>
     ensures places { PlacesOrLeaves piece.old piece.new at
         (numbered_line line.entry ++ 10 ∷ []) result }
 {
-    let Some(behind_word) = place(piece, at, line.word) else {
-        return None;
-    };
-    let Some(behind_first) = place_number(piece, behind_word, line.first) else {
-        return None;
-    };
-    let Some(behind_second) = place_number(piece, behind_first, line.second) else {
-        return None;
-    };
-    let Some(behind_third) = place_number(piece, behind_second, line.third) else {
-        return None;
-    };
-    let Some(behind_name) = place_behind_space(piece, behind_third, line.name) else {
-        return None;
-    };
+    let behind_word = place(piece, at, line.word)?;
+    let behind_first = place_number(piece, behind_word, line.first)?;
+    let behind_second = place_number(piece, behind_first, line.second)?;
+    let behind_third = place_number(piece, behind_second, line.third)?;
+    let behind_name = place_behind_space(piece, behind_third, line.name)?;
     place_byte(piece, behind_name, b'\n')
 }

@@ -4,7 +4,7 @@ use Rattle.sas_requests.proofs.ReasonLines.{IsReason, AreReasons, lines_report}
 use Rattle.std.proofs.lemmas.List.Elements.{filter-append}
 use Rattle.sas_requests.proofs.PlainAnswers.{none_kept, kept_first, plain_reported, plain_reason, group_reported}
 
-all_both : {A : Type 0} (P : A → Type 0) (a b : List A) → AllByRecursion P a → AllByRecursion P b → AllByRecursion P (a ++ b)
+pub all_both : {A : Type 0} (P : A → Type 0) (a b : List A) → AllByRecursion P a → AllByRecursion P b → AllByRecursion P (a ++ b)
 all_both P [] b h g = g
 all_both P (first ∷ a) b h g = (h.0, all_both P a b h.1 g)
 

@@ -2,7 +2,7 @@
 pub use Rattle.std.proofs.Common.{◌≡◌, ℕ, List, ap, sym, subst, ◌∙◌, Option, Some, None, Result, Ok, Err, IfOk, ◌≢◌, ◌<◌, ◌⊎◌, [], ◌∷◌, ◌++◌, length, codes, get_or, arith, refl, inl, inr, option_map, append-nil, ◌+◌, ◌≤◌, Bool, true, false, ◌==◌, if◌then◌else◌, length-append, decimal, ◌↔◌, ◌||◌, IsTrue, ◌/◌, ◌%◌, flat_map, not, nat_lt, ◌&&◌, ◌-◌, take, drop, append_assoc, eqb-true, nat_eq, rules, is_some, option_and_then, IsErrOf, IsSomeAnd, map, suc, filter, ◌^◌, zero, ◌*◌, slice_get, Bor, All, slice_index_or, zip, cond, eqb, IfErr, count_by, min, add-one, IsErrAnd}
 pub use Rattle.std.proofs.KnownBytes.{Consumes-nil}
 pub use Rattle.std.proofs.Math.ListN.{get_or-map, get_or-append}
-pub use Rattle.std.proofs.Math.Nat.{mul-le-mul_left, le-min, min-le_left, min-le_right}
+pub use Rattle.std.proofs.Math.Nat.{mul-le-mul_left, le-min, min-le_left}
 pub use Rattle.std.proofs.Math.Seq.{drop-append_seam, get_or-append_seam}
 pub use Rattle.std.proofs.lemmas.Bool.{false≢true, and_from, ne_eqb, ltb-true, cases_lt, lt-ltb}
 pub use Rattle.std.proofs.lemmas.Fmt.{length-decimal-le}
@@ -10,10 +10,11 @@ pub use Rattle.std.proofs.lemmas.Grind.{elements, common_steps, flat_map-append}
 pub use Rattle.std.proofs.lemmas.List.{append_cancel_left, take-append-drop, take_all, map-append, length-map, append_cancel_right, length_push}
 pub use Rattle.std.proofs.lemmas.List.Elements.{Contains-append_cases, All-nil, All-cons, All-head, All-tail, All-same, All-append, All-push, All-weaker, All-contains, Contains-append_right, Contains-append_left, Contains-push, All-get_or, All-from_get_or, Contains-get_or, All-map}
 pub use Rattle.std.proofs.lemmas.List.Folds.{flat_map-map}
+pub use Rattle.std.proofs.lemmas.List.FromFn.{length-enumerate_from}
 pub use Rattle.std.proofs.lemmas.List.Sums.{count_by_more_no, count_by_more_yes, count_by-le-length, AllPass-from_list_all, list_all-from_AllPass, sum_by-cons, sum_by_push}
 pub use Rattle.std.proofs.lemmas.Option.{none-some, slice_get-get_or}
 pub use Rattle.std.proofs.lemmas.Result.{err_from_is_err_and}
-pub use Rattle.std.proofs.lemmas.Slice.Zip.{length-zip, get_or-zip}
+pub use Rattle.std.proofs.lemmas.Slice.Zip.{length-zip, get_or-zip, AllZip-long}
 pub use Rattle.std.specs.Cmp.Lexicographic.{pointwise, same_text, other_text}
 pub use Rattle.std.specs.Fmt.{digits_onto, digit_glyph}
 unfoldable pub use Rattle.std.specs.Fmt.{digits}
@@ -129,10 +130,9 @@ pub use Rattle.sas_task_reasons.specs.GroupReasons.{IsReasonIfAny, reason_at, Ar
 pub use Rattle.sas_task_reasons.specs.WhyGroups.{reason_lines, explained_group_lines, why_lines_from, why_lines, WhyGroupsAnswer}
 pub use Rattle.sas_task_reasons.specs.WhyLayers.{layer_reasons, why_refusal, WhyAnswer, WhyMutexAnswer, with_reasons, WhyCheckAnswer}
 pub use Rattle.sas_task_reasons.specs.declared.reason.Reason.{Reason}
-pub use Rattle.sas_requests.specs.Answering.{FileBy, TaskBy, PlanBy, UnlayeredBy, layers_by, refusal_by, task_refusal_lines, plan_refusal_lines, reported_by, ReasonedBy, CheckBy, MutexBy, VerdictBy, OutBy, IfLayered, IfRefused, refused_by}
+pub use Rattle.sas_requests.specs.Answering.{FileBy, TaskBy, PlanBy, UnlayeredBy, layers_by, refusal_by, task_refusal_lines, plan_refusal_lines, reported_by, ReasonedBy, CheckBy, MutexBy, VerdictBy, OutBy}
 pub use Rattle.sas_requests.specs.EndsFile.{EndsFile}
 pub use Rattle.sas_requests.specs.EndsRequest.{EndsRequest}
-pub use Rattle.sas_requests.specs.FileLaws.{FileLinesAreReasons}
 pub use Rattle.sas_requests.specs.FileLine.{FileLine, ended_line, At, Expected, ExpectedInPlan, NumberMustBe, Counted, Found, Hinted, location_words, due_words, plan_due_words, least_words, empty_words, found_word, plain_in_texts, file_line_bytes}
 pub use Rattle.sas_requests.specs.FileLines.{file_text, file_lines, line_if}
 pub use Rattle.sas_requests.specs.Hint.{hint_words, task_hint, plan_hint}
@@ -140,10 +140,10 @@ pub use Rattle.sas_requests.specs.declared.hint.Hint.{Hint}
 pub use Rattle.sas_requests.specs.FileReasons.{FaultReasons, reported, past_limit, FileReasons, AreTaskReasons, ArePlanReasons, RefusalReasons, ReadReasons, TaskFileReasons, PlanFileReasons}
 pub use Rattle.sas_requests.specs.Headline.{Solves, Headline}
 pub use Rattle.sas_requests.specs.Invariants.{HasInvariant, Invariants}
-pub use Rattle.sas_requests.specs.InTurn.{IsRightlyLong, OpensFirst, OpensInTurn, OpensTo}
-pub use Rattle.sas_requests.specs.Inputs.{HaveBytes, tool_result, judge_result, IsLabel, WereRead, tool_fault}
-pub use Rattle.sas_requests.specs.Judged.{Judged, IsBest, IsSummary, count_words, HasCost, IsJudged, PlansAnswer, PlansOut, JudgeOut, is_valid, labelled}
-pub use Rattle.sas_requests.specs.Judging.{HasBest, IsLower, unjudged, KnownBeginsWith, IsVerdictOnRefusal, IsVerdict, IsVerdictOnPlan, cost_if, Judges, AreSaid, AreReported, IsOneUnsaid, IsPlace, IsOfPlan, IsSaid, IsUnsaid, JudgesPlans, Tallies, summary_of, EndsAt, IsOpened, OpensUntil}
+pub use Rattle.sas_requests.specs.InTurn.{IsRightlyLong, OpensFirst, OpensInTurn, EndsAt, IsOpened, IsOpenedBut}
+pub use Rattle.sas_requests.specs.Inputs.{HaveBytes, tool_result, judge_result, IsLabel, WasRead, WereRead, tool_fault}
+pub use Rattle.sas_requests.specs.Judged.{Judged, HasCost, IsJudged, PlansOut, JudgeOut, is_valid, is_lower, better, best_from, tally_of, labelled, summary_of, plans_answer}
+pub use Rattle.sas_requests.specs.Judging.{HoldsOf, judged_of, cost_if, Judges, IsUnsaid, unjudged, tally_with, AreReported, IsPlace, JudgesPlans}
 pub use Rattle.sas_requests.specs.Output.{word_of, refusal, refusal_line, IsAnswerOrRefusal, UnlayeredAnswer, VerdictOut, PlanOutBy, FileOut, TaskOut, HasOneOutput, ShowAnswer, PrintAnswer, LayeredOut, OutOf, plain_refusal, IsLayeredText, IsLong, AreInputs, reads_task, Out, ShortOutput, PlanOut}
 pub use Rattle.sas_requests.specs.PlansHeadline.{line_of, PlansHeadline, labelled_valid}
 pub use Rattle.sas_requests.specs.PlansLaws.{EachIsThatOfPlan, IsOneLong, RefusesAsPlan}

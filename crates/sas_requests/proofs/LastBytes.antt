@@ -1,8 +1,8 @@
 -- The last byte of a line: a number ends in a digit, and a refusal in a letter.
 use Rattle.sas_requests.proofs.Imports.{◌≡◌, ℕ, zero, suc, ◌+◌, ◌<◌, ◌≤◌, Bool, true, false, cond, eqb, List, [], ◌∷◌, ◌++◌, codes, refl, sym, subst, arith, Some, ◌/◌, ◌%◌, nat_lt, digits, digits_onto, digit_glyph, lt-ltb, none-some, LayerFault, Kind, layer_words, words_at_part, word_of}
+use Rattle.std.proofs.lemmas.Grind.{common_steps}
 use Rattle.std.specs.Fmt.{decimal}
 use Rattle.sas_meaning.specs.declared.layered.LayerFault.TheVariants as layer_fault
-use Rattle.sas_reader.specs.declared.fault.Kind.TheVariants as kinds
 
 -- the last byte, or 0
 abbrev pub last : List ℕ → ℕ
@@ -67,13 +67,7 @@ some_letter : (x w : List ℕ) → Some x ≡ Some w → EndsInLetter x → Ends
 some_letter x w e h = subst EndsInLetter (let same : x ≡ w = cc in same) h
 
 pub kind_letter : (kind : Kind) (w : List ℕ) → word_of kind ≡ Some w → EndsInLetter w
-kind_letter kinds.Keyword w e = some_letter (codes "keyword") w e (omega arith)
-kind_letter kinds.Name w e = some_letter (codes "name") w e (omega arith)
-kind_letter kinds.Shape w e = some_letter (codes "shape") w e (omega arith)
-kind_letter kinds.Value w e = some_letter (codes "value") w e (omega arith)
-kind_letter kinds.End w e = some_letter (codes "end") w e (omega arith)
-kind_letter kinds.Trailing w e = some_letter (codes "trailing") w e (omega arith)
-kind_letter _ w e = absurd (none-some w e)
+kind_letter kind w e = grind (arith, common_steps, some_letter, none-some)
 
 part_letter : (part : List ℕ) (place : ℕ) (what w : List ℕ) → EndsInLetter what → Some (words_at_part part place what) ≡ Some w → EndsInLetter w
 part_letter part place what w h e = some_letter (words_at_part part place what) w e (letter_behind (part ++ codes " " ++ decimal place ++ codes ": ") what h)

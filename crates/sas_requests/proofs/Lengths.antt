@@ -1,6 +1,21 @@
--- The lines of some bytes aren't longer than the bytes.
+-- How long a number is as a text. And the lines of some bytes aren't longer than the bytes.
 use Rattle.std.proofs.lemmas.Grind.{common_steps}
-use Rattle.sas_requests.proofs.Imports.{ℕ, ◌+◌, ◌≤◌, Bool, true, false, ◌==◌, if◌then◌else◌, List, [], ◌∷◌, ◌++◌, length, length-append, arith, text, lines, lines_among, without_return, segments, onto_first}
+use Rattle.sas_requests.proofs.Imports.{ℕ, suc, zero, decimal, ◌/◌, ◌%◌, digits, digits_onto, digit_glyph, ◌+◌, ◌≤◌, Bool, true, false, ◌==◌, if◌then◌else◌, List, [], ◌∷◌, ◌++◌, length, length-append, arith, text, lines, lines_among, without_return, segments, onto_first}
+
+-- a number is spelled in 64 digits at most
+either_short : (last : Bool) (front more : List ℕ) (most : ℕ) → length front ≤ most → length more ≤ most → length (if last then front else more) ≤ most
+either_short true front more most f m = f
+either_short false front more most f m = m
+
+onto_short : (k n : ℕ) (acc : List ℕ) → length (digits_onto k 10 false n acc) ≤ k + length acc
+onto_short zero n acc = omega arith
+onto_short (suc k) n acc =
+    let with : List ℕ = digit_glyph false (n % 10) ∷ acc in
+    either_short (n / 10 == 0) with (digits_onto k 10 false (n / 10) with) (suc k + length acc) (omega arith) (omega (arith, onto_short k (n / 10) with))
+
+pub decimal_short : (n : ℕ) → length (decimal n) ≤ 64
+unfolding digits
+decimal_short n = onto_short 64 n []
 
 without_short : (bytes : List ℕ) → length (without_return bytes) ≤ length bytes
 without_short [] = omega arith

@@ -22,7 +22,6 @@ pub mod TraceLaws
 mod FileEnds
 pub mod RequestEnds
 mod SideBySide
-mod BestPlans
 mod Tallying
 mod PlanVerdicts
 mod Turns

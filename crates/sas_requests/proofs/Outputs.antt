@@ -8,10 +8,10 @@ same_output o q text status =
     let one : o ≡ record { text = q.text; status = o.status } = ap (λ (x : List ℕ). let y : Output = record { text = x; status = o.status } in y) text in
     one ∙ ap (λ (x : Status). let y : Output = record { text = q.text; status = x } in y) status
 
--- no word, no refusal
-no_word : (word : Option (List ℕ)) (said : List ℕ → Output) → None ≡ option_map said word → word ≡ None
-no_word None said e = refl
-no_word (Some word) said e = absurd (none-some (said word) e)
+-- no output is made only of nothing
+pub none_made : {A : Type 0} (make : A → Output) (found : Option A) → None ≡ option_map make found → found ≡ None
+none_made make None e = refl
+none_made make (Some a) e = absurd (none-some (make a) e)
 
 -- a kind that is refused has a word
 pub refused_kind : (k : Kind) (other : Kind) (said : List ℕ → Output) (o : Output) → word_of other ≡ None → option_map said (word_of k) ≡ Some o → k ≢ other
@@ -40,17 +40,10 @@ pub plan_worded : Worded plan_format
 plan_worded s line k = plan_kind_worded line k
 
 numbers_worded : (s : TaskSlot) (line : List ℕ) (k : Kind) → NumbersKind s line k → word_of k ≡ None → ⊥
-numbers_worded s line k (no_shape other) none = none-some _ (sym none)
-numbers_worded s line k (no_value shape) none = none-some _ (sym none)
+numbers_worded s line k h none = grind (arith, common_steps, none-some)
 
 pub task_worded : Worded task_format
-task_worded (word_slot w) line k e none = none-some _ (sym none ∙ ap word_of e)
-task_worded name_slot line k e none = none-some _ (sym none ∙ ap word_of e)
-task_worded number_slot line k why none = numbers_worded number_slot line k why none
-task_worded signed_slot line k why none = numbers_worded signed_slot line k why none
-task_worded fact_slot line k why none = numbers_worded fact_slot line k why none
-task_worded effect_slot line k why none = numbers_worded effect_slot line k why none
-task_worded head_slot line k why none = numbers_worded head_slot line k why none
+task_worded s line k h none = grind (arith, common_steps, none-some, numbers_worded)
 
 module _ {V I S : Type 0} (F : Format V I S) (name : List ℕ) (IsAnswer : V → Output → Type 0) (bytes : List ℕ) where
   pub file_refused : (f : Fault) (o : Output) → refusal name f ≡ Some o → IsFaultOf F bytes f → FileOut F name IsAnswer bytes (Some o)
@@ -81,7 +74,7 @@ module _ {V I S : Type 0} (F : Format V I S) (name : List ℕ) (IsAnswer : V →
       rw fault.whole (omega (arith, length-append fault.before (fault.byte ∷ fault.after)))
 
   long_reading : Worded F → (r : Result V Fault) → ReadsAs F most_bytes bytes r → IsAnswerOrRefusal name IsAnswer r None → most_bytes < length bytes
-  long_reading worded r reads e = grind (arith, common_steps, none-some, too_long_fault, worded, no_word)
+  long_reading worded r reads e = grind (arith, common_steps, none-some, too_long_fault, worded, none_made)
 
   pub long_file : Worded F → FileOut F name IsAnswer bytes None → most_bytes < length bytes
   long_file worded out = long_reading worded out.0 out.1 out.2

@@ -95,10 +95,7 @@ layers_reported fault o is =
 -- ---- verdicts on groups
 
 verdict_plain : (verdict : Verdict) → IsPlain (verdict_words verdict)
-verdict_plain Exclusive = refl
-verdict_plain Derived = refl
-verdict_plain Initial = refl
-verdict_plain (Broken operator) = plain-append (codes "not shown: operator ") (decimal operator) refl (plain-decimal operator)
+verdict_plain verdict = grind (arith, common_steps, plain-append, plain-decimal)
 
 pub group_reported : (place : ℕ) (verdict : Verdict) → IsReported (group_line place verdict)
 group_reported place verdict = grind (arith, common_steps, plain, plain-append, plain-decimal, verdict_plain)

@@ -1,5 +1,5 @@
 -- What is printed of each plan is one line, and a task is refused by one.
-use Rattle.sas_requests.proofs.Imports.{◌≡◌, ℕ, zero, suc, ◌<◌, List, [], ◌∷◌, ◌++◌, length, get_or, codes, decimal, append_assoc, refl, sym, ap, subst, ◌∙◌, arith, inl, inr, Some, Result, Ok, Err, flat_map, AllByRecursion, get_or-append, Parts, PlanParts, LayerFault, lines, text, Plain, lines-append, lines-text, unfinished-text, Fault, IsPlain, plain, plain-decimal, IsLabel, Judged, labelled, unjudged, line_of, plain-append, Output, VerdictAnswer, layers_refusal, layer_words, layers_line, fault_words, invalid_line, No, VerdictOut, IsAnswerOrRefusal, TaskOut, UnlayeredAnswer, plain_refusal, refusal, refusal_line, word_of, worded}
+use Rattle.sas_requests.proofs.Imports.{◌≡◌, ℕ, zero, suc, ◌<◌, List, [], ◌∷◌, ◌++◌, length, get_or, codes, decimal, append_assoc, refl, sym, ap, subst, ◌∙◌, arith, inl, inr, Some, Result, Ok, Err, flat_map, AllByRecursion, get_or-append, Parts, PlanParts, LayerFault, lines, text, Plain, lines-append, lines-text, unfinished-text, Fault, IsPlain, plain, plain-decimal, IsLabel, line_of, plain-append, Output, VerdictAnswer, layers_refusal, layer_words, layers_line, fault_words, invalid_line, No, VerdictOut, IsAnswerOrRefusal, TaskOut, UnlayeredAnswer, plain_refusal, refusal, refusal_line, word_of, worded}
 use Rattle.sas_requests.proofs.PlainLines.{file_words, file_plain, kind_plain, layer_plain, invalid_plain}
 use Rattle.sas_requests.proofs.LastBytes.{EndsInLetter, letter_behind, kind_letter, layer_letter}
 
@@ -38,53 +38,52 @@ pub verdict_line : (p : Parts) (c : List ℕ) (o : Output) → VerdictOut Verdic
 verdict_line p c o out = reading_line p o out.0 out.2
 
 -- with a label in front
-pub labelled_line : (label : List ℕ) (j : Judged) → IsLabel label → j.label ≡ label → IsLine j.line → IsLine (labelled j)
-labelled_line label j is_label e l = record {
+pub labelled_line : (label text : List ℕ) → IsLabel label → IsLine text → IsLine (label ++ codes ": " ++ text)
+labelled_line label text is_label l = record {
   line = label ++ codes ": " ++ l.line;
   plain = plain-append (label ++ codes ": ") l.line (plain-append label (codes ": ") is_label refl) l.plain;
-  is =
-      ap (λ (x : List ℕ). x ++ codes ": " ++ j.line) e ∙ ap (λ (x : List ℕ). label ++ codes ": " ++ x) l.is
-      ∙ sym (append_assoc (label ++ codes ": ") l.line (10 ∷ []));
+  is = ap (λ (x : List ℕ). label ++ codes ": " ++ x) l.is ∙ sym (append_assoc (label ++ codes ": ") l.line (10 ∷ []));
 }
 
--- ---- the lines of all of them
+-- ---- the lines of many texts
 
--- lines that are printed of these plans
-record AreLines (all : List Judged) : Type 0 where
-  are : List (List ℕ)
-  many : length are ≡ length all
-  each : AllByRecursion Plain are
-  whole : flat_map labelled all ≡ text are
-  at : (k : ℕ) → k < length all → get_or are k [] ++ 10 ∷ [] ≡ labelled (get_or all k unjudged)
+module _ {A : Type 0} (text_of : A → List ℕ) (none : A) where
+  -- lines that are printed of these items
+  record AreLines (all : List A) : Type 0 where
+    are : List (List ℕ)
+    many : length are ≡ length all
+    each : AllByRecursion Plain are
+    whole : flat_map text_of all ≡ text are
+    at : (k : ℕ) → k < length all → get_or are k [] ++ 10 ∷ [] ≡ text_of (get_or all k none)
 
-at_more : (line : List ℕ) (are : List (List ℕ)) (j : Judged) (all : List Judged) → line ++ 10 ∷ [] ≡ labelled j → ((k : ℕ) → k < length all → get_or are k [] ++ 10 ∷ [] ≡ labelled (get_or all k unjudged))
-    → (k : ℕ) → k < length (j ∷ all) → get_or (line ∷ are) k [] ++ 10 ∷ [] ≡ labelled (get_or (j ∷ all) k unjudged)
-at_more line are j all here later zero less = here
-at_more line are j all here later (suc k) less = later k (omega arith)
+  at_more : (line : List ℕ) (are : List (List ℕ)) (a : A) (all : List A) → line ++ 10 ∷ [] ≡ text_of a → ((k : ℕ) → k < length all → get_or are k [] ++ 10 ∷ [] ≡ text_of (get_or all k none))
+      → (k : ℕ) → k < length (a ∷ all) → get_or (line ∷ are) k [] ++ 10 ∷ [] ≡ text_of (get_or (a ∷ all) k none)
+  at_more line are a all here later zero less = here
+  at_more line are a all here later (suc k) less = later k (omega arith)
 
-lines_of : (all : List Judged) → ((k : ℕ) → k < length all → IsLine (labelled (get_or all k unjudged))) → AreLines all
-lines_of [] h = record { are = []; many = refl; each = tt; whole = refl; at = λ k less. absurd (omega arith) }
-lines_of (j ∷ all) h =
-    let first : IsLine (labelled j) = h 0 (omega arith) in
-    let rest = lines_of all (λ k less. h (suc k) (omega arith)) in
-    record {
-      are = first.line ∷ rest.are;
-      many = ap suc rest.many;
-      each = (plain first.line first.plain, rest.each);
-      whole = ap (λ (x : List ℕ). x ++ flat_map labelled all) first.is ∙ ap (λ (x : List ℕ). (first.line ++ 10 ∷ []) ++ x) rest.whole;
-      at = at_more first.line rest.are j all (sym first.is) rest.at;
-    }
+  lines_of : (all : List A) → ((k : ℕ) → k < length all → IsLine (text_of (get_or all k none))) → AreLines all
+  lines_of [] h = record { are = []; many = refl; each = tt; whole = refl; at = λ k less. absurd (omega arith) }
+  lines_of (a ∷ all) h =
+      let first : IsLine (text_of a) = h 0 (omega arith) in
+      let rest = lines_of all (λ k less. h (suc k) (omega arith)) in
+      record {
+        are = first.line ∷ rest.are;
+        many = ap suc rest.many;
+        each = (plain first.line first.plain, rest.each);
+        whole = ap (λ (x : List ℕ). x ++ flat_map text_of all) first.is ∙ ap (λ (x : List ℕ). (first.line ++ 10 ∷ []) ++ x) rest.whole;
+        at = at_more first.line rest.are a all (sym first.is) rest.at;
+      }
 
--- line K of the answer is what is printed of plan K
-pub line_at : (all : List Judged) (behind : List ℕ) (k : ℕ) → ((i : ℕ) → i < length all → IsLine (labelled (get_or all i unjudged))) → k < length all → line_of (flat_map labelled all ++ behind) k ≡ labelled (get_or all k unjudged)
-line_at all behind k h less =
-    let ls = lines_of all h in
-    let split : lines (flat_map labelled all ++ behind) ≡ ls.are ++ lines behind =
-    ap (λ (x : List ℕ). lines (x ++ behind)) ls.whole ∙ lines-append (text ls.are) behind ∙ ap (λ (x : List ℕ). lines (text ls.are) ++ lines (x ++ behind)) (unfinished-text ls.are)
-    ∙ ap (λ (x : List (List ℕ)). x ++ lines behind) (lines-text ls.are ls.each) in
-    ap (λ (x : List (List ℕ)). get_or x k [] ++ 10 ∷ []) split
-    ∙ ap (λ (x : List ℕ). x ++ 10 ∷ []) (get_or-append ls.are (lines behind) [] k (omega (arith, ls.many)))
-    ∙ ls.at k less
+  -- line K is the text of item K
+  pub line_at : (all : List A) (behind : List ℕ) (k : ℕ) → ((i : ℕ) → i < length all → IsLine (text_of (get_or all i none))) → k < length all → line_of (flat_map text_of all ++ behind) k ≡ text_of (get_or all k none)
+  line_at all behind k h less =
+      let ls = lines_of all h in
+      let split : lines (flat_map text_of all ++ behind) ≡ ls.are ++ lines behind =
+      ap (λ (x : List ℕ). lines (x ++ behind)) ls.whole ∙ lines-append (text ls.are) behind ∙ ap (λ (x : List ℕ). lines (text ls.are) ++ lines (x ++ behind)) (unfinished-text ls.are)
+      ∙ ap (λ (x : List (List ℕ)). x ++ lines behind) (lines-text ls.are ls.each) in
+      ap (λ (x : List (List ℕ)). get_or x k [] ++ 10 ∷ []) split
+      ∙ ap (λ (x : List ℕ). x ++ 10 ∷ []) (get_or-append ls.are (lines behind) [] k (omega (arith, ls.many)))
+      ∙ ls.at k less
 
 -- ---- a refusal of the task
 

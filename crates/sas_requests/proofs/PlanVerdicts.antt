@@ -1,15 +1,8 @@
 -- The verdict on one plan, by what was read of it.
-use Rattle.sas_requests.proofs.Imports.{◌≡◌, ◌≢◌, ◌⊎◌, inl, inr, ℕ, List, codes, refl, sym, ◌∙◌, Option, Some, None, Result, Ok, Err, IfOk, IfErr, IsErrOf, Consumes, IsAtEnd, Parts, PlanParts, Device, Fault, Kind, ValueOf, ReadsAll, ReadsAs, KindAt, too_long, trailing, wrong, most_bytes, known_answer, known_fault, plan_format, PlanKind, like_step, like_cost, like_none, Status, Yes, No, ToolFault, Answer, Output, output_of, IsWrite, VerdictAnswer, refusal, refusal_line, word_of, PlanReport, HasCost, KnownBeginsWith, VerdictOut, IsVerdictOnRefusal, IsVerdict, IsVerdictOnPlan, cost_if, Judges, worded}
-use Rattle.sas_requests.proofs.Outputs.{refused_kind, too_long_else, reading_of_refusal, file_refused, file_too_long}
+use Rattle.sas_requests.proofs.Imports.{◌≡◌, ◌≢◌, ◌⊎◌, inl, inr, ℕ, List, codes, refl, sym, ◌∙◌, Option, Some, None, Result, Ok, Err, IfOk, IfErr, IsErrOf, IsAtEnd, Parts, PlanParts, Device, Fault, Kind, ValueOf, ReadsAll, ReadsAs, KindAt, too_long, trailing, wrong, most_bytes, known_answer, known_fault, plan_format, PlanKind, like_step, like_cost, like_none, Status, Yes, No, ToolFault, Answer, Output, output_of, IsWrite, VerdictAnswer, refusal, refusal_line, word_of, PlanReport, HasCost, HoldsOf, WasRead, Consumes, subst, IsJudged, VerdictOut, cost_if, judged_of, Judges, worded}
+use Rattle.sas_requests.proofs.Outputs.{IsFaultOf, refused_kind, too_long_else, reading_of_refusal, file_refused, file_too_long}
 use Rattle.sas_reader.specs.declared.fault.Kind.TheVariants as kinds
 use Rattle.sas_answers.specs.declared.ending.ToolFault.TheVariants as tool_fault
-
--- ---- what was read of known bytes
-
-pub consumed_front : (old new : Option (List ℕ)) (c : List ℕ) → Consumes old new c → KnownBeginsWith old c
-consumed_front None new c h whole e = absurd cc
-consumed_front (Some xs) None c h whole e = absurd h
-consumed_front (Some xs) (Some ys) c h whole e = (ys, let same : xs ≡ whole = cc in sym same ∙ h)
 
 -- ---- a plan that was read
 
@@ -17,22 +10,20 @@ cost_of : (c : List ℕ) (plan : PlanParts) (s : Status) (cost : Option ℕ) →
 cost_of c plan Yes cost reads e = (plan, reads.0, e)
 cost_of c plan No cost reads e = e
 
-read_verdict : (p : Parts) (c : List ℕ) (plan : PlanParts) (v : PlanReport) → ReadsAs plan_format most_bytes c (Ok plan) → IsVerdictOnPlan p plan v → IsVerdict p c v
-read_verdict p c plan v reads (output, answer, line, cost) =
-    (output, (Ok plan, reads, (output, answer, refl)), line, cost_of c plan output.status v.cost reads cost)
+read_verdict : (p : Parts) (c : List ℕ) (plan : PlanParts) (v : PlanReport) → ReadsAs plan_format most_bytes c (Ok plan) → VerdictAnswer p plan (output_of v.answer) → v.cost ≡ cost_if v.answer.status plan.cost → IsJudged p c (judged_of v)
+read_verdict p c plan v reads answer cost = ((Ok plan, reads, (output_of v.answer, answer, refl)), cost_of c plan v.answer.status v.cost reads cost)
 
 -- ---- a plan file that is refused
-
-pub refused_status : (name : List ℕ) (f : Fault) (o : Output) → refusal name f ≡ Some o → o.status ≡ No
-refused_status name f o is = (worded (word_of f.kind) (refusal_line name f.line) o is).status
 
 no_cost : (c : List ℕ) (s : Status) (cost : Option ℕ) → s ≡ No → cost ≡ None → HasCost c s cost
 no_cost c Yes cost e none = absurd cc
 no_cost c No cost e none = none
 
-refused_verdict : (p : Parts) (c : List ℕ) (f : Fault) (v : PlanReport) → IsVerdictOnRefusal f v → (f.kind ≢ kinds.Memory → f.kind ≢ kinds.Read → ReadsAs plan_format most_bytes c (Err f)) → IsVerdict p c v
-refused_verdict p c f v (o, is, line, cost) fault =
-    (o, file_refused plan_format (codes "plan") (VerdictAnswer p) c f o is fault, line, no_cost c o.status v.cost (refused_status (codes "plan") f o is) cost)
+refused_verdict : (p : Parts) (c : List ℕ) (f : Fault) (v : PlanReport) → refusal (codes "plan") f ≡ Some (output_of v.answer) → v.cost ≡ None → IsFaultOf plan_format c f → IsJudged p c (judged_of v)
+refused_verdict p c f v is none fault = (
+  file_refused plan_format (codes "plan") (VerdictAnswer p) c f (output_of v.answer) is fault,
+  no_cost c v.answer.status v.cost (worded (word_of f.kind) (refusal_line (codes "plan") f.line) (output_of v.answer) is).status none,
+)
 
 -- a plan in memory never has the fault of a failed read
 
@@ -74,48 +65,43 @@ module _ (b : List ℕ) (p : Parts) (f : Fault) (fault : f.kind ≢ kinds.Memory
 
 -- ---- as it is read from a device
 
+holds_more : (known : Option (List ℕ)) (A B : List ℕ → Type 0) → ((c : List ℕ) → A c → B c) → HoldsOf known A → HoldsOf known B
+holds_more known A B to h = (λ c is. to c (h.0 c is), (h.1.0, h.1.1, to h.1.0 h.1.2))
+
+-- what holds of the bytes of an input holds of those of its plan, where these are known
+was_read : (known now : Option (List ℕ)) (c : List ℕ) → ((whole : List ℕ) → known ≡ Some whole → now ≡ Some whole) → WasRead now c → WasRead known c
+was_read None now c same was = (None, tt)
+was_read (Some whole) now c same (rest, was) = (rest, subst (λ (x : Option (List ℕ)). Consumes x rest c) (same whole refl) was)
+
+pub holds_known : (known now input : Option (List ℕ)) (Holds : List ℕ → Type 0) → HoldsOf now Holds → ((whole : List ℕ) → known ≡ Some whole → input ≡ Some whole) → now ≡ input → HoldsOf known Holds
+holds_known known now input Holds h same e = (
+  λ c is. h.0 c (e ∙ same c is),
+  (h.1.0, was_read known now h.1.0 (λ whole is. e ∙ same whole is) h.1.1, h.1.2),
+)
+
 module _ {D : Type 0} (left : D → Option (List ℕ)) (p : Parts) (old new : Device D) where
-  pub judges_read : (plan : PlanParts) (v : PlanReport) → ReadsAll left plan_format (ValueOf plan_format) old new (Ok plan) → IsVerdictOnPlan p plan v → Judges p (left old.device) (Ok v)
-  judges_read plan v h reports = record {
-    output = λ c known. read_verdict p c plan v (known_answer left plan_format (ValueOf plan_format) old new plan c h known) reports;
-    taken = λ decided.
-        let got = h.read in
-        (got.0, consumed_front (left old.device) (left new.device) got.0 got.1.0, read_verdict p got.0 plan v got.2 reports);
-    writes = tt;
-  }
+  pub judges_read : (plan : PlanParts) (v : PlanReport) → ReadsAll left plan_format (ValueOf plan_format) old new (Ok plan) → VerdictAnswer p plan (output_of v.answer) → v.cost ≡ cost_if v.answer.status plan.cost → Judges p (left old.device) (Ok v)
+  judges_read plan v h answer cost = (
+    λ c known. read_verdict p c plan v (known_answer left plan_format (ValueOf plan_format) old new plan c h known) answer cost,
+    (let got = h.read in (got.0, (left new.device, got.1.0), read_verdict p got.0 plan v got.2 answer cost)),
+  )
 
   module _ (f : Fault) (h : ReadsAll left plan_format (ValueOf plan_format) old new (Err f)) where
-    judges_refused : (v : PlanReport) → IsVerdictOnRefusal f v → Judges p (left old.device) (Ok v)
-    judges_refused v is = record {
-      output = λ c known. refused_verdict p c f v is (known_fault left plan_format (ValueOf plan_format) old new f c h known);
-      taken = λ decided.
-          let got = h.fault (refused_kind f.kind kinds.Memory _ is.0 refl is.1) in (
-            got.0,
-            consumed_front (left old.device) (left new.device) got.0 got.1,
-            refused_verdict p got.0 f v is (λ memory read. reading_of_refusal plan_format got.0 (IsAtEnd (left new.device)) f got.2 read),
-          );
-      writes = tt;
-    }
+    -- the fault is that of its bytes
+    faulty : f.kind ≢ kinds.Memory → HoldsOf (left old.device) (λ c. IsFaultOf plan_format c f)
+    faulty other = (
+      λ c known. known_fault left plan_format (ValueOf plan_format) old new f c h known,
+      (let got = h.fault other in (got.0, (left new.device, got.1), λ memory read. reading_of_refusal plan_format got.0 (IsAtEnd (left new.device)) f got.2 read)),
+    )
 
-    -- or the run ends at it
-    judges_long : f.kind ≡ kinds.TooLong → Judges p (left old.device) (Err tool_fault.TooLong)
-    judges_long long = record {
-      output = λ c known e. file_too_long plan_format (codes "plan") (VerdictAnswer p) c f long (known_fault left plan_format (ValueOf plan_format) old new f c h known);
-      taken = λ decided.
-          let got = h.fault (too_long_else f.kind kinds.Memory long (λ e. absurd cc)) in (
-            got.0,
-            consumed_front (left old.device) (left new.device) got.0 got.1,
-            λ e. file_too_long plan_format (codes "plan") (VerdictAnswer p) got.0 f long (λ memory read. reading_of_refusal plan_format got.0 (IsAtEnd (left new.device)) f got.2 read),
-          );
-      writes = λ w. w;
-    }
-
-    judges_none : (why : ToolFault) → (IsErrOf {T = PlanReport} (Err why) tool_fault.TooLong → f.kind ≡ kinds.TooLong) → (IsWrite why → ⊥) → Judges p (left old.device) (Err why)
-    judges_none tool_fault.TooLong long writes = judges_long (long refl)
-    judges_none tool_fault.Memory long writes = record { output = λ c known e. absurd cc; taken = λ decided. absurd decided; writes = writes }
-    judges_none tool_fault.Read long writes = record { output = λ c known e. absurd cc; taken = λ decided. absurd decided; writes = writes }
-    judges_none (tool_fault.Write n) long writes = absurd (writes tt)
-
-    pub judges_fault : (r : Result PlanReport ToolFault) → IfOk r (IsVerdictOnRefusal f) → (IsErrOf r tool_fault.TooLong → f.kind ≡ kinds.TooLong) → IfErr r (λ e. IsWrite e → ⊥) → Judges p (left old.device) r
-    judges_fault (Ok v) ok long writes = judges_refused v ok
-    judges_fault (Err why) ok long writes = judges_none why long writes
+    -- the refusal is reported, or the run ends at it
+    pub judges_fault : (r : Result PlanReport ToolFault) → IfOk r (λ v. (refusal (codes "plan") f ≡ Some (output_of v.answer)) × (v.cost ≡ None)) → (IsErrOf r tool_fault.TooLong → f.kind ≡ kinds.TooLong) → IfErr r (λ e. IsWrite e → ⊥)
+        → Judges p (left old.device) r
+    judges_fault (Ok v) ok long writes =
+        holds_more (left old.device) (λ c. IsFaultOf plan_format c f) (λ c. IsJudged p c (judged_of v)) (λ c fault. refused_verdict p c f v ok.0 ok.1 fault) (faulty (refused_kind f.kind kinds.Memory _ (output_of v.answer) refl ok.0))
+    judges_fault (Err tool_fault.TooLong) ok long writes =
+        holds_more (left old.device) (λ c. IsFaultOf plan_format c f) (λ c. VerdictOut VerdictAnswer p c None) (λ c fault. file_too_long plan_format (codes "plan") (VerdictAnswer p) c f (long refl) fault)
+        (faulty (too_long_else f.kind kinds.Memory (long refl) (λ e. absurd cc)))
+    judges_fault (Err tool_fault.Memory) ok long writes = tt
+    judges_fault (Err tool_fault.Read) ok long writes = tt
+    judges_fault (Err (tool_fault.Write n)) ok long writes = absurd (writes tt)

@@ -1,19 +1,17 @@
 -- What is printed of many plans says which of them solve the task.
-use Rattle.sas_requests.proofs.Imports.{◌≡◌, ℕ, zero, suc, ◌<◌, Bool, true, false, List, [], ◌∷◌, ◌++◌, length, get_or, codes, decimal, append_assoc, refl, sym, ap, subst, ◌∙◌, arith, inl, inr, Option, Some, Result, Ok, Err, IfOk, ◌↔◌, All, zip, is_some, if◌then◌else◌, list_all, Appends, append_cancel_left, append_cancel_right, All-get_or, All-from_get_or, AllPass-from_list_all, list_all-from_AllPass, Parts, IsLayered, IsLabel, HaveBytes, JudgeFault, tool_result, Judged, HasCost, IsJudged, PlansAnswer, JudgeOut, is_valid, labelled, unjudged, PlansHeadline, line_of, labelled_valid, lines, lines-one, ReadsAs, most_bytes, plain, task_format, Status, Yes, No, Ends, Output, VerdictAnswer, valid_line, Solves, Headline, IsLayeredText, plain_refusal}
+use Rattle.sas_requests.proofs.Imports.{◌≡◌, ℕ, zero, suc, ◌<◌, Bool, true, false, List, [], ◌∷◌, ◌++◌, length, get_or, codes, decimal, append_assoc, refl, sym, ap, subst, ◌∙◌, arith, inl, inr, Option, Some, Result, Ok, Err, IfOk, ◌↔◌, All, zip, is_some, if◌then◌else◌, list_all, Appends, append_cancel_left, append_cancel_right, All-get_or, All-from_get_or, AllPass-from_list_all, list_all-from_AllPass, Parts, IsLayered, IsLabel, HaveBytes, JudgeFault, tool_result, Judged, HasCost, IsJudged, JudgeOut, is_valid, labelled, plans_answer, summary_of, tally_of, unjudged, AllZip, AllZip-long, min, le-min, min-le_left, ◌≤◌, length-zip, get_or-zip, PlansHeadline, line_of, labelled_valid, lines, lines-one, ReadsAs, most_bytes, plain, task_format, Status, Yes, No, Ends, Output, VerdictAnswer, valid_line, Solves, Headline, IsLayeredText, plain_refusal}
 use Rattle.sas_requests.proofs.Headlines.{reports_valid, headline_of, sent_same}
 use Rattle.sas_requests.proofs.PlanOutputs.{plain_refuses, not_refused}
-use Rattle.sas_requests.proofs.SideBySide.{zip_long, zip_at}
+use Rattle.sas_requests.proofs.SideBySide.{zip_at}
 use Rattle.sas_requests.proofs.JudgeLaws.{refuses_as_plan}
 use Rattle.sas_requests.proofs.LastBytes.{last, IsDigit, digit_behind}
 use Rattle.sas_requests.proofs.PlanLines.{IsLine, IsRefusal, verdict_line, labelled_line, line_at, task_refused}
 
 -- what is said of one plan, and what that shows
 record PlanReported (b c label : List ℕ) (j : Judged) : Type 0 where
-  output : Output
-  headline : Headline b c (Appends (Some []) (Some output.text)) output.status
-  line : labelled j ≡ label ++ codes ": " ++ output.text
-  valid : (output.status ≡ Yes) ↔ (is_valid j ≡ true)
-  is_line : IsLine (labelled j)
+  headline : Headline b c (Appends (Some []) (Some j.output.text)) j.output.status
+  valid : (j.output.status ≡ Yes) ↔ (is_valid j ≡ true)
+  is_line : IsLine (labelled (label, j))
 
 status_valid : (c : List ℕ) (s : Status) (cost : Option ℕ) → HasCost c s cost → (s ≡ Yes) ↔ (is_some cost ≡ true)
 status_valid c Yes cost (plan, reads, is) = (λ e. rw is refl, λ e. refl)
@@ -22,41 +20,50 @@ status_valid c No cost is = (λ e. absurd cc, λ e. (let other : false ≡ true 
 -- ---- of a layered task
 
 module _ (p : Parts) (layered : IsLayered p) (labels : List (List ℕ)) (b : List ℕ) (cs : List (List ℕ)) (reads : ReadsAs task_format most_bytes b (Ok p)) (many : length cs ≡ length labels) (are_labels : All IsLabel labels) where
-  plan_reported : (label c : List ℕ) (j : Judged) → IsLabel label → IsJudged p (label, c) j → PlanReported b c label j
-  plan_reported label c j is_label (o, out, same, line, cost) = record {
-    output = o;
-    headline = headline_of VerdictAnswer plain_refusal reports_valid plain_refuses b c o (inr (p, reads, layered, out)) (Some []) (Some o.text) [] o.status refl refl refl;
-    line = ap (λ (x : List ℕ). x ++ codes ": " ++ j.line) same ∙ ap (λ (x : List ℕ). label ++ codes ": " ++ x) line;
-    valid = status_valid c o.status j.cost cost;
-    is_line = labelled_line label j is_label same (subst IsLine (sym line) (verdict_line p c o out));
+  plan_reported : (label c : List ℕ) (j : Judged) → IsLabel label → IsJudged p c j → PlanReported b c label j
+  plan_reported label c j is_label (out, cost) = record {
+    headline = headline_of VerdictAnswer plain_refusal reports_valid plain_refuses b c j.output (inr (p, reads, layered, out)) (Some []) (Some j.output.text) [] j.output.status refl refl refl;
+    valid = status_valid c j.output.status j.cost cost;
+    is_line = labelled_line label j.output.text is_label (verdict_line p c j.output out);
   }
 
-  module _ (o : Output) (answer : PlansAnswer p (zip labels cs) o) where
-    all_long : length answer.all ≡ length labels
-    all_long = zip_long (IsJudged p) labels cs answer.all many answer.each
+  module _ (o : Output) (all : List Judged) (each : AllZip (IsJudged p) cs all) (is : o ≡ plans_answer labels all) where
+    all_long : length all ≡ length labels
+    all_long = AllZip-long (IsJudged p) cs all each ∙ many
 
-    reported_at : (k : ℕ) → k < length labels → PlanReported b (get_or cs k []) (get_or labels k []) (get_or answer.all k unjudged)
+    reported_at : (k : ℕ) → k < length labels → PlanReported b (get_or cs k []) (get_or labels k []) (get_or all k unjudged)
     reported_at k less =
-        plan_reported (get_or labels k []) (get_or cs k []) (get_or answer.all k unjudged) (All-get_or IsLabel labels k [] less are_labels) (zip_at (IsJudged p) unjudged labels cs answer.all k many answer.each less)
+        plan_reported (get_or labels k []) (get_or cs k []) (get_or all k unjudged) (All-get_or IsLabel labels k [] less are_labels) (zip_at (IsJudged p) unjudged cs all k each (omega (arith, less, many)))
 
-    text_at : (k : ℕ) (less : k < length labels) → line_of o.text k ≡ get_or labels k [] ++ codes ": " ++ (reported_at k less).output.text
+    pair_at : (k : ℕ) → k < length labels → get_or (zip labels all) k ([], unjudged) ≡ (get_or labels k [], get_or all k unjudged)
+    pair_at k less = get_or-zip labels all k ([], unjudged) less (omega (arith, less, all_long))
+
+    text_at : (k : ℕ) → k < length labels → line_of o.text k ≡ labelled (get_or labels k [], get_or all k unjudged)
     text_at k less =
-        ap (λ (x : List ℕ). line_of x k) answer.whole
-        ∙ line_at answer.all answer.summary k (λ i within. (reported_at i (omega (arith, all_long, within))).is_line) (omega (arith, all_long))
-        ∙ (reported_at k less).line
+        let both : length labels ≤ min (length labels) (length all) = le-min (omega arith) (omega (arith, all_long)) in
+        let long = length-zip labels all in
+        ap (λ (x : Output). line_of x.text k) is
+        ∙ line_at labelled ([], unjudged) (zip labels all) (summary_of labels (tally_of all)) k
+        (λ i within.
+        let below : i < length labels = omega (arith, within, long, min-le_left (length labels) (length all)) in
+        subst (λ (x : List ℕ × Judged). IsLine (labelled x)) (sym (pair_at i below)) (reported_at i below).is_line)
+        (omega (arith, less, long, both))
+        ∙ ap labelled (pair_at k less)
 
     valid_at : (k steps cost : ℕ) → k < length labels → (line_of o.text k ≡ labelled_valid (get_or labels k []) steps cost) ↔ Solves b (get_or cs k []) (valid_line steps cost)
     valid_at k steps cost less =
-        let reported = reported_at k less in
-        let both = reported.headline.line steps cost in (
-          λ e. both.0 (append_cancel_left (get_or labels k [] ++ codes ": ") reported.output.text (valid_line steps cost) (sym (text_at k less) ∙ e)),
+        let both = (reported_at k less).headline.line steps cost in (
+          λ e. both.0 (append_cancel_left (get_or labels k [] ++ codes ": ") (get_or all k unjudged).output.text (valid_line steps cost) (sym (text_at k less) ∙ e)),
           λ solves. text_at k less ∙ ap (λ (x : List ℕ). get_or labels k [] ++ codes ": " ++ x) (both.1 solves),
         )
+
+    status_is : o.status ≡ (if list_all is_valid all then Yes else No)
+    status_is = ap (λ (x : Output). x.status) is
 
     all_solve : o.status ≡ Yes → (k : ℕ) → k < length labels → (steps cost : ℕ) × Solves b (get_or cs k []) (valid_line steps cost)
     all_solve is_yes k less =
         let reported = reported_at k less in
-        let pass = AllPass-from_list_all is_valid answer.all (all_pass (list_all is_valid answer.all) (sym answer.status ∙ is_yes)) in
+        let pass = AllPass-from_list_all is_valid all (all_pass (list_all is_valid all) (sym status_is ∙ is_yes)) in
         reported.headline.yes.0 (reported.valid.1 (pass k unjudged (omega (arith, all_long))))
       where
         all_pass : (t : Bool) → (if t then Yes else No) ≡ Yes → t ≡ true
@@ -65,16 +72,16 @@ module _ (p : Parts) (layered : IsLayered p) (labels : List (List ℕ)) (b : Lis
 
     status_yes : ((k : ℕ) → k < length labels → (steps cost : ℕ) × Solves b (get_or cs k []) (valid_line steps cost)) → o.status ≡ Yes
     status_yes solve =
-        let pass = All-from_get_or (λ (j : Judged). is_valid j ≡ true) answer.all unjudged
+        let pass = All-from_get_or (λ (j : Judged). is_valid j ≡ true) all unjudged
         (λ k less. let within : k < length labels = omega (arith, all_long, less) in let reported = reported_at k within in reported.valid.0 (reported.headline.yes.1 (solve k within))) in
-        answer.status ∙ ap (λ (t : Bool). if t then Yes else No) (list_all-from_AllPass is_valid answer.all pass)
+        status_is ∙ ap (λ (t : Bool). if t then Yes else No) (list_all-from_AllPass is_valid all pass)
 
     headline_layered : (old new : Option (List ℕ)) (before : List ℕ) (status : Status) → old ≡ Some before → status ≡ o.status → Appends old new o.text → PlansHeadline labels b cs (Appends old new) status
-    headline_layered old new before status known is sent = record {
+    headline_layered old new before status known same sent = record {
       line = λ number steps cost out less sent_out.
           subst (λ (x : List ℕ). (line_of x number ≡ labelled_valid (get_or labels number []) steps cost) ↔ Solves b (get_or cs number []) (valid_line steps cost)) (sent_same old new before o.text out known sent sent_out)
           (valid_at number steps cost less);
-      yes = (λ e. ((p, reads, layered), all_solve (sym is ∙ e)), λ h. is ∙ status_yes h.1);
+      yes = (λ e. ((p, reads, layered), all_solve (sym same ∙ e)), λ h. same ∙ status_yes h.1);
     }
 
 -- ---- of a task that is refused
@@ -120,7 +127,7 @@ module _ (labels : List (List ℕ)) (are_labels : All IsLabel labels) (old new :
   headline_of_output : (b : List ℕ) (cs : List (List ℕ)) (o : Output) (before : List ℕ) (status : Status) → length cs ≡ length labels → old ≡ Some before → status ≡ o.status → Appends old new o.text → JudgeOut labels b cs (Some o) → PlansHeadline labels b cs (Appends old new) status
   headline_of_output b cs o before status many known_before is sent (inl refused) =
       headline_refused labels b cs o (inl refused) (task_refused b o refused) (not_refused plain_refusal b (Some o) refused) old new before status known_before is sent
-  headline_of_output b cs o before status many known_before is sent (inr (p, reads, layered, answer)) = headline_layered p layered labels b cs reads many are_labels o answer old new before status known_before is sent
+  headline_of_output b cs o before status many known_before is sent (inr (p, reads, layered, (all, each, answer))) = headline_layered p layered labels b cs reads many are_labels o all each answer old new before status known_before is sent
 
   pub plans_headline : (r : Result Status JudgeFault) → ((b : List ℕ) (cs : List (List ℕ)) → task ≡ Some b → HaveBytes known (length labels) cs → Ends (JudgeOut labels b cs) (Appends old new) (tool_result r))
       → IfOk r (λ status. (b before : List ℕ) (cs : List (List ℕ)) → task ≡ Some b → HaveBytes known (length labels) cs → old ≡ Some before → PlansHeadline labels b cs (Appends old new) status)

@@ -2,12 +2,13 @@
 -- what it says of plans and groups holds.
 use Rattle.sas_requests.proofs.Imports.{◌≡◌, ◌⊎◌, ℕ, append-nil, List, [], ◌∷◌, ◌++◌, arith, codes, refl, sym, ap, subst, ◌∙◌, inl, inr, Option, Some, false, option_map, Appends, lines, Fault, IsPlain, Exclusive, FileLine, file_lines, file_text, Yes, No, Output, group_line, valid_line, with_reasons, why_refusal, WhyCheckAnswer, WhyMutexAnswer, one_why_check, is_reason, without_reasons, OutOfRead, OutWhy, WithReasons, IsSameAnswer, SameAnswer, RefusalReasons, some_why_check, one_why_mutex, some_why_mutex, WhyVerdict, Request, Plan, Mutex, Solves, Invariants, word_of, refusal, refusal_line, HasOneOutput, IsLong, worded}
 use Rattle.sas_requests.proofs.Headlines.{IsSolved, IsOther, sent_same, headline_by, out_reported, out_solved, SaysHeadline}
+use Rattle.sas_requests.proofs.Outputs.{none_made}
 use Rattle.sas_requests.proofs.PlanOutputs.{output_for}
 use Rattle.sas_requests.proofs.PlainLines.{file_words, file_plain, kind_plain}
 use Rattle.std.specs.Prelude.{Contains}
 use Rattle.sas_requests.proofs.InvariantGroups.{SaysNone, line_says_none, why_groups, invariants_of}
 use Rattle.sas_requests.proofs.ReasonLines.{file_lines_report}
-use Rattle.sas_requests.proofs.RefusalReasons.{no_reasons, none_of, some_of, IsFileRefusal, stand_behind}
+use Rattle.sas_requests.proofs.RefusalReasons.{no_reasons, some_of, IsFileRefusal, stand_behind}
 use Rattle.sas_requests.proofs.RefusalLaws.{HasOneList, reasons_of}
 use Rattle.sas_requests.proofs.SameAnswers.{same_of_read}
 use Rattle.sas_requests.proofs.PlainAnswers.{IsReported, stays, first_stays}
@@ -29,7 +30,7 @@ module _ (IsOut : Option Output → Type 0) (Long : Type 0) (AreReasons : List F
     one = one_reasoned;
     some = λ none. output.some (λ q out. list.some (λ reasons why.
         none (option_map (with_reasons (file_text reasons)) q) (record { of_read = q; reasons = reasons; is_out = out; are_reasons = why; whole = refl })));
-    long = λ out. output.long (subst IsOut (none_of (file_text out.reasons) out.of_read out.whole) out.is_out);
+    long = λ out. output.long (subst IsOut (none_made (with_reasons (file_text out.reasons)) out.of_read out.whole) out.is_out);
   }
 
 pub why_output : (request : Request) (b c : List ℕ) → HasOneOutput (OutWhy request b c) (IsLong request b c)

@@ -26,13 +26,7 @@ no_end_of_numbers : (s : TaskSlot) (line : List ℕ) (k : Kind) → NumbersKind 
 no_end_of_numbers s line k h e = grind (arith, common_steps)
 
 no_end_of_task : (s : TaskSlot) (line : List ℕ) (k : Kind) → task_format.KindOf s line k → k ≢ kinds.End
-no_end_of_task (word_slot w) line k h e = let apart : kinds.Keyword ≡ kinds.End = sym h ∙ e in absurd cc
-no_end_of_task name_slot line k h e = let apart : kinds.Name ≡ kinds.End = sym h ∙ e in absurd cc
-no_end_of_task number_slot line k h e = no_end_of_numbers number_slot line k h e
-no_end_of_task signed_slot line k h e = no_end_of_numbers signed_slot line k h e
-no_end_of_task fact_slot line k h e = no_end_of_numbers fact_slot line k h e
-no_end_of_task effect_slot line k h e = no_end_of_numbers effect_slot line k h e
-no_end_of_task head_slot line k h e = no_end_of_numbers head_slot line k h e
+no_end_of_task s line k h e = grind (arith, common_steps, no_end_of_numbers)
 
 pub task_unended : Unended task_format
 task_unended = ends_unended task_format task_laws_hold.fault_is_no_text no_end_of_task most_bytes

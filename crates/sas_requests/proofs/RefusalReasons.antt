@@ -8,10 +8,6 @@ use Rattle.sas_requests.specs.declared.question.Detail.TheVariants.{Plain}
 pub no_reasons : (o : Output) → with_reasons [] o ≡ o
 no_reasons o = ap (λ (t : List ℕ). let x : Output = record { text = t; status = o.status } in x) (append-nil o.text)
 
-pub none_of : (reasons : List ℕ) (o : Option Output) → None ≡ option_map (with_reasons reasons) o → o ≡ None
-none_of reasons None e = refl
-none_of reasons (Some o) e = absurd (none-some (with_reasons reasons o) e)
-
 -- it is one that was there, with them
 pub some_of : (reasons : List ℕ) (p : Option Output) (o : Output) → Some o ≡ option_map (with_reasons reasons) p → (plain : Output) × (p ≡ Some plain) × (o ≡ with_reasons reasons plain)
 some_of reasons None o e = absurd (none-some o (sym e))

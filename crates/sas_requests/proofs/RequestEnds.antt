@@ -1,5 +1,5 @@
 -- How the output of a request goes out.
-use Rattle.sas_requests.proofs.Imports.{◌≡◌, ℕ, false, true, List, [], codes, inl, inr, refl, sym, ap, subst, ◌∙◌, Option, Some, None, Result, Ok, Err, IsTrue, IfOk, IsSomeAnd, Appends, Parts, PlanParts, LayerFault, IsLayered, Device, ValueOf, ReadsAll, ReadsAs, most_bytes, known_answer, plan_format, task_format, Status, Yes, ToolFault, Output, EndsCounting, Answers, ends_by, answers_by, layers_verdict, LayeredGroupsAnswer, Consumes-nil, Detail, Reasons, PlanDetail, detail_of, CheckBy, MutexBy, VerdictBy, UnlayeredBy, layers_by, TaskBy, PlanBy, OutBy, IfLayered, IfRefused, refused_by, EndsRequest, TaskFileReasons, PlanFileReasons, RefusalReasons, layered_answer, check_layered, check_refused, groups_refused, IsTraced, TraceVerdict, Request, Headline, Invariants, TaskOut, VerdictOut, PlanOutBy, PrintAnswer, AreInputs, reads_task, EndsFile}
+use Rattle.sas_requests.proofs.Imports.{◌≡◌, ℕ, false, true, List, [], codes, inl, inr, refl, sym, ap, subst, ◌∙◌, Option, Some, None, Result, Ok, Err, IsTrue, IfOk, IsSomeAnd, Appends, Parts, PlanParts, LayerFault, IsLayered, Device, ValueOf, ReadsAll, ReadsAs, most_bytes, known_answer, plan_format, task_format, Status, Yes, ToolFault, Output, EndsCounting, Answers, ends_by, answers_by, layers_verdict, LayeredGroupsAnswer, Consumes-nil, Detail, Reasons, PlanDetail, detail_of, CheckBy, MutexBy, VerdictBy, UnlayeredBy, layers_by, TaskBy, PlanBy, OutBy, EndsRequest, TaskFileReasons, PlanFileReasons, RefusalReasons, layered_answer, check_layered, check_refused, groups_refused, IsTraced, TraceVerdict, Request, Headline, Invariants, TaskOut, VerdictOut, PlanOutBy, PrintAnswer, AreInputs, reads_task, EndsFile}
 use Rattle.sas_requests.proofs.PlanOutputs.{first_alone, second_alone, not_refused}
 use Rattle.sas_requests.specs.declared.Request.TheVariants as request
 use Rattle.sas_requests.specs.declared.question.Detail.TheVariants.{Plain}
@@ -28,18 +28,6 @@ mutex_no Reasons p o (fault, first, is) = groups_refused p o fault is first
 pub trace_answers : (p : Parts) (plan : PlanParts) (o : Option Output) → IsTraced p plan o → IsSomeAnd o (TraceVerdict p plan)
 trace_answers p plan (Some o) traced = traced
 trace_answers p plan None traced = traced
-
--- ---- tasks that are refused
-
--- what holds of the end of a refusal holds of reading the task
-pub refused_ends : (ended : Result Status ToolFault) (Holds : Result Status ToolFault → Type 0) → Holds ended → IfRefused (refused_by ended) Holds
-refused_ends (Ok status) Holds holds = holds
-refused_ends (Err fault) Holds holds = holds
-
--- and no task was read
-pub refused_none : (ended : Result Status ToolFault) (Holds : Parts → Type 0) → IfLayered (refused_by ended) Holds
-refused_none (Ok status) Holds = tt
-refused_none (Err fault) Holds = tt
 
 -- ---- the output of `plan`
 

@@ -1,28 +1,9 @@
 -- Each output without reasons is shorter than 2 ^ 64 bytes.
 use Rattle.std.proofs.lemmas.Grind.{common_steps}
 use Rattle.sas_requests.proofs.Imports.{◌≡◌, ℕ, suc, zero, ◌+◌, ◌*◌, ◌^◌, ◌<◌, ◌≤◌, Bool, true, false, if◌then◌else◌, List, [], ◌∷◌, ◌++◌, length, codes, length-append, arith, refl, sym, subst, inl, inr, Option, Some, None, Result, Ok, Err, decimal, option_map, ◌==◌, ◌/◌, ◌%◌, digits, digits_onto, digit_glyph, none-some, Parts, PlanParts, first_fault, text, LayerFault, layer_checks, Verdict, Broken, PlanFault, Fault, Kind, ValueOf, Format, ReadsAs, most_bytes, plan_format, task_format, outline_of, Yes, No, Output, layers_refusal, layers_verdict, CheckAnswer, LayeredGroupsAnswer, MutexAnswer, valid_answer, VerdictAnswer, words_at_part, layer_words, layers_line, step_words, fault_words, verdict_words, group_line, verdict_lines_from, Show, Print, Steps, Check, Plan, Mutex, word_of, refusal, IsAnswerOrRefusal, ShowAnswer, PrintAnswer, FileOut, UnlayeredAnswer, plain_refusal, ShortOutput}
-use Rattle.sas_requests.proofs.Lengths.{text_short}
+use Rattle.sas_requests.proofs.Lengths.{decimal_short, text_short}
 use Rattle.sas_meaning.specs.declared.layered.LayerFault.TheVariants as layer_fault
-use Rattle.sas_run.specs.declared.plan_check.PlanFault.TheVariants as plan_fault
-use Rattle.sas_reader.specs.declared.fault.Kind.TheVariants as kinds
 use Rattle.sas_requests.proofs.SummaryLengths.{summary_fits}
-
--- ---- numbers
-
--- a number is spelled in 64 digits at most
-either_short : (last : Bool) (front more : List ℕ) (most : ℕ) → length front ≤ most → length more ≤ most → length (if last then front else more) ≤ most
-either_short true front more most f m = f
-either_short false front more most f m = m
-
-onto_short : (k n : ℕ) (acc : List ℕ) → length (digits_onto k 10 false n acc) ≤ k + length acc
-onto_short zero n acc = omega arith
-onto_short (suc k) n acc =
-    let with : List ℕ = digit_glyph false (n % 10) ∷ acc in
-    either_short (n / 10 == 0) with (digits_onto k 10 false (n / 10) with) (suc k + length acc) (omega arith) (omega (arith, onto_short k (n / 10) with))
-
-decimal_short : (n : ℕ) → length (decimal n) ≤ 64
-unfolding digits
-decimal_short n = onto_short 64 n []
 
 -- ---- lines of words
 
@@ -45,10 +26,7 @@ line_short line_of longer (Some words) short o is = grind (arith, common_steps)
 -- ---- the refusal of a file
 
 kind_short : (kind : Kind) → AreShort (word_of kind)
-kind_short kinds.TooLong = none_short
-kind_short kinds.Read = none_short
-kind_short kinds.Memory = none_short
-kind_short _ = some_short _ (omega arith)
+kind_short kind = grind (arith, common_steps, some_short, none_short)
 
 refusal_short : (name : List ℕ) → length name ≤ 9 → (fault : Fault) (o : Output) → refusal name fault ≡ Some o → length o.text < 2 ^ 64
 refusal_short name named fault = grind (arith, common_steps, line_short, decimal_short, kind_short)
@@ -81,12 +59,7 @@ step_short : (step : ℕ) (what : List ℕ) → length what ≤ 100 → AreShort
 step_short step what short = grind (arith, common_steps, some_short, decimal_short)
 
 fault_words_short : (cost : ℕ) (fault : PlanFault) → AreShort (fault_words cost fault)
-fault_words_short cost (plan_fault.NoOperator step) = step_short step (codes "no operator of that name") (omega arith)
-fault_words_short cost (plan_fault.NotApplicable step) = step_short step (codes "not applicable") (omega arith)
-fault_words_short cost (plan_fault.Conflict step operator) = step_short step (codes "conflicting effects") (omega arith)
-fault_words_short cost (plan_fault.GoalMissed index) = grind (arith, common_steps, some_short, decimal_short)
-fault_words_short cost (plan_fault.CostDiffers sum) = grind (arith, common_steps, some_short, decimal_short)
-fault_words_short cost plan_fault.Memory = none_short
+fault_words_short cost fault = grind (arith, common_steps, step_short, none_short, some_short, decimal_short)
 
 valid_short : (plan : PlanParts) → length (valid_answer plan).text < 2 ^ 64
 valid_short plan = grind (arith, common_steps, decimal_short)

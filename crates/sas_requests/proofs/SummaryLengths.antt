@@ -1,9 +1,9 @@
 -- How long a summary is. What is read of a task is at most 4 GiB, and so a `usize` holds the length of its summary.
-use Rattle.sas_requests.proofs.Imports.{◌≡◌, ℕ, suc, zero, ◌+◌, ◌*◌, ◌^◌, ◌<◌, ◌≤◌, Bool, true, false, if◌then◌else◌, List, [], ◌∷◌, ◌++◌, length, map, codes, length-append, arith, refl, sym, ap, subst, ◌∙◌, inl, inr, Option, Some, None, ◌⊎◌, decimal, slice_get, is_some, enumerate_from, length-decimal-le, flat_map-append, map-append, cases_lt, count_by-le-length, none-some, mul-le-mul_left, Fact, Variable, Parts, WellRanged, text, ValueOf, TaskLine, word, name, signed, fact, task_line_bytes, single_line, between, counted, version_lines, metric_lines, variable_lines, group_lines, state_lines, operator_lines, rule_lines, task_layout, task_format, Outline, OutlineOf, outline_of, value_name, unwrap_or, joined, fact_line, derived_count, number_line, number_lines, initial_lines, goal_fact_lines, summary_lines, initial_text, initial_is}
+use Rattle.sas_requests.proofs.Imports.{◌≡◌, ℕ, suc, zero, ◌+◌, ◌*◌, ◌^◌, ◌<◌, ◌≤◌, Bool, true, false, if◌then◌else◌, List, [], ◌∷◌, ◌++◌, length, map, codes, length-append, arith, refl, sym, ap, subst, ◌∙◌, inl, inr, Option, Some, None, ◌⊎◌, decimal, slice_get, enumerate_from, length-map, length-enumerate_from, AllByRecursion, flat_map-append, map-append, cases_lt, none-some, mul-le-mul_left, Fact, Variable, Parts, WellRanged, text, ValueOf, TaskLine, word, name, signed, fact, task_line_bytes, single_line, between, counted, version_lines, metric_lines, variable_lines, group_lines, state_lines, operator_lines, rule_lines, task_layout, task_format, Outline, OutlineOf, outline_of, value_name, unwrap_or, joined, fact_line, derived_count, number_line, number_lines, initial_lines, goal_fact_lines, summary_lines}
 use Rattle.std.specs.List.{flat_map}
 use Rattle.sas_task_file.specs.TaskFormat.{number}
-use Rattle.sas_requests.proofs.Lengths.{text_short}
-use Rattle.sas_requests.proofs.Summaries.{goal_text, goal_is, summary_is}
+use Rattle.sas_requests.proofs.Lengths.{decimal_short, text_short}
+use Rattle.sas_requests.proofs.GroupLines.{all_both}
 use Rattle.sas_task_file.specs.TaskFormat as file
 
 -- ---- how many bytes lines of a file take
@@ -62,59 +62,60 @@ name_short (v ∷ variables) zero value bytes is =
 name_short (v ∷ variables) (suc var) value bytes is =
     omega (arith, name_short variables var value bytes is, size_behind (variable_lines v) (flat_map variable_lines variables))
 
--- ---- the lines of facts
+-- ---- the lines of the summary
 
-fact_text_short : (first : List ℕ) (variables : List Variable) (var value n : ℕ) → size (flat_map variable_lines variables) ≤ n → length (fact_line first variables var value ++ 10 ∷ []) ≤ length first + length (decimal var) + length (decimal value) + n + 4
-fact_text_short first variables var value n h = said (value_name variables var value) (λ bytes is. name_short variables var value bytes is)
-  where
-    said : (found : Option (List ℕ)) → ((bytes : List ℕ) → found ≡ Some bytes → length bytes ≤ size (flat_map variable_lines variables)) → length (joined (first ∷ decimal var ∷ decimal value ∷ unwrap_or found [] ∷ []) ++ 10 ∷ []) ≤ length first + length (decimal var) + length (decimal value) + n + 4
-    said None short = grind (arith, length-append {A = ℕ})
-    said (Some bytes) short = grind (arith, h, short bytes refl, length-append {A = ℕ})
+-- so many bytes, where each line is shorter than this
+lines_fit : (most : ℕ) (ls : List (List ℕ)) → AllByRecursion (λ l. length l < most) ls → length (text ls) ≤ length ls * most
+lines_fit most [] h = omega arith
+lines_fit most (l ∷ ls) h = omega (arith, lines_fit most ls h.1, h.0, length-append (l ++ 10 ∷ []) (text ls), length-append l (10 ∷ []))
 
-both_short : (a b : List ℕ) (m n : ℕ) → length a ≤ m → length b ≤ n → length (a ++ b) ≤ m + n
-both_short a b m n first second = omega (arith, length-append a b, first, second)
+each_fits : {A : Type 0} (most : ℕ) (line_of : A → List ℕ) → ((a : A) → length (line_of a) < most) → (items : List A) → AllByRecursion (λ l. length l < most) (map line_of items)
+each_fits most line_of short [] = tt
+each_fits most line_of short (a ∷ items) = (short a, each_fits most line_of short items)
 
-fact_line_size : (f : Fact) → size (single_line fact f) ≡ length (decimal f.var) + length (decimal f.value) + 2
-fact_line_size f = omega (arith, size_of_one (fact f), length-append (decimal f.var) (32 ∷ decimal f.value))
+number_short : (n : ℕ) (first : List ℕ) (k : ℕ) → length first ≤ 9 → length (number_line first k) < n + 150
+number_short n first k short = omega (arith, length-append first (32 ∷ decimal k), decimal_short k)
 
-goal_short : (variables : List Variable) (n : ℕ) → size (flat_map variable_lines variables) ≤ n → (facts : List Fact) → length (flat_map (goal_text variables) facts) ≤ length facts * (n + 21) + size (flat_map (single_line fact) facts)
-goal_short variables n h [] = omega arith
-goal_short variables n h (f ∷ facts) =
-    let both = both_short (goal_text variables f) (flat_map (goal_text variables) facts) _ _ (fact_text_short (codes "goal") variables f.var f.value n h) (goal_short variables n h facts) in
-    omega (arith, both, fact_line_size f, size_of_both)
+module _ (variables : List Variable) (n : ℕ) (h : size (flat_map variable_lines variables) ≤ n) where
+  fact_short : (first : List ℕ) → length first ≤ 9 → (var value : ℕ) → length (fact_line first variables var value) < n + 150
+  fact_short first short var value = said (value_name variables var value) (λ bytes is. name_short variables var value bytes is)
+    where
+      said : (found : Option (List ℕ)) → ((bytes : List ℕ) → found ≡ Some bytes → length bytes ≤ size (flat_map variable_lines variables)) → length (joined (first ∷ decimal var ∷ decimal value ∷ unwrap_or found [] ∷ [])) < n + 150
+      said None named = grind (arith, length-append {A = ℕ}, decimal_short)
+      said (Some bytes) named = grind (arith, h, named bytes refl, length-append {A = ℕ}, decimal_short)
 
-number_line_size : (n : ℕ) → size (single_line number n) ≡ length (decimal n) + 1
-number_line_size n = size_of_one (number n)
-
-initial_short : (variables : List Variable) (n : ℕ) → size (flat_map variable_lines variables) ≤ n → (from : ℕ) (values : List ℕ) → from + length values < 10 ^ 10 → length (flat_map (initial_text variables) (enumerate_from from values)) ≤ length values * (n + 21) + size (flat_map (single_line number) values)
-initial_short variables n h from [] fits = omega arith
-initial_short variables n h from (value ∷ values) fits =
-    let both = both_short (initial_text variables (from, value)) (flat_map (initial_text variables) (enumerate_from (from + 1) values)) _ _ (fact_text_short (codes "initial") variables from value n h) (initial_short variables n h (from + 1) values (omega (arith, fits))) in
-    omega (arith, both, length-decimal-le 10 from (omega arith) (omega (arith, fits)) (omega (arith, fits)), number_line_size value, size_of_both)
-
--- ---- the lines of numbers
-
--- the text of these lines takes so many bytes at most
-record IsWithin (row : List (List ℕ)) (most : ℕ) : Type 0 where
-  pub bytes : length (text row) ≤ most
-
-number_then : (first : List ℕ) (n most : ℕ) (rest : List (List ℕ)) → length first ≤ 9 → n < 2 ^ 32 → IsWithin rest most → IsWithin (number_line first n ∷ rest) (most + 21)
-number_then first n most rest short fits h = record { bytes = grind (arith, h.bytes, short, length-append {A = ℕ}, length-decimal-le 10 n (omega arith) (omega (arith, fits)) (omega (arith, fits))) }
-
-metric_fits : (metric : Bool) → (if metric then 1 else 0) < 2 ^ 32
-metric_fits true = omega arith
-metric_fits false = omega arith
-
-numbers_short : (p : Parts) → WellRanged p → IsWithin (number_lines (outline_of p)) 126
-numbers_short p good =
-    let none : IsWithin [] 0 = record { bytes = omega arith } in
-    let of_rules = number_then (codes "rules") (length p.rules) 0 _ (omega arith) (omega (arith, good.rules.count)) none in
-    let of_operators = number_then (codes "operators") (length p.operators) 21 _ (omega arith) (omega (arith, good.operators.count)) of_rules in
-    let of_groups = number_then (codes "groups") (length p.groups) 42 _ (omega arith) (omega (arith, good.groups.count)) of_operators in
-    let few = count_by-le-length (λ (v : Variable). is_some v.layer) p.variables in
-    let of_derived = number_then (codes "derived") (derived_count p.variables) 63 _ (omega arith) (omega (arith, few, good.variables.count)) of_groups in
-    let of_variables = number_then (codes "variables") (length p.variables) 84 _ (omega arith) (omega (arith, good.variables.count)) of_derived in
-    number_then (codes "metric") (if p.metric then 1 else 0) 105 _ (omega arith) (metric_fits p.metric) of_variables
+summary_short : (o : Outline) (n : ℕ) → size (flat_map variable_lines o.variables) ≤ n → length (text (summary_lines o)) ≤ (6 + length o.init + length o.goal) * (n + 150)
+summary_short o n h =
+    let Short = λ (l : List ℕ). length l < n + 150 in
+    let numbers : AllByRecursion Short (number_lines o) = (
+      number_short n (codes "metric") _ (omega arith),
+      (
+        number_short n (codes "variables") _ (omega arith),
+        (
+          number_short n (codes "derived") _ (omega arith),
+          (
+            number_short n (codes "groups") _ (omega arith),
+            (
+              number_short n (codes "operators") _ (omega arith),
+              (number_short n (codes "rules") _ (omega arith), tt),
+            ),
+          ),
+        ),
+      ),
+    ) in
+    let initial = each_fits (n + 150) (λ (var, value). fact_line (codes "initial") o.variables var value) (λ (var, value). fact_short o.variables n h (codes "initial") (omega arith) var value) (enumerate_from 0 o.init) in
+    let goal = each_fits (n + 150) (λ (f : Fact). fact_line (codes "goal") o.variables f.var f.value) (λ f. fact_short o.variables n h (codes "goal") (omega arith) f.var f.value) o.goal in
+    let behind = initial_lines o.variables o.init ++ goal_fact_lines o.variables o.goal in
+    let all = all_both Short (number_lines o) behind numbers (all_both Short (initial_lines o.variables o.init) (goal_fact_lines o.variables o.goal) initial goal) in
+    let many : length (summary_lines o) ≡ 6 + length o.init + length o.goal = omega (
+      arith,
+      length-append (number_lines o) behind,
+      length-append (initial_lines o.variables o.init) (goal_fact_lines o.variables o.goal),
+      length-map (enumerate_from 0 o.init) (λ (var, value). fact_line (codes "initial") o.variables var value),
+      length-enumerate_from 0 o.init,
+      length-map o.goal (λ (f : Fact). fact_line (codes "goal") o.variables f.var f.value),
+    ) in
+    subst (λ (k : ℕ). length (text (summary_lines o)) ≤ k * (n + 150)) many (lines_fit (n + 150) (summary_lines o) all)
 
 -- ---- the whole
 
@@ -138,33 +139,21 @@ unfolding size
 size_of_read bytes p (reads, short) =
     subst (λ (l : List (List ℕ)). length (text l) ≤ 2 ^ 32) reads.lines (omega (arith, text_short bytes, short))
 
--- a summary is as long as its parts
-length_of_summary : (o : Outline) → length (text (summary_lines o)) ≡ length (text (number_lines o)) + length (flat_map (initial_text o.variables) (enumerate_from 0 o.init)) + length (flat_map (goal_text o.variables) o.goal)
-length_of_summary o =
-    let numbers = text (number_lines o) in
-    let initial = text (initial_lines o.variables o.init) in
-    let goal = text (goal_fact_lines o.variables o.goal) in
-    ap length (sym (summary_is o numbers refl)) ∙ length-append (numbers ++ initial) goal ∙ ap (λ (k : ℕ). k + length goal) (length-append numbers initial)
-    ∙ ap (λ (l : List ℕ). length numbers + length initial + length l) (goal_is o.variables o.goal)
-    ∙ ap (λ (l : List ℕ). length numbers + length l + length (flat_map (goal_text o.variables) o.goal)) (initial_is o.variables o.init)
-
 -- a line for each of so many items, each with no more than n bytes of a name
-product_fits : (n v g numbers rest whole : ℕ) → v + g + n ≤ 2 ^ 32 → rest ≤ 2 ^ 32 → numbers ≤ 126 → whole ≤ numbers + v * (n + 21) + g * (n + 21) + rest → whole < 2 ^ 64
-product_fits n v g numbers rest whole few small short h = either (cases_lt n (2 ^ 31))
+product_fits : (n many whole : ℕ) → many + n ≤ 2 ^ 32 + 6 → whole ≤ many * (n + 150) → whole < 2 ^ 64
+product_fits n many whole few h = either (cases_lt n (2 ^ 31))
   where
-    within : (most : ℕ) → n + 21 ≤ most → whole ≤ numbers + v * most + g * most + rest
-    within most low = omega (arith, h, mul-le-mul_left v low, mul-le-mul_left g low)
+    within : (most : ℕ) → n + 150 ≤ most → whole ≤ many * most
+    within most low = omega (arith, h, mul-le-mul_left many low)
 
     either : (n < 2 ^ 31) ⊎ (2 ^ 31 ≤ n) → whole < 2 ^ 64
-    either (inl low) = omega (arith, few, small, short, within (2 ^ 31 + 21) (omega (arith, low)))
-    either (inr high) = omega (arith, few, small, short, high, within (2 ^ 32 + 21) (omega (arith, few)))
+    either (inl low) = omega (arith, few, within (2 ^ 31 + 150) (omega (arith, low)))
+    either (inr high) = omega (arith, few, high, within (2 ^ 32 + 156) (omega (arith, few)))
 
 pub summary_fits : (bytes : List ℕ) (o : Outline) → OutlineOf bytes o → length (text (summary_lines o)) < 2 ^ 64
 summary_fits bytes o (p, value, is) =
     let variables = flat_map variable_lines p.variables in
     let values = flat_map (single_line number) p.init in
-    let facts = flat_map (single_line fact) p.goal in
-    let n = size variables in
     let sections = size_of_sections version_lines (metric_lines p.metric) (counted variable_lines p.variables) (counted group_lines p.groups) (state_lines p.init) (file.goal_lines p.goal) (counted operator_lines p.operators) (counted rule_lines p.rules) in
     let of_variables = counted_size variable_lines p.variables in
     let of_values = between_size (codes "begin_state") values (codes "end_state") in
@@ -172,13 +161,6 @@ summary_fits bytes o (p, value, is) =
     let all = size_of_read bytes p value in
     let few_values = size_of_each number p.init in
     let few_facts = size_of_each fact p.goal in
-    let initial = initial_short p.variables n (omega arith) 0 p.init (omega (arith, sections, of_values, all, few_values)) in
-    let goal = goal_short p.variables n (omega arith) p.goal in
-    let numbers = (numbers_short p value.0.good).bytes in
-    let whole = length_of_summary (outline_of p) in
     subst (λ (q : Outline). length (text (summary_lines q)) < 2 ^ 64) (sym is)
-    (product_fits n (length p.init) (length p.goal) (length (text (number_lines (outline_of p)))) (size values + size facts) _
-    (omega (arith, sections, of_variables, of_values, of_facts, all, few_values, few_facts))
-    (omega (arith, sections, of_variables, of_values, of_facts, all))
-    numbers
-    (omega (arith, whole, initial, goal)))
+    (product_fits (size variables) (6 + length p.init + length p.goal) _ (omega (arith, sections, of_variables, of_values, of_facts, all, few_values, few_facts))
+    (summary_short (outline_of p) (size variables) (omega arith)))

@@ -1,5 +1,5 @@
 -- How a run over many plans ends, by what came of reading its task.
-use Rattle.sas_requests.proofs.Imports.{◌≡◌, ℕ, List, [], ◌++◌, length, refl, sym, ap, inl, inr, Option, Some, None, Result, Ok, Err, zip, Parts, Device, Consumes, ReadsAll, ReadsAs, ValueOf, most_bytes, task_format, known_answer, IsLayered, Status, ToolFault, Output, Ends, EndsCounting, IsDecided, exact_ends, EndsFile, TaskBy, UnlayeredBy, TaskOut, UnlayeredAnswer, plain_refusal, Plan, JudgeFault, tool_result, HaveBytes, WereRead, JudgeOut, PlansOut, JudgesPlans}
+use Rattle.sas_requests.proofs.Imports.{◌≡◌, ℕ, List, [], ◌++◌, length, refl, sym, ap, inl, inr, Option, Some, None, Result, Ok, Err, zip, Parts, Device, Consumes, ReadsAll, ReadsAs, ValueOf, most_bytes, task_format, known_answer, IsLayered, Status, ToolFault, Output, Ends, EndsCounting, IsDecided, exact_ends, EndsFile, TaskBy, UnlayeredBy, TaskOut, UnlayeredAnswer, plain_refusal, Plan, JudgeFault, tool_result, HaveBytes, WasRead, WereRead, Consumes-nil, JudgeOut, PlansOut, JudgesPlans}
 use Rattle.sas_requests.proofs.ShortOutputs.{short_output}
 use Rattle.sas_answers.specs.declared.ending.ToolFault.TheVariants as tool_fault
 use Rattle.sas_requests.specs.declared.question.Detail.TheVariants.{Plain}
@@ -16,16 +16,14 @@ ends_more Sent A B (Err tool_fault.Read) to out = tt
 -- of plans that aren't opened nothing is read
 unread : (known : ℕ → Option (List ℕ)) (count : ℕ) → (cs : List (List ℕ)) × WereRead known count cs
 unread known count =
-    let chosen = choose (λ k c. c ≡ []) count (λ k less. ([], refl)) in (
-      chosen.items,
-      (chosen.many, λ k whole less is. (whole, ap (λ (c : List ℕ). c ++ whole) (sym (chosen.each k less)))),
-    )
+    let chosen = choose (λ k c. WasRead (known k) c) count (λ k less. ([], (known k, Consumes-nil (known k)))) in
+    (chosen.items, (chosen.many, chosen.each))
 
 module _ {D : Type 0} (left : D → Option (List ℕ)) (known : ℕ → Option (List ℕ)) (labels : List (List ℕ)) (Sent : List ℕ → Type 0) (old new : Device D) where
   -- of a layered task
   module _ (p : Parts) (read : ReadsAll left task_format (ValueOf task_format) old new (Ok p)) (layered : IsLayered p) (r : Result Status JudgeFault) (judges : JudgesPlans p known labels Sent r) where
-    of_plans : (b : List ℕ) (cs : List (List ℕ)) → ReadsAs task_format most_bytes b (Ok p) → Ends (PlansOut p (zip labels cs)) Sent (tool_result r) → Ends (JudgeOut labels b cs) Sent (tool_result r)
-    of_plans b cs reads = ends_more Sent (PlansOut p (zip labels cs)) (JudgeOut labels b cs) (tool_result r) (λ o is. inr (p, reads, layered, is))
+    of_plans : (b : List ℕ) (cs : List (List ℕ)) → ReadsAs task_format most_bytes b (Ok p) → Ends (PlansOut p labels cs) Sent (tool_result r) → Ends (JudgeOut labels b cs) Sent (tool_result r)
+    of_plans b cs reads = ends_more Sent (PlansOut p labels cs) (JudgeOut labels b cs) (tool_result r) (λ o is. inr (p, reads, layered, is))
 
     pub layered_output : (b : List ℕ) (cs : List (List ℕ)) → left old.device ≡ Some b → HaveBytes known (length labels) cs → Ends (JudgeOut labels b cs) Sent (tool_result r)
     layered_output b cs known_b have = of_plans b cs (known_answer left task_format (ValueOf task_format) old new p b read known_b) (judges.output cs have)

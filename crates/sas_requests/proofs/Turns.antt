@@ -1,42 +1,18 @@
 -- Which plans were opened, one after another, up to the end of a run.
-use Rattle.sas_requests.proofs.Imports.{◌≡◌, ◌≢◌, ℕ, suc, ◌+◌, ◌<◌, List, add-one, refl, sym, subst, arith, inl, inr, Option, Some, Result, Ok, Err, IfErr, IsErrOf, Status, ToolFault, IsWrite, EndsCounting, TaskOut, UnlayeredAnswer, plain_refusal, NotOpened, JudgeFault, Tool, tool_result, judge_result, IsRightlyLong, OpensFirst, OpensInTurn, OpensTo, EndsAt, IsOfPlan, IsOpened, OpensUntil}
+use Rattle.sas_requests.proofs.Imports.{◌≡◌, ◌≢◌, ℕ, suc, ◌+◌, ◌<◌, List, add-one, refl, sym, subst, arith, inl, inr, Option, Some, Result, Ok, Err, IfErr, IsErrOf, Status, ToolFault, IsWrite, EndsCounting, TaskOut, UnlayeredAnswer, plain_refusal, NotOpened, JudgeFault, Tool, tool_result, judge_result, IsRightlyLong, OpensFirst, OpensInTurn, EndsAt, IsOpened, IsOpenedBut}
 use Rattle.sas_requests.proofs.PlanOutputs.{not_refused}
-use Rattle.sas_requests.specs.declared.inputs.InputFault.TheVariants.{TooLong}
 use Rattle.sas_answers.specs.declared.ending.ToolFault.TheVariants as tool_fault
-use Rattle.sas_requests.specs.declared.inputs.InputFault.TheVariants.{Read}
 use Rattle.sas_requests.specs.declared.inputs.JudgeFault.TheVariants.{Plan}
 
--- ---- the fault of one plan
-
-pub of_plan : {S I : Type 0} (gives : S → ℕ → Option I → S → Type 0) (number : ℕ) (old new : S) (why : JudgeFault) → EndsAt gives number old new why → IsOfPlan number why
-of_plan gives number old new (Plan other NotOpened) h = h.0
-of_plan gives number old new (Plan other Read) h = h.0
-of_plan gives number old new (Plan other TooLong) h = h.0
-of_plan gives number old new (Tool why) h = tt
-
--- it isn't reported of the task
-pub not_of_task : {S I : Type 0} (gives : S → ℕ → Option I → S → Type 0) (number : ℕ) (old new : S) (why : JudgeFault) → EndsAt gives number old new why → why ≢ Tool tool_fault.Read
-not_of_task gives number old new (Plan other what) h e = absurd cc
-not_of_task gives number old new (Tool why) h e = (let same : why ≡ tool_fault.Read = cc in let memory : why ≡ tool_fault.Memory = h.0 in absurd cc)
-
 module _ {S I : Type 0} (gives : S → ℕ → Option I → S → Type 0) where
-  -- ---- one plan after another
-
   pub opens_next : (count : ℕ) (old before new : S) → OpensFirst gives count old before → IsOpened gives count before new → OpensFirst gives (count + 1) old new
-  opens_next count old before new first opened = rw add-one (before, first, opened.0, opened.1)
+  opens_next count old before new first opened = rw add-one (before, first, opened)
 
-  pub opens_until : (count number : ℕ) (old before new : S) (why : JudgeFault) → number < count → OpensFirst gives number old before → EndsAt gives number before new why → OpensUntil gives count old new why
-  opens_until count number old before new (Plan other NotOpened) less first (is, gave) = subst (λ (m : ℕ). (m < count) × OpensTo gives m NotOpened old new) (sym is) (less, (before, first, gave))
-  opens_until count number old before new (Plan other Read) less first (is, opened) = subst (λ (m : ℕ). (m < count) × OpensTo gives m Read old new) (sym is) (less, (before, first, opened.0, opened.1))
-  opens_until count number old before new (Plan other TooLong) less first (is, opened) = subst (λ (m : ℕ). (m < count) × OpensTo gives m TooLong old new) (sym is) (less, (before, first, opened.0, opened.1))
-  opens_until count number old before new (Tool why) less first (is, opened) = (is, suc number, omega arith, (before, first, opened.0, opened.1))
-
-  -- ---- of the whole run
-
-  -- at a fault before anything is written
-  pub in_turn_fault : (task : Option (List ℕ)) (count : ℕ) (old new : S) (why : JudgeFault) → OpensUntil gives count old new why → OpensInTurn gives {A = Status} task count old new (Err why)
-  in_turn_fault task count old new (Plan number what) until = until
-  in_turn_fault task count old new (Tool why) (memory, number, within, first) = rw memory (number, within, first)
+  -- where a plan isn't reported
+  pub opens_until : (task : Option (List ℕ)) (count number : ℕ) (old before new : S) (why : JudgeFault) → number < count → OpensFirst gives number old before → EndsAt gives number before new why → OpensInTurn gives task count old new (Err why)
+  opens_until task count number old before new (Plan other what) less first (is, opened) =
+      subst (λ (m : ℕ). (m < count) × (at : S) × OpensFirst gives m old at × IsOpenedBut gives what m at new) (sym is) (less, before, first, opened)
+  opens_until task count number old before new (Tool why) less first (is, opened) = rw is (suc number, omega arith, (before, first, opened))
 
   -- where the answer is written
   pub in_turn_written : (task : Option (List ℕ)) (count : ℕ) (old new : S) (r : Result Status ToolFault) → IfErr r IsWrite → OpensFirst gives count old new → OpensInTurn gives task count old new (judge_result r)

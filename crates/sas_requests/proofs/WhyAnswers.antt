@@ -4,6 +4,7 @@ use Rattle.std.proofs.lemmas.Grind.{common_steps}
 use Rattle.sas_requests.proofs.Imports.{◌≡◌, ℕ, ◌<◌, List, [], ◌++◌, get_or, refl, sym, ap, subst, ◌∙◌, inl, inr, Some, None, Option, arith, option_map, none-some, Parts, PlanParts, LayerFault, IsLayered, PlanFault, IsFaultOf, some_verdict, valid_has_no_fault, fault_is_one, No, Output, layers_refusal, valid_answer, invalid_answer, valid_line, invalid_line, layer_reasons, with_reasons, why_refusal, refused_why, Line, reasons_text, one_why, some_why, WhyVerdict, Explains, worded}
 use Rattle.sas_requests.proofs.Headlines.{ReportsValid}
 use Rattle.sas_requests.proofs.Outputs.{same_output}
+use Rattle.sas_requests.proofs.RefusalReasons.{some_of}
 use Rattle.sas_requests.proofs.PlanOutputs.{OneVerdictAnswer, SomeVerdictAnswer, IsRefusal, Refuses}
 use Rattle.sas_run.specs.declared.plan_check.PlanFault.TheVariants.{Memory}
 
@@ -79,14 +80,9 @@ why_reports_valid = record {
 
 -- ---- a task that isn't layered
 
-why_of : (p : Parts) (fault : LayerFault) (found : Option Output) (o : Output) → layers_refusal fault ≡ found → option_map (with_reasons (reasons_text p [] (layer_reasons p fault))) found ≡ Some o
-    → (plain : Output) × (layers_refusal fault ≡ Some plain) × (o ≡ with_reasons (reasons_text p [] (layer_reasons p fault)) plain)
-why_of p fault None o is reported = absurd (none-some o reported)
-why_of p fault (Some plain) o is reported = (plain, is, let same : with_reasons (reasons_text p [] (layer_reasons p fault)) plain ≡ o = cc in sym same)
-
 -- its refusal is the one without reasons, with them behind
 pub why_is : (p : Parts) (fault : LayerFault) (o : Output) → why_refusal p fault ≡ Some o → (plain : Output) × (layers_refusal fault ≡ Some plain) × (o ≡ with_reasons (reasons_text p [] (layer_reasons p fault)) plain)
-why_is p fault o reported = why_of p fault (layers_refusal fault) o refl reported
+why_is p fault o reported = some_of (reasons_text p [] (layer_reasons p fault)) (layers_refusal fault) o (sym reported)
 
 refusal_is : (p : Parts) (fault : LayerFault) (o : Output) → why_refusal p fault ≡ Some o → IsRefusal fault o
 refusal_is p fault o reported =

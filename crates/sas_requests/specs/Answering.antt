@@ -125,8 +125,3 @@ abbrev pub IfRefused : Result ReadTask ToolFault → (Result Status ToolFault �
 IfRefused (Ok (Layered p)) Holds = ⊤
 IfRefused (Ok (Refused status)) Holds = Holds (Ok status)
 IfRefused (Err fault) Holds = Holds (Err fault)
-
--- a run that ended so has refused the task
-abbrev pub refused_by : Result Status ToolFault → Result ReadTask ToolFault
-refused_by (Ok status) = Ok (Refused status)
-refused_by (Err fault) = Err fault

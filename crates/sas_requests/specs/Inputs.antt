@@ -1,5 +1,6 @@
 -- What is known of plans that are opened one after another.
-use Rattle.std.specs.Prelude.{◌≡◌, ℕ, ◌<◌, List, [], ◌++◌, length, slice_index_or, Option, Some, Result, Ok, Err}
+use Rattle.std.specs.Prelude.{◌≡◌, ℕ, ◌<◌, List, [], length, slice_index_or, Option, Some, Result, Ok, Err}
+use Rattle.std.specs.Io.KnownBytes.{Consumes}
 use Rattle.sas_core.specs.Plain.{IsPlain}
 use Rattle.sas_answers.specs.declared.ending.ToolFault.{ToolFault}
 use Rattle.sas_answers.specs.declared.ending.ToolFault.TheVariants as tool
@@ -11,16 +12,19 @@ use Rattle.sas_requests.specs.declared.inputs.JudgeFault.TheVariants.{Tool, Plan
 abbrev pub IsLabel : List ℕ → Type 0
 IsLabel label = IsPlain label
 
+-- these bytes were read of an input: where its bytes are known, they begin with them
+abbrev pub WasRead : Option (List ℕ) → List ℕ → Type 0
+WasRead known c = (left : Option (List ℕ)) × Consumes known left c
+
 -- the plan with each of these numbers has these bytes
 abbrev pub HaveBytes : (ℕ → Option (List ℕ)) → ℕ → List (List ℕ) → Type 0
 HaveBytes known count cs = (length cs ≡ count)
     × ((number : ℕ) → number < count → known number ≡ Some (slice_index_or cs number []))
 
--- these bytes were read of the plans: where those of a plan are known, they begin with them
+-- these bytes were read of it
 abbrev pub WereRead : (ℕ → Option (List ℕ)) → ℕ → List (List ℕ) → Type 0
 WereRead known count cs = (length cs ≡ count)
-    × ((number : ℕ) (whole : List ℕ) → number < count → known number ≡ Some whole
-    → (rest : List ℕ) × (whole ≡ slice_index_or cs number [] ++ rest))
+    × ((number : ℕ) → number < count → WasRead (known number) (slice_index_or cs number []))
 
 -- the fault as one of a run over two files: that of a plan without its number
 abbrev pub tool_fault : JudgeFault → ToolFault

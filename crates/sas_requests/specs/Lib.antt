@@ -3,7 +3,6 @@ pub mod Summary
 pub mod Hint
 pub mod FileLine
 pub mod FileLines
-pub mod FileLaws
 pub mod Output
 pub mod EndsFile
 pub mod Headline

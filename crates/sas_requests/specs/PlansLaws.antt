@@ -10,7 +10,7 @@ use Rattle.sas_requests.specs.Judged.{JudgeOut}
 -- of a layered task, what is printed of each plan is its label and the output of `plan` for it
 abbrev pub EachIsThatOfPlan : Type 0
 EachIsThatOfPlan = (labels : List (List ℕ)) (b : List ℕ) (cs : List (List ℕ)) (o : Output)
-    → length cs ≡ length labels → IsLayeredText b → JudgeOut labels b cs (Some o)
+    → IsLayeredText b → JudgeOut labels b cs (Some o)
     → (plains : List Output) × AllZip (λ c plain. Out Plan b c (Some plain)) cs plains
     × (summary : List ℕ)
     × (o.text ≡ flat_map (λ (label, plain). label ++ codes ": " ++ plain.text) (zip labels plains)

@@ -1,5 +1,6 @@
 // Laws of the lines of reasons.
-ghost use Rattle.sas_requests.specs.FileLaws.{FileLinesAreReasons};
+ghost use Rattle.sas_answers.specs.Laws.{IsReasonLine};
+ghost use Rattle.sas_requests.specs.FileLine.{FileLine, file_line_bytes};
 ghost use Rattle.std.specs.Prelude.{List, ℕ};
 ghost use Rattle.sas_requests.specs.declared.Request.{Request};
 ghost use Rattle.sas_requests.specs.declared.Request.TheVariants.{Plan};
@@ -11,7 +12,7 @@ ghost use Rattle.sas_requests.specs.PlansLaws.{EachIsThatOfPlan, IsOneLong, Refu
 
 /// Ensures that each line of reasons begins with two spaces and contains neither LF nor CR.
 pub fn file_reason_laws()
-    ensures { FileLinesAreReasons }
+    ensures { (l : FileLine) → IsReasonLine (file_line_bytes l) }
 {}
 
 /// What holds of outputs: a request has one output over the same inputs, and it can't have nothing; it has none only

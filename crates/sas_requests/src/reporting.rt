@@ -1,12 +1,11 @@
 // The reports on plans, one after another, and on all of them.
-ghost use Rattle.std.specs.Prelude.{◌≡◌, ◌↔◌, ◌⊎◌, ◌<◌, ◌++◌, ℕ, List, [], length, codes, decimal, false, Option, IfOk, IfErr, IsErrAnd, IsTrue, OnOk, slice_index_or};
+ghost use Rattle.std.specs.Prelude.{◌≡◌, ◌↔◌, ◌⊎◌, ◌<◌, ◌++◌, ℕ, List, [], length, codes, decimal, false, Option, IfOk, IfErr, IsErrAnd, IsTrue, OnOk, Err, slice_index_or};
 ghost use Rattle.std.specs.Io.KnownBytes.{Appends};
 ghost use Rattle.sas_answers.specs.Ending.{IsWrite};
 ghost use Rattle.sas_requests.specs.Inputs.{tool_fault};
-ghost use Rattle.sas_requests.specs.Judged.{Judged, labelled};
-ghost use Rattle.sas_requests.specs.InTurn.{OpensFirst, OpensInTurn};
-ghost use Rattle.sas_requests.specs.Judging.{AreReported, IsOneUnsaid, IsPlace, IsSaid, IsUnsaid, EndsAt, IsOpened, OpensUntil};
-ghost use Rattle.sas_requests.specs.Judging.{JudgesPlans, summary_of};
+ghost use Rattle.sas_requests.specs.Judged.{IsJudged, Judged, labelled, summary_of};
+ghost use Rattle.sas_requests.specs.InTurn.{EndsAt, IsOpened, OpensFirst, OpensInTurn};
+ghost use Rattle.sas_requests.specs.Judging.{AreReported, HoldsOf, IsPlace, IsUnsaid, Judges, JudgesPlans};
 
 use crate::inputs::{JudgeFault, PlanInputs, judge_ended};
 use crate::loaded::load;
@@ -64,12 +63,11 @@ fn report_each<S: PlanInputs>(
     requires { text.old.items ≡ [] }
     ensures ok { IfOk result (AreReported loaded.old (S.bytes plans.old) (S.labels plans.old)
         (length (S.labels plans.old)) text.new.items) }
-    ensures err { IfErr result
-        (IsOneUnsaid loaded.old (S.bytes plans.old) (length (S.labels plans.old))) }
+    ensures err { IfErr result (IsUnsaid loaded.old (S.bytes plans.old)) }
     ensures opened { IfOk result
         (λ _. OpensFirst S.open_gives (length (S.labels plans.old)) plans.old plans.new) }
-    ensures fault { IfErr result
-        (OpensUntil S.open_gives (length (S.labels plans.old)) plans.old plans.new) }
+    ensures fault { IfErr result (λ why. (task : Option (List ℕ)) → OpensInTurn S.open_gives task
+        (length (S.labels plans.old)) plans.old plans.new (Err why)) }
     ensures labels { S.labels plans.new ≡ S.labels plans.old }
 {
     let mut tally = Tally::new();
@@ -92,11 +90,12 @@ fn report_plan<S: PlanInputs>(
 ) -> Result<Option<u64>, JudgeFault>
     requires { number < length (S.labels plans.old) }
     ensures ok { IfOk result (λ cost. (judged : Judged)
-        × IsSaid loaded.old (S.bytes plans.old number)
-        (slice_index_or (S.labels plans.old) number []) judged
-        × (text.new.items ≡ text.old.items ++ labelled judged)
+        × HoldsOf (S.bytes plans.old number) (λ c. IsJudged loaded.old c judged)
+        × (text.new.items ≡ text.old.items
+        ++ labelled (slice_index_or (S.labels plans.old) number [], judged))
         × (judged.cost ≡ cost)) }
-    ensures err { IfErr result (IsUnsaid loaded.old number (S.bytes plans.old number)) }
+    ensures err { IfErr result
+        (λ why. Judges loaded.old (S.bytes plans.old number) (Err (tool_fault why))) }
     ensures opened { IfOk result (λ _. IsOpened S.open_gives number plans.old plans.new) }
     ensures fault { IfErr result (EndsAt S.open_gives number plans.old plans.new) }
     ensures same { loaded.new ≡ loaded.old }
@@ -108,7 +107,7 @@ fn report_plan<S: PlanInputs>(
         Err(fault) => return Err(fault),
     };
     let cost = verdict.cost;
-    let pushed = push_labelled(text, plans.label(number), verdict.line.as_slice());
+    let pushed = push_labelled(text, plans.label(number), verdict.answer.text.as_slice());
     drop(verdict);
     pushed?;
     Ok(cost)

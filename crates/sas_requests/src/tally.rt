@@ -1,7 +1,7 @@
 // How many of the plans so far are valid, and the best of these.
-ghost use Rattle.std.specs.Prelude.{◌≡◌, ◌<◌, [], ◌∷◌, ◌++◌, List, length, IsTrue, IsFalse};
-ghost use Rattle.sas_requests.specs.Judged.{Judged};
-ghost use Rattle.sas_requests.specs.Judging.{IsLower, Tallies};
+ghost use Rattle.std.specs.Prelude.{◌≡◌, ◌<◌, []};
+ghost use Rattle.sas_requests.specs.Judged.{is_lower, tally_of};
+ghost use Rattle.sas_requests.specs.Judging.{tally_with};
 
 /// A valid plan that costs least: its cost, and its number.
 #[derive(Clone, Copy, Debug)]
@@ -20,7 +20,7 @@ pub struct Tally {
 impl Tally {
     /// Returns the tally of no plans.
     pub fn new() -> Tally
-        ensures { Tallies result [] }
+        ensures { result ≡ tally_of [] }
     {
         Tally {
             valid: 0,
@@ -31,8 +31,7 @@ impl Tally {
     /// Adds the plan with this number, which comes after those so far. It has a cost if it is valid.
     pub fn add(&mut self, number: usize, cost: Option<u64>)
         requires { self.old.valid < usize.MAX }
-        ensures { (all : List Judged) (judged : Judged) → Tallies self.old all
-            → length all ≡ number → judged.cost ≡ cost → Tallies self.new (all ++ judged ∷ []) }
+        ensures { self.new ≡ tally_with number cost self.old }
     {
         let Some(cost) = cost else {
             return;
@@ -46,8 +45,7 @@ impl Tally {
 
 /// Returns whether the cost is lower than that of the best plan so far, or there is none.
 fn is_lower(cost: u64, best: Option<BestPlan>) -> bool
-    ensures yes { IsTrue result → IsLower cost best }
-    ensures no { IsFalse result → IsLower cost best → ⊥ }
+    ensures { result ≡ is_lower cost best }
 {
     match best {
         Some(best) => cost < best.cost,

@@ -5,7 +5,7 @@ ghost use Rattle.sas_answers.specs.Ending.{Answers, EndsCounting, Writes};
 ghost use Rattle.sas_reader.specs.Devices.{ReadsAll, ValueOf};
 ghost use Rattle.sas_task_file.specs.TaskFormat.{task_format};
 ghost use Rattle.sas_requests.specs.EndsFile.{EndsFile};
-ghost use Rattle.sas_requests.specs.Answering.{IfLayered, IfRefused, TaskBy, UnlayeredBy, layers_by, refused_by};
+ghost use Rattle.sas_requests.specs.Answering.{IfLayered, IfRefused, TaskBy, UnlayeredBy, layers_by};
 
 use crate::question::Detail;
 use crate::refusals::write_task_refusal;
@@ -48,25 +48,18 @@ pub fn read_layered<R: Read, W: Write>(
 {
     let read = match read_flat_task(alloc, task) {
         Ok(read) => read,
-        Err(refusal) => return refused(write_task_refusal(alloc, detail, refusal, out)),
+        Err(refusal) => {
+            let status = write_task_refusal(alloc, detail, refusal, out)?;
+            return Ok(ReadTask::Refused(status));
+        }
     };
     match Layered::new(alloc, read) {
         Ok(layered) => Ok(ReadTask::Layered(layered)),
         Err((read, fault)) => {
             let ended = refuse_unlayered(alloc, detail, &read, fault, out);
             drop(read);
-            refused(ended)
+            Ok(ReadTask::Refused(ended?))
         }
-    }
-}
-
-/// Returns how reading a task ends where its refusal ended so.
-fn refused(ended: Result<Status, ToolFault>) -> Result<ReadTask, ToolFault>
-    ensures { result ≡ refused_by ended }
-{
-    match ended {
-        Ok(status) => Ok(ReadTask::Refused(status)),
-        Err(fault) => Err(fault),
     }
 }
 

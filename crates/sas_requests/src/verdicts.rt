@@ -1,12 +1,15 @@
 // The report on one of many plans.
-ghost use Rattle.std.specs.Prelude.{◌≡◌, ◌↔◌, ◌<◌, ℕ, length, false, IfOk, IfErr, IsErrOf, IsTrue};
-ghost use Rattle.sas_answers.specs.Ending.{IsWrite};
+ghost use Rattle.std.specs.Prelude.{◌≡◌, ◌↔◌, ◌<◌, ℕ, length, codes, false, Some, None, IfOk, IfErr, IsErrOf, IsTrue};
+ghost use Rattle.sas_answers.specs.Answers.{VerdictAnswer};
+ghost use Rattle.sas_answers.specs.Ending.{IsWrite, output_of};
 ghost use Rattle.sas_requests.specs.Inputs.{tool_fault, tool_result};
-ghost use Rattle.sas_requests.specs.Judging.{EndsAt, IsBehindOpening, IsOpened, IsVerdictOnRefusal, Judges, IsVerdictOnPlan};
+ghost use Rattle.sas_requests.specs.InTurn.{EndsAt, IsOpened};
+ghost use Rattle.sas_requests.specs.Judging.{IsBehindOpening, Judges, cost_if};
+ghost use Rattle.sas_requests.specs.Output.{refusal};
 
 use crate::inputs::{InputFault, JudgeFault, PlanInputs};
 use crate::refuse_file;
-use sas_answers::{Status, ToolFault, answer_by};
+use sas_answers::{Answer, Status, ToolFault, answer_by};
 use sas_axioms::Worklist;
 use sas_core::Stepwise;
 use sas_flat::{FlatPlan, FlatTask};
@@ -17,10 +20,10 @@ use sas_run::LoadedTask;
 use std::alloc::{AllocError, Global};
 use std::io::Read;
 
-/// The report on a plan: the line that `plan` prints of it, with its end, and the plan's cost if it is valid.
+/// The report on a plan: the answer to `plan`, and the plan's cost if it is valid.
 #[derive(Drop)]
 pub struct PlanReport {
-    pub line: Vec<u8>,
+    pub answer: Answer,
     pub cost: Option<u64>,
 }
 
@@ -92,14 +95,14 @@ fn judge_input<P: Read>(
 
 /// Returns the report on a plan file that is refused for this fault, or why the run ends at it.
 fn verdict_on_refusal(alloc: Global, fault: Fault) -> Result<PlanReport, ToolFault>
-    ensures ok { IfOk result (IsVerdictOnRefusal fault) }
+    ensures ok { IfOk result (λ report.
+        (refusal (codes "plan") fault ≡ Some (output_of report.answer)) × (report.cost ≡ None)) }
     ensures long { IsErrOf result ToolFault.TooLong ↔ (fault.kind ≡ Kind.TooLong) }
     ensures read { IsErrOf result ToolFault.Read ↔ (fault.kind ≡ Kind.Read) }
     ensures writes { IfErr result (λ e. IsWrite e → ⊥) }
 {
-    let answer = refuse_file(alloc, "plan", fault)?;
     Ok(PlanReport {
-        line: answer.text,
+        answer: refuse_file(alloc, "plan", fault)?,
         cost: None,
     })
 }
@@ -110,16 +113,15 @@ fn verdict_by(
     loaded: &mut LoadedTask<Worklist, FlatTask>,
     plan: &FlatPlan,
 ) -> Result<PlanReport, AllocError>
-    ensures verdict { IfOk result (λ v. IsVerdictOnPlan loaded.old plan.now v) }
+    ensures verdict { IfOk result (λ report.
+        VerdictAnswer loaded.old plan.now (output_of report.answer)
+        × (report.cost ≡ cost_if report.answer.status plan.now.cost)) }
     ensures same { loaded.new ≡ loaded.old }
 {
-    let reported = answer_by(alloc, loaded, plan)?;
-    let cost = match reported.status {
+    let answer = answer_by(alloc, loaded, plan)?;
+    let cost = match answer.status {
         Status::Yes => Some(plan.cost()),
         Status::No => None,
     };
-    Ok(PlanReport {
-        line: reported.text,
-        cost,
-    })
+    Ok(PlanReport { answer, cost })
 }

@@ -11,4 +11,4 @@ returns-clause-places c =
     let whole : (32 ∷ decimal (n / 100 / 100) ++ pair (n / 100 % 100)) ++ pair (n % 100) ≡ 32 ∷ decimal n =
     ap (λ (l : List ℕ). 32 ∷ l ++ pair (n % 100)) (sym behind) ∙ ap (λ (l : List ℕ). 32 ∷ l) (sym digits) in
     places_as _ _ _ _ _ _ whole
-    (places_then_either _ _ _ _ _ _ _ _ c.requires.at (places_then _ _ _ _ _ _ _ _ c.in-Some.ensures.places c.in-Some-place_pair.ensures.places) c.place_pair-2.ensures.places)
+    (places_then_either _ _ _ _ _ _ _ _ c.requires.at (places_then _ _ _ _ _ _ _ _ c.in_ok-behind_ten_thousands.ensures.places c.in_ok-behind_hundreds.ensures.places) c.place_pair-2.ensures.places)

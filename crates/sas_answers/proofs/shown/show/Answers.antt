@@ -1,4 +1,4 @@
-use Rattle.sas_answers.proofs.Imports.{ℕ, List, Bool, false, sym, ap, ◌∙◌, shown, flat_map}
+use Rattle.sas_answers.proofs.Imports.{Bool, sym, ap, ◌∙◌, shown}
 use Rattle.sas_answers.proofs.ShownTexts.{space_at_end, no_space_at_end, placed_as}
 use Rattle.sas_answers.proofs.shown.show.Goals as goal
 

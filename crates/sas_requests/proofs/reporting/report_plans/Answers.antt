@@ -1,29 +1,28 @@
-use Rattle.sas_requests.proofs.Imports.{ℕ, List, length, refl, arith, ap, sym, ◌∙◌, ◌++◌, ◌⊎◌, ◌↔◌, inl, inr, Result, Ok, Err, IfErr, IsErrAnd, err_from_is_err_and, Status, ToolFault, IsWrite, tool_fault, judge_result, summary_of}
+use Rattle.sas_requests.proofs.Imports.{ℕ, List, length, refl, arith, ap, sym, ◌∙◌, ◌++◌, ◌⊎◌, ◌↔◌, inl, inr, None, Result, Ok, Err, IfErr, IsErrAnd, err_from_is_err_and, Status, ToolFault, IsWrite, tool_fault, judge_result, summary_of}
 use Rattle.sas_requests.proofs.SaidPlans.{placed, reported, unreported}
-use Rattle.sas_requests.proofs.Turns.{in_turn_fault, in_turn_written}
+use Rattle.sas_requests.proofs.Turns.{in_turn_written}
 use Rattle.sas_requests.proofs.reporting.report_plans.Goals as goal
 use Rattle.sas_requests.proofs.reporting.report_plans.Goals.{then-tally-count, else-tally-count}
 
 pub push_summary-requires : goal.push_summary-requires
 push_summary-requires g c =
-    let reported = c.in-Ok.ensures.ok in
-    rw c.in-Ok.ensures.labels (placed _ reported.0 c.in-Ok.tally.best reported.1.many reported.3.best)
+    rw c.in-Ok.ensures.labels (placed c.in_ok-loaded.loaded (g.S.PlanInputs.bytes c.args.plans.now) (g.S.PlanInputs.labels c.args.plans.now) c.report_each-reported.new.text.items c.in-Ok.tally c.in-Ok.ensures.ok)
 
 pub returns-in-Err-clause-judges : goal.returns-in-Err-clause-judges
 returns-in-Err-clause-judges g c =
-    rw (← c.in_ok-loaded.ensures) (unreported c.in_ok-loaded.loaded (g.S.PlanInputs.bytes c.args.plans.now) (g.S.PlanInputs.labels c.args.plans.now) c.in-Err.fault c.in-Err.ensures.err _)
+    rw (← c.in_ok-loaded.ensures) (unreported c.in_ok-loaded.loaded (g.S.PlanInputs.bytes c.args.plans.now) (g.S.PlanInputs.labels c.args.plans.now) g.S.PlanInputs.open_gives None _ _ c.in-Err.fault c.in-Err.ensures.err (c.in-Err.ensures.fault None) _)
 
 pub returns-clause-judges : goal.returns-clause-judges
 returns-clause-judges g c =
     let labels = c.in-Ok.ensures.labels in
     let count = c.count.ensures ∙ ap (λ (l : List (List ℕ)). length l) labels in
-    rw (← c.in_ok-loaded.ensures, c.judge_ended.ensures) (reported c.in_ok-loaded.loaded (g.S.PlanInputs.bytes c.args.plans.now) (g.S.PlanInputs.labels c.args.plans.now) c.report_each-reported.new.text.items c.in-Ok.tally c.if-tally-count.status c.push_summary.new.text.items
+    rw (← c.in_ok-loaded.ensures, c.judge_ended.ensures) (reported c.in_ok-loaded.loaded (g.S.PlanInputs.bytes c.args.plans.now) (g.S.PlanInputs.labels c.args.plans.now) c.report_each-reported.new.text.items c.in-Ok.tally c.in-Ok.ensures.ok c.if-tally-count.status c.push_summary.new.text.items
     (c.in_ok-push_summary.ensures ∙ ap (λ (l : List (List ℕ)). c.report_each-reported.new.text.items ++ summary_of l c.in-Ok.tally) labels)
-    _ c.write.result c.write.ensures.write c.write.ensures.writes.ends c.in-Ok.ensures.ok
     (elim c.if-tally-count.branch [
       | then-tally-count w ↦ inl (w.if-tally-count.true ∙ count, w.status-is)
       | else-tally-count w ↦ inr (λ e. w.if-tally-count.false (e ∙ sym count), w.status-is)
-    ]))
+    ])
+    _ c.write.result c.write.ensures.write c.write.ensures.writes.ends)
 
 pub returns-in_err-loaded-clause-judges : goal.returns-in_err-loaded-clause-judges
 returns-in_err-loaded-clause-judges g c =
@@ -46,7 +45,7 @@ returns-in_err-loaded-clause-opens g c = λ task.
     rw (starved.1, starved.2) (0, omega arith, refl)
 
 pub returns-in-Err-clause-opens : goal.returns-in-Err-clause-opens
-returns-in-Err-clause-opens g c = λ task. in_turn_fault g.S.PlanInputs.open_gives task _ _ _ c.in-Err.fault c.in-Err.ensures.fault
+returns-in-Err-clause-opens g c = c.in-Err.ensures.fault
 
 pub returns-clause-opens : goal.returns-clause-opens
 returns-clause-opens g c = λ task.
