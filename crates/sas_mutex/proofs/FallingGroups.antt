@@ -1,5 +1,5 @@
 -- Groups are removed from a family one by one, until the greatest family is left.
-use Rattle.sas_mutex.proofs.Imports.{◌≡◌, ℕ, ◌<◌, ◌≤◌, Bool, true, false, List, [], ◌∷◌, ◌++◌, length, get_or, set, drop, refl, sym, ◌∙◌, ap, subst, inl, inr, arith, cases_eq, cases_Bool, both_ways, append_assoc, drop_all, drop_at, length-append, length-set, get_or-set_same, get_or-set_other, All-nil, All-cons, All-append, All-from_get_or, Contains-append_left, Contains-append_right, EffectKeeps, keeps_from_effects, effect_of_keeps, Family, IsKept, KeepsAt, KeepsWithItself, BasisGrows, IsAtRest, AreCandidates, newly, Falls, Contains-push, Contains-push_cases, Contains-append_cases, All, Contains, Operator, Parts, operator_at, effect_at, group_at, Keeps, Clash, sets, known, IsIn, IsGroupOf, IsGroupOfOr, IsKeptJointly, IsGreatest, group_of_larger, keeps_more, family_of}
+use Rattle.sas_mutex.proofs.Imports.{◌≡◌, ℕ, ◌<◌, ◌≤◌, Bool, true, false, List, [], ◌∷◌, ◌++◌, length, get_or, set, drop, refl, sym, ◌∙◌, ap, subst, inl, inr, arith, cases_eq, cases_Bool, both_ways, append_assoc, drop_all, drop_at, length-append, length-set, get_or-set_same, get_or-set_other, All-nil, All-cons, All-append, All-from_get_or, Contains-append_left, Contains-append_right, EffectKeeps, keeps_from_effects, effect_of_keeps, Family, IsKept, KeepsAt, KeepsWithItself, IsPartOf, IsAtRest, AreCandidates, newly, Falls, Contains-push, Contains-push_cases, Contains-append_cases, All, Contains, Operator, Parts, operator_at, effect_at, group_at, Keeps, Clash, sets, known, IsIn, IsGroupOf, IsGroupOfOr, IsKeptJointly, IsGreatest, group_of_larger, keeps_more, family_of}
 use Rattle.std.proofs.lemmas.List.{append-nil}
 use Rattle.sas_mutex.proofs.FromNotes.{clash_keeps}
 use Rattle.sas_mutex.proofs.Keeping.{effect_keeps_more}
@@ -192,7 +192,7 @@ module _ (p : Parts) where
       (clash_keeps (IsKept p basis) (operator_at p operator) (group_at p place) (effect_at (operator_at p operator) effect) clash)
 
   -- and stays so while the basis grows
-  pub basis_grows : (b c : List Bool) (operator effect place : ℕ) → BasisGrows b c → KeepsWithItself p b operator effect place → KeepsWithItself p c operator effect place
+  pub basis_grows : (b c : List Bool) (operator effect place : ℕ) → IsPartOf b c → KeepsWithItself p b operator effect place → KeepsWithItself p c operator effect place
   basis_grows b c operator effect place grows = effect_keeps_more (IsGroupOfOr p (family_of b) (group_at p place)) (IsGroupOfOr p (family_of c) (group_at p place))
       (operator_at p operator) (group_at p place) (effect_at (operator_at p operator) effect)
       (λ group either. elim either [

@@ -53,15 +53,15 @@ pub use Rattle.sas_groups.specs.declared.notes.Notes.{Notes}
 pub use Rattle.sas_groups.specs.declared.verdict.Verdict.{Verdict}
 pub use Rattle.sas_groups.specs.declared.verdict.Verdict.TheVariants.{Derived, Initial, Broken, Exclusive}
 pub use Rattle.sas_meaning.specs.Steps.{preconditions, old_fact}
-pub use Rattle.sas_mutex.specs.Basis.{AreNotedWith, BasisGrows, Excludes, HasGrown, IsBasis, IsOfNone, SetsNone}
-pub use Rattle.sas_mutex.specs.ByNotes.{IsNotedAt, ShareOne, AreKnown, IsMet, RemovesByNotes, SomeRemoves, IsNotedFor, known_at, IsUnknownAt, IsGoneAt, IsDecidedByFirst, NeverFires, NotBothAt, BothClashAt, SetsBeside, IsApartAt, IsSingleOn, IsSingleOnFirst, IsUnknown, ClashesAt, SetsOtherValue, EffectKeepsGroupWithItself, EffectKeepsGroup, AreGoneAt}
+pub use Rattle.sas_mutex.specs.Basis.{AreNotedWith, IsPartOf, Excludes, HasGrown, IsBasis, IsOfNone, SetsNone}
+pub use Rattle.sas_mutex.specs.ByNotes.{IsNotedAt, ShareOne, AreKnown, IsMet, RemovesByNotes, SomeRemoves, IsNotedFor, known_at, IsUnknownAt, IsGoneAt, IsDecidedByFirst, NeverFires, NotBothAt, BothClashAt, SetsBeside, IsApartAt, IsSingleOn, ClashesAt, SetsOtherValue, EffectKeepsGroupWithItself, EffectKeepsGroup, AreGoneAt}
 pub use Rattle.sas_mutex.specs.Effects.{IsKept, KeepsAt, KeepsWithItself, IsUnconditional}
 pub use Rattle.sas_mutex.specs.Falling.{count, IsAtRest, AreCandidates, newly, Falls, FamilyHasRoom, RestsOn, IsWithin}
 pub use Rattle.sas_mutex.specs.Firing.{EffectPlace, operator_of, effect_of}
 pub use Rattle.sas_mutex.specs.Judging.{AreFirstVerdicts, IsUndecided, KeptSoFar, IsVerdictSoFar, AreVerdictsSoFar}
 pub use Rattle.sas_mutex.specs.Looking.{ForPairs, Looked, IsPair, IsOfEffect, IsOfOperator, IsOfAlike, IsOfUnconditional}
 pub use Rattle.sas_mutex.specs.Marks.{IsNotedFrom, IsClean}
-pub use Rattle.sas_mutex.specs.Watching.{watch_at, IsLastBelow, AreChained, AreMore, WatchesMore, HasWatchFrom, since_of, IsWatchOf, RestsBy, IsOver, IsUnwatched, IsUnwatchedBehind, AreFallen, AreUnwatched, AreWatched, IsWatchedAnew, FallenAreUnwatched, StayUnwatched, AreLooseAtRest, IsReady}
+pub use Rattle.sas_mutex.specs.Watching.{watch_at, IsLastBelow, AreChained, AreMore, WatchesMore, HasWatchFrom, since_of, IsWatchOf, RestsBy, IsOver, IsUnwatched, AreFallen, AreUnwatched, AreWatched, IsWatchedAnew, FallenAreUnwatched, StayUnwatched, AreLooseAtRest, IsReady}
 pub use Rattle.sas_mutex.specs.declared.family.Excluding.{Excluding}
 pub use Rattle.sas_mutex.specs.declared.family.Family.{Family}
 pub use Rattle.sas_mutex.specs.declared.marks.Marks.{Marks}

@@ -1,8 +1,17 @@
 -- Which groups operators depend on, as operators are checked and groups are removed.
-use Rattle.sas_mutex.proofs.Imports.{◌≡◌, ◌≢◌, ◌⊎◌, ℕ, ◌-◌, ◌<◌, ◌≤◌, ◌^◌, Bool, true, List, [], ◌++◌, length, get_or, set, Option, Some, None, refl, sym, ◌∙◌, ap, subst, inl, inr, arith, cases_eq, cases_lt, cases_Bool, length-set, length-append, get_or-set_same, get_or-set_other, get_or-append_right, get_or_append_left, get_or_default, All-nil, All-append, All-weaker, All-contains, Family, Watch, Watches, Falls, newly, IsWithin, IsAtRest, RestsOn, watch_at, since_of, IsLastBelow, AreChained, IsWatchOf, HasWatchFrom, RestsBy, IsOver, IsUnwatched, IsUnwatchedBehind, AreFallen, AreUnwatched, AreWatched, AreMore, IsWatchedAnew, FallenAreUnwatched, StayUnwatched, AreLooseAtRest, Contains-append_left, Contains-append_right, Contains-append_cases, Contains-get_or, All, Contains, Parts, IsIn, family_of}
+use Rattle.sas_mutex.proofs.Imports.{◌≡◌, ◌≢◌, ◌⊎◌, ℕ, ◌-◌, ◌<◌, ◌≤◌, ◌^◌, Bool, true, List, [], ◌++◌, length, get_or, set, Option, Some, None, refl, sym, ◌∙◌, ap, subst, inl, inr, arith, cases_eq, cases_lt, cases_Bool, length-set, length-append, get_or-set_same, get_or-set_other, get_or-append_right, get_or_append_left, get_or_default, All-nil, All-append, All-weaker, All-contains, Family, Watch, Watches, Falls, newly, IsWithin, IsAtRest, RestsOn, watch_at, since_of, IsLastBelow, AreChained, IsWatchOf, HasWatchFrom, RestsBy, IsOver, IsUnwatched, AreFallen, AreUnwatched, AreWatched, AreMore, IsWatchedAnew, FallenAreUnwatched, StayUnwatched, AreLooseAtRest, Contains-append_left, Contains-append_right, Contains-append_cases, Contains-get_or, All, Contains, Parts, IsIn, family_of}
 use Rattle.sas_mutex.proofs.FallingGroups.{fallen_exist}
 use Rattle.sas_mutex.proofs.Supporting.{kept_below}
 use Rattle.sas_mutex.proofs.WatchChains.{watch_still, last_still}
+
+-- no watch of the group after index `at` is valid any more; for `None`, no watch of the group at
+-- all
+abbrev pub IsUnwatchedBehind : Watches → ℕ → Option ℕ → Type 0
+IsUnwatchedBehind w group None = IsUnwatched w group
+IsUnwatchedBehind w group (Some at) = (at < length w.made)
+    × ((watch_at w.made at).group ≡ group)
+    × ((place : ℕ) → at < place → place < length w.made → (watch_at w.made place).group ≡ group
+    → IsOver w place)
 
 abbrev no_watch : Watch
 no_watch = record { group = 0; operator = 0; before = None }
