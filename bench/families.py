@@ -20,7 +20,7 @@ import machine
 from answers import digest, expected_digest
 from cases import files_of
 from count import LINEAR, answer_word, counted, size_of
-from groups import Chained, Effects, Excluded, Relying, Repeated, Resting, Shared, Single, Spoiled, Ungrouped
+from groups import Chained, Effects, Excluded, Parted, Relying, Repeated, Resting, Shared, Single, Spoiled, Ungrouped
 from idle import Below, Layers, Ruled, Turned, Unruled
 from make import made_input
 from names import Alike, Names
@@ -48,6 +48,7 @@ FAMILIES = [
     Family("operators that rely on a group for many others", "mutex", Relying, 2000),
     Family("groups of one fact", "mutex", Single, 2000),
     Family("operators that rely on a pair for each fact", "mutex", Excluded, 1000),
+    Family("the same, before one that breaks their group", "mutex", Parted, 1000),
     Family("effects beside a group", "mutex", Effects, 5000),
     Family("effects and no group", "mutex", Ungrouped, 5000),
     Family("names that end alike", "plan", Names, 10000, 1),

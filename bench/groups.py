@@ -9,9 +9,10 @@ each of another:
     Relying     operators that set a fact of 100 groups, which they keep by one more group that they share
     Single      groups of one and the same fact, and operators that set it
     Excluded    a large group, each of whose facts is in a pair with the fact that all operators require
+    Parted      the same, and the large group falls by the last operator
     Effects     effects of one operator that set no fact of a group, beside one group or none
 
-A task of n objects has n of these, and at most 2 n operators. Only the groups of Relying are as many in each task, since each of its
+A task of n objects has n of these, and at most 2 n + 1 operators. Only the groups of Relying are as many in each task, since each of its
 operators has to be looked at with each of them. One operator with n conditional effects on the facts of one group
 isn't among them: each of its effects has to leave all other facts of the group false, so that n squared pairs are looked at.
 """
@@ -183,6 +184,16 @@ class Excluded(Grouped):
 
     def operators(self):
         return [("go %d" % place, [(0, HOLDS)], [(1, -1, HOLDS)]) for place in range(self.objects)]
+
+
+class Parted(Excluded):
+    """The same, and one operator more, the last, which sets two facts of the first group."""
+
+    def operators(self):
+        return [*super().operators(), ("part", [(0, NOT)], [(1, -1, HOLDS), (2, -1, HOLDS)])]
+
+    def breaking(self):
+        return [self.objects] + [None] * self.objects
 
 
 class Effects(Grouped):

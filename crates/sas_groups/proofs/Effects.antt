@@ -1,6 +1,6 @@
 -- Properties of all effects as properties of the effect at each index, and when an operator
 -- preserves a group.
-use Rattle.sas_groups.proofs.Imports.{◌≡◌, ℕ, ◌<◌, length, ◌∙◌, ap, subst, get_or_default, Contains-get_or, Contains, List, Change, Fact, Effect, Operator, effect_at, change_of, Keeps, IsRemoved, sets, Removes, NotBoth, KeepsIfSets, known, no_effect}
+use Rattle.sas_groups.proofs.Imports.{arith, rules, ◌≡◌, ℕ, ◌<◌, length, ◌∙◌, ap, subst, get_or_default, Contains-get_or, Contains, List, Change, Fact, Effect, Operator, effect_at, change_of, Keeps, IsRemoved, sets, Removes, NotBoth, KeepsIfSets, known, no_effect}
 
 -- the fact that a change sets
 pub set_is : (e : Effect) (change : Change) (fact : Fact) → change ≡ change_of e → fact ≡ record { var = change.var; value = change.new }
@@ -33,7 +33,4 @@ module _ (Counts : List Fact → Type 0) (o : Operator) (group : List Fact) wher
   }
 
   pub effect_of_keeps : Keeps Counts o group → (effect : ℕ) → effect < length o.effects → KeepsIfSets Counts o group (effect_at o effect)
-  effect_of_keeps keeps effect lt he = record {
-    single = λ other lt'. keeps.two (effect_at o effect) (effect_at o other) (effect_in o effect lt) (effect_in o other lt') he;
-    others = λ f. keeps.others (effect_at o effect) f (effect_in o effect lt) he;
-  }
+  effect_of_keeps keeps effect lt he = search (rules, arith)

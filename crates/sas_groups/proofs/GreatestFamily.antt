@@ -1,6 +1,6 @@
 -- The union of families that are preserved jointly is preserved jointly. The greatest family is
 -- unique, contains each group that is exclusive alone, and no group can be added to it.
-use Rattle.sas_groups.proofs.Imports.{◌≡◌, ℕ, ◌<◌, ◌⊎◌, Bool, true, false, List, [], ◌∷◌, ◌++◌, length, refl, sym, ap, subst, inl, inr, ◌||◌, ◌==◌, IsTrue, eq-eqb, eqb-true, Fact, Operator, Parts, group_at, preconditions, arith, rules, common_steps, Clash, Keeps, MayBeExclusive, IsIn, IsGroupOf, IsGroupOfOr, AllKeep, IsKeptJointly, FamiliesUnite, GreatestIsOne, GreatestHasAlone, OutsideIsBroken}
+use Rattle.sas_groups.proofs.Imports.{◌≡◌, ℕ, ◌<◌, ◌⊎◌, Bool, true, false, List, ◌++◌, length, refl, sym, ap, subst, inl, inr, ◌||◌, ◌==◌, IsTrue, eq-eqb, eqb-true, Fact, Operator, Parts, group_at, preconditions, arith, rules, common_steps, Clash, Keeps, MayBeExclusive, IsIn, IsGroupOf, IsGroupOfOr, AllKeep, IsKeptJointly, FamiliesUnite, GreatestIsOne, GreatestHasAlone, OutsideIsBroken}
 
 -- ---- the more groups count, the more is kept
 
@@ -12,10 +12,7 @@ pub keeps_more : (Counts More : List Fact → Type 0) (o : Operator) (group : Li
     → Keeps Counts o group → Keeps More o group
 keeps_more Counts More o group more k = record {
   two = λ e f in_e in_f he hf ne. clash_more Counts More (preconditions o ++ e.conditions ++ f.conditions) more (k.two e f in_e in_f he hf ne);
-  others = λ e f in_e he hf ne. elim (k.others e f in_e he hf ne) [
-    | inl c ↦ inl (clash_more Counts More (preconditions o ++ e.conditions ++ f ∷ []) more c)
-    | inr d ↦ inr d
-  ];
+  others = search (rules, arith, clash_more);
 }
 
 pub all_keep_more : (p : Parts) (Counts More : List Fact → Type 0) (group : List Fact) → ((g : List Fact) → Counts g → More g)
@@ -51,10 +48,7 @@ in_second p a b place w = record { exists = w.exists; chosen = or_right (a place
 
 pub families_unite : FamiliesUnite
 families_unite p a b ka kb = record {
-  may = λ place w. elim (in_either p a b place w) [
-    | inl h ↦ ka.may place h
-    | inr h ↦ kb.may place h
-  ];
+  may = grind (arith, common_steps, in_either);
   kept = λ place w. elim (in_either p a b place w) [
     | inl h ↦ all_keep_more p (IsGroupOf p a) (IsGroupOf p (λ n. a n || b n)) (group_at p place) (group_of_larger p a (λ n. a n || b n) (in_first p a b)) (ka.kept place h)
     | inr h ↦ all_keep_more p (IsGroupOf p b) (IsGroupOf p (λ n. a n || b n)) (group_at p place) (group_of_larger p b (λ n. a n || b n) (in_second p a b)) (kb.kept place h)
@@ -88,10 +82,7 @@ pub with_place_is_kept : (p : Parts) (family : ℕ → Bool) (place : ℕ) → p
     → MayBeExclusive p (group_at p place) → AllKeep p (IsGroupOfOr p family (group_at p place)) (group_at p place)
     → IsKeptJointly p (λ n. family n || (n == place))
 with_place_is_kept p family place exists jointly may kept = record {
-  may = λ n w. elim (in_either p family (λ x. x == place) n w) [
-    | inl h ↦ jointly.may n h
-    | inr h ↦ subst (λ i. MayBeExclusive p (group_at p i)) (sym (eqb-true n place h.chosen)) may
-  ];
+  may = grind (arith, common_steps, in_either, eqb-true);
   kept = λ n w. elim (in_either p family (λ x. x == place) n w) [
     | inl h ↦ all_keep_more p (IsGroupOf p family) (IsGroupOf p (λ x. family x || (x == place))) (group_at p n) larger (jointly.kept n h)
     | inr h ↦ subst (λ i. AllKeep p (IsGroupOf p (λ x. family x || (x == place))) (group_at p i)) (sym (eqb-true n place h.chosen))

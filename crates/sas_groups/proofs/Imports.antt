@@ -45,7 +45,7 @@ pub use Rattle.sas_meaning.specs.InitialStates.{IsInitial}
 pub use Rattle.sas_meaning.specs.States.{Holds, AllHold}
 pub use Rattle.sas_meaning.specs.Steps.{preconditions, Fires, Step}
 pub use Rattle.sas_groups.specs.ByVariable.{IsLarge, effect_entry, AreEntered, AreByVariable, place_of}
-pub use Rattle.sas_groups.specs.Checks.{Removes, NotBoth, KeepsIfSets, Alone, IsFirstVerdict, IsOnlyOne, IsGone}
+pub use Rattle.sas_groups.specs.Checks.{Removes, NotBoth, KeepsIfSets, Alone, IsFirstVerdict, IsGone}
 pub use Rattle.sas_groups.specs.Clashes.{Keeps, IsRemoved, sets, Clash, Contradict}
 pub use Rattle.sas_groups.specs.Distinct.{facts_at, AreOwnLists, AreDistinct, IsBelow}
 pub use Rattle.sas_groups.specs.Families.{MayBeExclusive, IsIn, IsGroupOf, IsGroupOfOr, AllKeep, IsKeptJointly, IsGreatest, IsOnBasic}
@@ -57,8 +57,8 @@ pub use Rattle.sas_groups.specs.Kept.{family_of}
 pub use Rattle.sas_groups.specs.Laws.{FamiliesUnite, GreatestIsOne, GreatestHasAlone, OutsideIsBroken, JointlyKeptIsInvariant, ExclusiveAloneIsInvariant, ExclusiveJointlyIsInvariant, GreatestExists, JointVerdictIsOne, SomeJointVerdict}
 pub use Rattle.sas_groups.specs.Lists.{known, known_on, known_left, facts_left}
 pub use Rattle.sas_groups.specs.Notes.{value_note, group_note, AreBlank, AreFrom, IsValueNote, IsOfGroup, IsOfGroupBeside, IsNoteOf, IsGroupNote, AreNotesOf}
-pub use Rattle.sas_groups.specs.Noting.{AreBelow, IsNotedToo, NotesForGroup, TakenBySome, ShareKept, ChangesAt, IsSetApart, IsSet, IsCompleted, Forgets, IsForgotten, IsExcluded}
-pub use Rattle.sas_groups.specs.Runs.{AreOnOne, AreRuns, runs_at}
+pub use Rattle.sas_groups.specs.Noting.{AreBelow, IsNotedToo, NotesForGroup, TakenBySome, ShareKept, ChangesAt, IsSetApart, IsSet, IsCompleted, Forgets, IsExcluded}
+pub use Rattle.sas_groups.specs.Runs.{AreOnOne, AreRuns}
 pub use Rattle.sas_groups.specs.VerdictLaws.{InitialIsNoInvariant, InvariantInFastDownward, ExclusiveInFastDownward}
 pub use Rattle.sas_groups.specs.Verdicts.{IsJointVerdict, IsFirstBreaking, IsVerdictAlone}
 pub use Rattle.sas_groups.specs.declared.index.Index.{Index}

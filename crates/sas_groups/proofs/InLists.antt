@@ -1,5 +1,5 @@
 -- The contents of lists that are built from other lists.
-use Rattle.sas_groups.proofs.Imports.{◌≡◌, ◌⊎◌, ℕ, ◌<◌, List, [], ◌∷◌, ◌++◌, length, get_or, map, Option, None, Some, refl, sym, ◌∙◌, ap, subst, inl, inr, arith, Contains, cons_option, filter_map, flat_map, option_to_list, get_or-map, length-map, All-nil, All-cons, All-contains, Contains-get_or, Contains-append_left, Contains-append_right, Contains-append_cases, cases_eq, common_steps, contains_none}
+use Rattle.sas_groups.proofs.Imports.{◌≡◌, ◌⊎◌, ℕ, ◌<◌, List, [], ◌∷◌, length, get_or, map, Option, refl, sym, ◌∙◌, subst, inl, inr, arith, Contains, filter_map, flat_map, option_to_list, get_or-map, length-map, All-nil, All-cons, All-contains, Contains-get_or, Contains-append_left, Contains-append_right, Contains-append_cases, cases_eq, common_steps, contains_none}
 
 -- what is made of each item is in the list of what is made
 pub in_map : {X Y : Type 0} (f : X → Y) (xs : List X) (x : X) → Contains xs x → Contains (map f xs) (f x)
@@ -24,11 +24,7 @@ in_flat f (z ∷ zs) x y there its = elim (Contains-append_cases (z ∷ []) zs x
 -- what is given of some items is the lists of at most one item each, joined
 pub given_is : {X Y : Type 0} (h : X → Option Y) (xs : List X) → filter_map h xs ≡ flat_map (λ x. option_to_list (h x)) xs
 given_is h [] = refl
-given_is {X} {Y} h (x ∷ xs) = joined (h x) (given_is h xs)
-  where
-    joined : {front back : List Y} (o : Option Y) → front ≡ back → cons_option o front ≡ option_to_list o ++ back
-    joined None e = e
-    joined (Some y) e = ap (λ (ys : List Y). y ∷ ys) e
+given_is {X} {Y} h (x ∷ xs) = grind (arith, common_steps, given_is h xs)
 
 -- whether a number is among some
 pub is_among : (xs : List ℕ) (n : ℕ) → Contains xs n ⊎ (Contains xs n → ⊥)

@@ -13,10 +13,7 @@ module _ (p : Parts) (Counts : List Fact → Type 0) (are_kept : AreKept p Count
 
   -- facts that all hold don't clash
   no_clash : (s : List ℕ) (facts : List Fact) → Exclusive s → AllHold (λ v. get_or s v 0) facts → Clash Counts facts → ⊥
-  no_clash s facts exclusive hold (f, g, in_f, in_g, why) = grind (arith, common_steps, holds)
-    where
-      holds : (f : Fact) → Contains facts f → get_or s f.var 0 ≡ f.value
-      holds f among = All-contains (λ (x : Fact). get_or s x.var 0 ≡ x.value) facts f hold among
+  no_clash s facts exclusive hold (f, g, in_f, in_g, why) = grind (arith, common_steps, All-contains)
 
   basic_of : (group : List Fact) (f : Fact) → Counts group → Contains group f → IsBasic p f.var
   basic_of group f counts here = All-contains (λ (x : Fact). IsBasic p x.var) group f (are_kept.may group counts).basic here

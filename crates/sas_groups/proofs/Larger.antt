@@ -1,5 +1,5 @@
 -- The groups that contain more than one fact.
-use Rattle.sas_groups.proofs.Imports.{◌≡◌, ℕ, ◌+◌, ◌<◌, ◌↔◌, List, [], ◌∷◌, ◌++◌, length, get_or, Option, None, Some, sym, ◌∙◌, ap, subst, inl, inr, arith, Contains, cases_lt, cases_eq, get_or_default, Contains-get_or, Contains-append_left, Contains-push, Contains-push_cases, contains_none, Fact, Parts, FactExists, Index, IsIndexOf, groups_of, larger_groups_of, facts_at, AreOwnLists, HasFact, HasFactBeside, AreLarger, AreLargerOfEach, fact_number, under}
+use Rattle.sas_groups.proofs.Imports.{◌≡◌, ℕ, ◌<◌, ◌↔◌, List, [], ◌∷◌, ◌++◌, length, get_or, Option, None, Some, sym, ◌∙◌, ap, subst, inl, inr, arith, Contains, cases_lt, cases_eq, get_or_default, Contains-get_or, Contains-append_left, Contains-push, Contains-push_cases, contains_none, Fact, Parts, FactExists, Index, IsIndexOf, groups_of, larger_groups_of, facts_at, AreOwnLists, HasFact, HasFactBeside, AreLarger, AreLargerOfEach, fact_number, under}
 use Rattle.sas_groups.proofs.NotesOfFacts.{one_or_two}
 use Rattle.std.specs.Prelude.{unwrap_or}
 

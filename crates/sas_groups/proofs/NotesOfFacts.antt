@@ -1,7 +1,13 @@
 -- The notes after one more fact is recorded or removed.
-use Rattle.sas_groups.proofs.Imports.{◌≡◌, ◌≢◌, ◌⊎◌, ℕ, ◌<◌, Bool, IsTrue, length, set, List, Option, None, Some, subst, refl, sym, ap, ◌∙◌, inl, inr, arith, All, Contains, cases_eq, get_or-set_same, get_or-set_other, length-set, All-contains, Fact, Parts, FactExists, common_steps, same_Some, Index, Notes, GroupNote, Nothing, One, Several, family_of, IsIndexOf, groups_of, value_note, group_note, AreBlank, AreFrom, IsValueNote, IsOfGroup, IsOfGroupBeside, IsNoteOf, IsGroupNote, AreNotesOf, IsNotedToo, NotesForGroup, TakenBySome, ShareKept, ChangesAt, IsSetApart, IsSet, IsCompleted, Forgets, IsForgotten}
+use Rattle.sas_groups.proofs.Imports.{◌≡◌, ◌≢◌, ◌⊎◌, ℕ, ◌<◌, Bool, IsTrue, length, set, List, Option, None, Some, subst, refl, sym, ap, ◌∙◌, inl, inr, arith, All, Contains, cases_eq, get_or-set_same, get_or-set_other, length-set, All-contains, Fact, Parts, FactExists, common_steps, same_Some, Index, Notes, GroupNote, Nothing, One, Several, family_of, IsIndexOf, groups_of, value_note, group_note, AreBlank, AreFrom, IsValueNote, IsOfGroup, IsOfGroupBeside, IsNoteOf, IsGroupNote, AreNotesOf, IsNotedToo, NotesForGroup, TakenBySome, ShareKept, ChangesAt, IsSetApart, IsCompleted, Forgets, HasFact}
 use Rattle.sas_groups.proofs.InLists.{is_among}
 use Rattle.sas_groups.proofs.Existing.{variable_below}
+
+-- the fact isn't recorded for its variable, nor for its groups unless it is set apart
+pub record IsForgotten (p : Parts) (notes : Notes) (fact : Fact) : Type 0 where
+  pub value : value_note notes.values fact.var ≡ None
+  pub groups : (place : ℕ) → HasFact p place fact
+      → (notes.apart ≡ Some fact) ⊎ (group_note notes.groups place ≡ Nothing)
 
 pub none_or_some : {A : Type 0} (x : A) (noted : Option A) → noted ≡ None → noted ≡ Some x → ⊥
 none_or_some x noted none some = let e : None ≡ Some x = sym none ∙ some in absurd cc
@@ -9,9 +15,6 @@ none_or_some x noted none some = let e : None ≡ Some x = sym none ∙ some in 
 -- two facts are one, or they aren't
 pub one_or_two : (f g : Fact) → (f ≡ g) ⊎ (f ≢ g)
 one_or_two f g = grind (arith, common_steps, cases_eq)
-  where
-    same : (v a w b : ℕ) → v ≡ w → a ≡ b → (let x : Fact = record { var = v; value = a } in x) ≡ record { var = w; value = b }
-    same v a w b var value = rw (var, value) refl
 
 -- a fact is the one apart, or it isn't
 pub apart_or_not : (apart : Option Fact) (f : Fact) → (apart ≡ Some f) ⊎ (apart ≢ Some f)
@@ -41,10 +44,7 @@ noted_again Several now fact after first second = subst (λ noted. IsNotedToo no
 module _ (groups : List ℕ) (kept : List Bool) (fact : Fact) (before now : List GroupNote) (some : TakenBySome groups kept fact before now)
     (place : ℕ) (after : GroupNote) (too : IsNotedToo (group_note now place) fact after) where
   pub since_before : IsNotedToo (group_note before place) fact after
-  since_before = elim (some.each place) [
-    | inl same ↦ subst (λ noted. IsNotedToo noted fact after) same too
-    | inr takes ↦ noted_again (group_note before place) (group_note now place) fact after takes.now too
-  ]
+  since_before = grind (arith, common_steps, noted_again)
 
   module _ (within : place < length now) (among : Contains groups place) (alone : IsTrue (family_of kept place) → after ≢ Several) where
     at_place : group_note (set now place after) place ≡ after
@@ -60,16 +60,7 @@ module _ (groups : List ℕ) (kept : List Bool) (fact : Fact) (before now : List
     takes_still q takes = grind (arith, common_steps, cases_eq, takes_here, elsewhere)
 
     pub taken_more : TakenBySome groups kept fact before (set now place after)
-    taken_more = record {
-      as_many = length-set now place after ∙ some.as_many;
-      each = λ q. elim (cases_eq q place) [
-        | inl e ↦ inr (subst (λ x. NotesForGroup groups kept fact before (set now place after) x) (sym e) takes_here)
-        | inr ne ↦ elim (some.each q) [
-          | inl same ↦ inl (elsewhere q ne ∙ same)
-          | inr takes ↦ inr (takes_still q takes)
-        ]
-      ];
-    }
+    taken_more = grind (arith, common_steps, length-set, cases_eq, takes_here, elsewhere, takes_still)
 
 -- what the notes say of the facts, and when they are the notes of facts
 pub value_note_shows : (facts : List Fact) (var value : ℕ) (noted : Option ℕ) → IsValueNote facts var noted → noted ≡ Some value
@@ -140,7 +131,7 @@ pub completed : (p : Parts) (index : Index) (facts : List Fact) (notes : Notes) 
     → ((f : Fact) → Contains facts f → FactExists p.variables f) → place < length p.groups
     → AreNotesOf p facts notes → IsCompleted index notes place noted → IsGroupNote p facts place noted
 completed p index facts notes place noted indexed there exists are is = elim (a_note notes.apart) [
-  | inl none ↦ subst (IsGroupNote p facts place) (sym (is.without (λ f has. none_or_some f notes.apart none has.0)))
+  | inl none ↦ subst (IsGroupNote p facts place) (sym (is.without (λ f is_apart _. none_or_some f notes.apart none is_apart)))
       (all_beside (λ f e. none_or_some f notes.apart none e))
   | inr w ↦ elim (is_among (groups_of index w.0) place) [
     | inl among ↦ note_changes Beside Are w.0 (λ f beside. beside.of) (λ f of. elim (apart_or_not notes.apart f) [
@@ -148,8 +139,8 @@ completed p index facts notes place noted indexed there exists are is = elim (a_
       | inr ne ↦ inl (record { of = of; beside = ne })
     ]) (group_note notes.groups place) noted
         (record { among = are.one_apart w.0 w.1; has = (indexed.groups w.0 (there w.0 (are.one_apart w.0 w.1)) place).0 among })
-        (is.with_apart w.0 (w.1, among)) (are.groups place exists)
-    | inr out ↦ subst (IsGroupNote p facts place) (sym (is.without (λ f has. out (subst (λ (x : Fact). Contains (groups_of index x) place) (same_Some f w.0 (sym has.0 ∙ w.1)) has.1))))
+        (is.with_apart w.0 w.1 among) (are.groups place exists)
+    | inr out ↦ subst (IsGroupNote p facts place) (sym (is.without (λ f is_apart has. out (subst (λ (x : Fact). Contains (groups_of index x) place) (same_Some f w.0 (sym is_apart ∙ w.1)) has))))
         (all_beside' w.0 w.1 out)
   ]
 ]
@@ -180,16 +171,7 @@ blank_same p old new values groups apart blank = grind (arith, common_steps)
 -- at first notes are from the one apart
 module _ (p : Parts) (old new : Notes) (blank : AreBlank p old) where
   pub from_apart : (apart : Option Fact) (all : List Fact) → IsSetApart apart old new → ((f : Fact) → apart ≡ Some f → Contains all f) → AreFrom p all new
-  from_apart apart all is_set among = grind (arith, common_steps, as_wide, from_value)
-    where
-      as_wide : (apart : Option Fact) → IsSet apart old.values new.values → length new.values ≡ length old.values
-      as_wide None is_set = ap length is_set
-      as_wide (Some one) is_set = ap length is_set ∙ length-set old.values one.var (Some one.value)
-
-      from_value : (apart : Option Fact) (var : ℕ) → var < length p.variables → IsSet apart old.values new.values → ((f : Fact) → apart ≡ Some f → Contains all f)
-          → value_note new.values var ≢ None → (f : Fact) × Contains all f × (f.var ≡ var)
-      from_value None var lt is_set among some = absurd (some (ap (λ vs. value_note vs var) is_set ∙ blank.values var lt))
-      from_value (Some one) var lt is_set among some = grind (arith, common_steps, cases_eq, get_or-set_other)
+  from_apart apart all is_set among = grind (arith, common_steps, length-set, cases_eq, get_or-set_other)
 
 module _ {p : Parts} {index : Index} {all : List Fact} {old new : Notes} (indexed : IsIndexOf p index) (from : AreFrom p all old)
     (fact : Fact) (exists : FactExists p.variables fact) where
@@ -197,10 +179,7 @@ module _ {p : Parts} {index : Index} {all : List Fact} {old new : Notes} (indexe
   pub noted_still : Contains all fact → (value_note old.values fact.var ≡ None → old.apart ≢ Some fact) → ChangesAt (groups_of index fact) fact old new → AreFrom p all new
   noted_still in_all beside changes = record {
     wide = record { variables = changes.as_many_values ∙ from.wide.variables; groups = changes.as_many_groups ∙ from.wide.groups };
-    values = λ var lt some. elim (changes.values var) [
-      | inl same ↦ from.values var lt (λ none. some (same ∙ none))
-      | inr on ↦ (fact, in_all, sym on)
-    ];
+    values = grind (arith, common_steps);
     groups = λ place lt some. elim (changes.by_group place) [
       | inl same ↦ (let (f, among, has, ne) = from.groups place lt (λ none. some (same ∙ none)) in (f, among, has, λ e. ne (sym changes.same_apart ∙ e)))
       | inr w ↦ (fact, in_all, (indexed.groups fact exists place).0 w.0, λ e. beside w.1 (sym changes.same_apart ∙ e))
@@ -225,20 +204,7 @@ module _ {p : Parts} {index : Index} {all : List Fact} {old new : Notes} (indexe
 
     -- so does a fact that is forgotten
     pub noted_less : AreFrom p all new
-    noted_less = record {
-      wide = record {
-        variables = ap length forgets.values ∙ (length-set old.values fact.var None ∙ from.wide.variables);
-        groups = as_many_groups ∙ from.wide.groups;
-      };
-      values = λ var lt some. elim (value_or_none var) [
-        | inl same ↦ from.values var lt (λ none. some (same ∙ none))
-        | inr none ↦ absurd (some none)
-      ];
-      groups = λ place lt some. elim (note_or_none place) [
-        | inl same ↦ (let (f, among, has, ne) = from.groups place lt (λ none. some (same ∙ none)) in (f, among, has, λ e. ne (sym forgets.same_apart ∙ e)))
-        | inr none ↦ absurd (some none)
-      ];
-    }
+    noted_less = grind (arith, common_steps, length-set, as_many_groups, value_or_none, note_or_none)
 
     pub forgotten_now : IsForgotten p new fact
     forgotten_now = record {

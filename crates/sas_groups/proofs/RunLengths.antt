@@ -9,23 +9,13 @@ on_more facts var place d below all is =
     (All-append (λ (f : Fact). f.var ≡ var) (take place facts) (get_or facts place d ∷ []) all
     (All-cons (λ (f : Fact). f.var ≡ var) (get_or facts place d) [] is (All-nil (λ (f : Fact). f.var ≡ var))))
 
--- a list and its length
-take_whole : {A : Type 0} (xs : List A) → take (length xs) xs ≡ xs
-take_whole xs = take_all (length xs) xs (omega arith)
-
-take_front : {A : Type 0} (n : ℕ) (xs ys : List A) → n ≤ length xs → take n (xs ++ ys) ≡ take n xs
-take_front n xs ys h = take-append-le n xs ys h
-
-drop_front : {A : Type 0} (n : ℕ) (xs ys : List A) → n ≤ length xs → drop n (xs ++ ys) ≡ drop n xs ++ ys
-drop_front n xs ys h = drop-append-le n xs ys h
-
 -- one run more, behind the others
 pub runs_more : (before run : List Fact) (runs : List ℕ) → AreRuns before runs → AreOnOne run → AreRuns (before ++ run) (runs ++ length run ∷ [])
-runs_more before run [] is one = grind (arith, common_steps, take_whole, drop_all)
+runs_more before run [] is one = grind (arith, common_steps, take_all, drop_all)
 runs_more before run (n ∷ runs) (within, here, later) one = (
   omega (arith, length-append before run),
-  subst AreOnOne (sym (take_front n before run within)) here,
-  subst (λ (fs : List Fact). AreRuns fs (runs ++ length run ∷ [])) (sym (drop_front n before run within)) (runs_more (drop n before) run runs later one),
+  subst AreOnOne (sym (take-append-le n before run within)) here,
+  subst (λ (fs : List Fact). AreRuns fs (runs ++ length run ∷ [])) (sym (drop-append-le n before run within)) (runs_more (drop n before) run runs later one),
 )
 
 -- the first of these facts, and as many behind it as are on its variable, are the next run

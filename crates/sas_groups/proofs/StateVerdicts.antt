@@ -1,5 +1,5 @@
 -- What verdicts on groups say about states, here and in Fast Downward's search.
-use Rattle.sas_groups.proofs.Imports.{ℕ, List, get_or, sym, ◌∙◌, All-contains, Contains, Fact, Parts, group_at, Holds, IsBasic, IsInitial, Initial, initial_exists, no_more, IsExclusiveIn, InitialIsNoInvariant, InvariantInFastDownward, ExclusiveInFastDownward}
+use Rattle.sas_groups.proofs.Imports.{ℕ, List, get_or, sym, ◌∙◌, All-contains, Contains, Fact, group_at, Holds, IsBasic, IsInitial, Initial, initial_exists, no_more, IsExclusiveIn, InitialIsNoInvariant, InvariantInFastDownward, ExclusiveInFastDownward}
 use Rattle.sas_groups.proofs.Invariance.{exclusive_jointly_is_invariant}
 
 pub initial_is_no_invariant : InitialIsNoInvariant

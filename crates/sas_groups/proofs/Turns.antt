@@ -1,5 +1,5 @@
 -- Properties of all items of a loop, from those processed and those that remain.
-use Rattle.sas_groups.proofs.Imports.{◌≡◌, List, [], ◌∷◌, ◌++◌, refl, sym, ◌∙◌, ap, append_assoc, append-nil, arith, All, Contains, All-nil, All-push, Contains-append_right}
+use Rattle.sas_groups.proofs.Imports.{common_steps, ◌≡◌, List, [], ◌∷◌, ◌++◌, refl, sym, append_assoc, append-nil, arith, All, Contains, All-nil, All-push, Contains-append_right}
 
 -- these items came, those are left, and each that came has the property
 pub record Turns {A : Type 0} (P : A → Type 0) (all came left : List A) : Type 0 where
@@ -16,10 +16,7 @@ module _ {A : Type 0} {P : A → Type 0} {all came left : List A} (turns : Turns
 
   -- it has come then
   pub turn_more : {x : A} {after : List A} → left ≡ x ∷ after → P x → Turns P all (came ++ x ∷ []) after
-  turn_more {x} {after} steps its = record {
-    parts = turns.parts ∙ (ap (λ (xs : List A). came ++ xs) steps ∙ sym (append_assoc came (x ∷ []) after));
-    have = All-push P came x turns.have its;
-  }
+  turn_more {x} {after} steps its = grind (arith, common_steps, append_assoc, All-push)
 
   -- what each that came has, each has in the end
   pub turns_end : left ≡ [] → All P all

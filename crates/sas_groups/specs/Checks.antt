@@ -1,12 +1,11 @@
 -- What the parts of the check of a group decide. The predicate `Counts` selects the groups that are
 -- assumed to be exclusive before a step.
-use Rattle.std.specs.Prelude.{◌≡◌, ◌≢◌, ◌⊎◌, ℕ, ◌<◌, length, List, [], ◌∷◌, All, Contains, slice_index}
+use Rattle.std.specs.Prelude.{◌≡◌, ◌≢◌, ◌⊎◌, ℕ, ◌<◌, length, List, [], ◌∷◌, All, Contains}
 use Rattle.sas_core.specs.declared.parts.Fact.{Fact}
 use Rattle.sas_core.specs.declared.parts.Effect.{Effect}
 use Rattle.sas_core.specs.declared.parts.Operator.{Operator}
 use Rattle.sas_core.specs.declared.parts.Parts.{Parts}
 use Rattle.sas_core.specs.Grounded.{effect_at}
-use Rattle.sas_meaning.specs.States.{Holds}
 use Rattle.sas_groups.specs.declared.verdict.Verdict.{Verdict}
 use Rattle.sas_groups.specs.declared.verdict.Verdict.TheVariants.{Exclusive, Derived, Initial, Broken}
 use Rattle.sas_groups.specs.Clashes.{Clash, IsRemoved, sets}
@@ -54,10 +53,6 @@ pub record EffectKeeps (Counts : List Fact → Type 0) (o : Operator) (group : L
 -- the effect preserves the group, or sets no fact of it
 abbrev pub KeepsIfSets : (List Fact → Type 0) → Operator → List Fact → Effect → Type 0
 KeepsIfSets Counts o group e = Contains group (sets e) → EffectKeeps Counts o group e
-
--- if the second fact holds in the state section, it is the first fact
-abbrev pub IsOnlyOne : List ℕ → Fact → Fact → Type 0
-IsOnlyOne init f g = Holds (slice_index init) g → f ≡ g
 
 -- the verdict on a group before operators are checked; `Exclusive` means that the group may be
 -- exclusive

@@ -1,13 +1,11 @@
 -- How recording one fact changes the notes.
 use Rattle.std.specs.Prelude.{◌≡◌, ◌≢◌, ◌⊎◌, ℕ, ◌<◌, Bool, IsTrue, Option, None, Some, List, length, slice_set, All, Contains}
 use Rattle.sas_core.specs.declared.parts.Fact.{Fact}
-use Rattle.sas_core.specs.declared.parts.Parts.{Parts}
 use Rattle.sas_groups.specs.declared.notes.Notes.{Notes}
 use Rattle.sas_groups.specs.declared.notes.GroupNote.{GroupNote}
 use Rattle.sas_groups.specs.declared.notes.GroupNote.TheVariants.{Nothing, One, Several}
 use Rattle.sas_groups.specs.Kept.{family_of}
 use Rattle.sas_groups.specs.declared.index.Index.{Index}
-use Rattle.sas_groups.specs.ByFact.{HasFact}
 use Rattle.sas_groups.specs.Index.{groups_of}
 use Rattle.sas_groups.specs.Notes.{value_note, group_note}
 
@@ -26,10 +24,6 @@ pub record ShareKept (index : Index) (kept : List Bool) (f g : Fact) : Type 0 wh
 abbrev pub SharesApart : Index → List Bool → Fact → Option Fact → Type 0
 SharesApart index kept fact apart =
     (other : Fact) × (apart ≡ Some other) × ShareKept index kept fact other
-
--- the fact is set apart, and the group with this index contains it
-abbrev pub HasApart : Index → ℕ → Option Fact → Fact → Type 0
-HasApart index place apart fact = (apart ≡ Some fact) × Contains (groups_of index fact) place
 
 -- the record of a group after this fact of the group is recorded, too
 abbrev pub IsNotedToo : GroupNote → Fact → GroupNote → Type 0
@@ -121,9 +115,11 @@ pub record IsSetApart (apart : Option Fact) (before after : Notes) : Type 0 wher
 -- the record of the group with this index, including the fact set apart
 pub record IsCompleted (index : Index) (notes : Notes) (place : ℕ) (noted : GroupNote)
     : Type 0 where
-  pub with_apart : (fact : Fact) → HasApart index place notes.apart fact
+  pub with_apart : (fact : Fact) → notes.apart ≡ Some fact
+      → Contains (groups_of index fact) place
       → IsNotedToo (group_note notes.groups place) fact noted
-  pub without : ((fact : Fact) → HasApart index place notes.apart fact → ⊥)
+  pub without : ((fact : Fact) → notes.apart ≡ Some fact
+      → Contains (groups_of index fact) place → ⊥)
       → noted ≡ group_note notes.groups place
 
 -- the records of these groups are removed; those of other groups are unchanged or removed
@@ -139,12 +135,6 @@ pub record Forgets (groups : List ℕ) (fact : Fact) (before after : Notes) : Ty
   pub by_group : (before.apart ≡ Some fact × (after.groups ≡ before.groups))
       ⊎ ForgetsGroups groups before.groups after.groups
   pub same_apart : after.apart ≡ before.apart
-
--- the fact isn't recorded for its variable, nor for its groups unless it is set apart
-pub record IsForgotten (p : Parts) (notes : Notes) (fact : Fact) : Type 0 where
-  pub value : value_note notes.values fact.var ≡ None
-  pub groups : (place : ℕ) → HasFact p place fact
-      → (notes.apart ≡ Some fact) ⊎ (group_note notes.groups place ≡ Nothing)
 
 -- a fact is recorded for one of these groups that is in the family
 pub record HasNotedGroup (groups : List ℕ) (kept : List Bool) (noted : List GroupNote)

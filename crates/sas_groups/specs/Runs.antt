@@ -15,12 +15,8 @@ AreRuns facts (n ∷ runs) = (n ≤ length facts)
     × AreOnOne (take n facts)
     × AreRuns (drop n facts) runs
 
--- the runs of the group with this index
-abbrev pub runs_at : List (List ℕ) → ℕ → List ℕ
-runs_at runs place = slice_index_or runs place []
-
 -- the runs of all groups of the task, given their own lists
 pub record AreRunsOf (p : Parts) (own : List (List Fact)) (runs : List (List ℕ)) : Type 0 where
   pub one_each : length runs ≡ length p.groups
   pub are : (place : ℕ) → place < length p.groups
-      → AreRuns (facts_at p own place) (runs_at runs place)
+      → AreRuns (facts_at p own place) (slice_index_or runs place [])

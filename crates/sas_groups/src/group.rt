@@ -5,7 +5,7 @@ ghost use Rattle.sas_meaning.specs.States.{Holds};
 ghost use Rattle.sas_groups.specs.Groups.{IsExclusiveIn, IsInvariant};
 ghost use Rattle.sas_groups.specs.Families.{IsOnBasic, AllKeep};
 ghost use Rattle.sas_groups.specs.Verdicts.{IsVerdictAlone, IsFirstBreaking};
-ghost use Rattle.sas_groups.specs.Checks.{IsFirstVerdict, Alone, IsOnlyOne};
+ghost use Rattle.sas_groups.specs.Checks.{IsFirstVerdict, Alone};
 
 use crate::keeping::keeps;
 use crate::verdict::Verdict;
@@ -50,12 +50,7 @@ fn is_on_basic<T: Grounded>(task: &Layered<T>, group: &[Fact]) -> bool
     requires { All (λ f. f.var < length task.now.variables) group.now }
     ensures { IsTrue result ↔ IsOnBasic task.now group.now }
 {
-    for fact in group {
-        if let Some(_) = task.layer(fact.var) {
-            return false;
-        }
-    }
-    true
+    group.iter().all(|fact| task.layer(fact.var).is_none())
 }
 
 /// Returns whether the state section contains no two different facts of the group.
@@ -77,25 +72,18 @@ fn first_holding<T: Grounded>(task: &Layered<T>, group: &[Fact]) -> Option<Fact>
     ensures none { IfNone result
         (All (λ fact. Holds (slice_index task.now.init) fact → ⊥) group.now) }
 {
-    for fact in group {
-        if holds(task, *fact) {
-            return Some(*fact);
-        }
-    }
-    None
+    group.iter().copied().find(|fact| holds(task, *fact))
 }
 
 /// Returns whether no fact of the group other than `fact` holds in the state section.
 fn is_only_one<T: Grounded>(task: &Layered<T>, group: &[Fact], fact: Fact) -> bool
     requires { All (λ f. f.var < length task.now.variables) group.now }
-    ensures { IsTrue result ↔ All (IsOnlyOne task.now.init fact) group.now }
+    ensures { IsTrue result
+        ↔ All (λ other. Holds (slice_index task.now.init) other → fact ≡ other) group.now }
 {
-    for other in group {
-        if *other != fact && holds(task, *other) {
-            return false;
-        }
-    }
-    true
+    group
+        .iter()
+        .all(|other| !holds(task, *other) || *other == fact)
 }
 
 /// Returns whether the fact holds in the state section.

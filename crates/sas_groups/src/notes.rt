@@ -147,12 +147,7 @@ impl Notes {
 
 /// Returns whether some fact has many groups.
 pub fn has_wide(index: &Index) -> bool {
-    for key in 0..index.groups.len() {
-        if index.groups.get(key).len() > FEW_GROUPS {
-            return true;
-        }
-    }
-    false
+    (0..index.groups.len()).any(|key| index.groups.get(key).len() > FEW_GROUPS)
 }
 
 /// Returns `fact` if it has many groups, and more than `other`. Otherwise returns `other`.

@@ -1,5 +1,5 @@
 -- Groups are removed from a family one by one, until the greatest family is left.
-use Rattle.sas_mutex.proofs.Imports.{◌≡◌, ℕ, ◌<◌, ◌≤◌, Bool, true, false, List, [], ◌∷◌, ◌++◌, length, get_or, set, drop, refl, sym, ◌∙◌, ap, subst, inl, inr, arith, cases_eq, cases_Bool, both_ways, append_assoc, drop_all, drop_at, length-append, length-set, get_or-set_same, get_or-set_other, All-nil, All-cons, All-append, All-from_get_or, Contains-append_left, Contains-append_right, EffectKeeps, keeps_from_effects, effect_of_keeps, Family, IsKept, KeepsAt, KeepsWithItself, BasisGrows, IsAtRest, AreCandidates, newly, Falls, Contains-push, Contains-push_cases, Contains-append_cases, All, Contains, Operator, Parts, operator_at, effect_at, group_at, Keeps, Clash, sets, known, IsIn, IsGroupOf, IsGroupOfOr, IsKeptJointly, IsGreatest, group_of_larger, keeps_more, family_of}
+use Rattle.sas_mutex.proofs.Imports.{common_steps, rules, ◌≡◌, ℕ, ◌<◌, ◌≤◌, Bool, false, List, [], ◌∷◌, ◌++◌, length, set, refl, sym, ◌∙◌, ap, subst, inl, inr, arith, cases_eq, cases_Bool, both_ways, append_assoc, drop_all, drop_at, length-append, length-set, get_or-set_same, get_or-set_other, All-nil, All-cons, All-append, All-from_get_or, Contains-append_left, Contains-append_right, EffectKeeps, keeps_from_effects, effect_of_keeps, Family, IsKept, KeepsAt, KeepsWithItself, IsPartOf, IsAtRest, AreCandidates, newly, Falls, Contains-push, Contains-push_cases, Contains-append_cases, All, Contains, Operator, Parts, operator_at, effect_at, group_at, Keeps, Clash, sets, known, IsIn, IsGroupOf, IsGroupOfOr, IsKeptJointly, IsGreatest, group_of_larger, keeps_more, family_of}
 use Rattle.std.proofs.lemmas.List.{append-nil}
 use Rattle.sas_mutex.proofs.FromNotes.{clash_keeps}
 use Rattle.sas_mutex.proofs.Keeping.{effect_keeps_more}
@@ -21,30 +21,15 @@ module _ {p : Parts} where
   -- ---- groups that fell in one turn after another
 
   pub none_fell : (family : Family) → Falls p family family
-  none_fell family = record {
-    one_each = refl;
-    behind = sym (ap (λ (xs : List ℕ). family.fallen.items ++ xs) nothing ∙ append-nil family.fallen.items);
-    exist = subst (All (λ place. place < length p.groups)) (sym nothing) (All-nil (λ place. place < length p.groups));
-    gone = λ place within. absurd (let in_none = subst (λ (xs : List ℕ). Contains xs place) nothing within in omega (arith, in_none.1));
-    less = λ place w. w;
-    noted = λ place w out. absurd (out w);
-    none_lost = λ other jointly within. within;
-  }
-    where
-      nothing : drop (length family.fallen.items) family.fallen.items ≡ []
-      nothing = drop_all (length family.fallen.items) family.fallen.items (omega arith)
+  none_fell family = grind (arith, common_steps, append-nil, All-nil, drop_all)
 
   pub newly_then : {a b c : Family} → Falls p a b → Falls p b c → newly a c ≡ newly a b ++ newly b c
-  newly_then {a} {b} {c} first second =
-      ap (λ (xs : List ℕ). drop (length a.fallen.items) xs)
-      (second.behind ∙ (ap (λ (xs : List ℕ). xs ++ newly b c) first.behind ∙ append_assoc a.fallen.items (newly a b) (newly b c)))
-      ∙ drop_at a.fallen.items (newly a b ++ newly b c) (length a.fallen.items) refl
+  newly_then {a} {b} {c} first second = grind (arith, common_steps, append_assoc, drop_at)
 
   pub falls_then : {a b c : Family} → Falls p a b → Falls p b c → Falls p a c
   falls_then {a} {b} {c} first second = record {
     one_each = second.one_each ∙ first.one_each;
-    behind = second.behind ∙ (ap (λ (xs : List ℕ). xs ++ newly b c) first.behind ∙ (append_assoc a.fallen.items (newly a b) (newly b c)
-        ∙ ap (λ (xs : List ℕ). a.fallen.items ++ xs) (sym both)));
+    behind = grind (arith, common_steps, append_assoc, both);
     exist = subst (All (λ place. place < length p.groups)) (sym both) (All-append (λ place. place < length p.groups) (newly a b) (newly b c) first.exist second.exist);
     gone = λ place within w. elim (Contains-append_cases (newly a b) (newly b c) place (subst (λ (xs : List ℕ). Contains xs place) both within)) [
       | inl early ↦ first.gone place early (second.less place w)
@@ -62,64 +47,23 @@ module _ {p : Parts} where
       both = newly_then first second
 
   pub fallen_grow : {before after : Family} → Falls p before after → length before.fallen.items ≤ length after.fallen.items
-  fallen_grow {before} {after} falls =
-      let longer = ap length falls.behind ∙ length-append before.fallen.items (newly before after) in omega (arith, longer)
+  fallen_grow {before} {after} falls = grind (arith, common_steps, length-append)
 
   -- one group falls, which no family that is kept jointly within the present one has
   pub one_fell : (before after : Family) (place : ℕ) → after.kept ≡ set before.kept place false → after.fallen.items ≡ before.fallen.items ++ place ∷ []
       → place < length p.groups
       → ((other : ℕ → Bool) → IsKeptJointly p other → ((n : ℕ) → IsIn p other n → IsIn p (family_of before.kept) n) → IsIn p other place → ⊥)
       → length before.kept ≡ length p.groups → Falls p before after
-  one_fell before after place kept fallen exists never one_each = record {
-    one_each = ap length kept ∙ length-set before.kept place false;
-    behind = fallen ∙ ap (λ (xs : List ℕ). before.fallen.items ++ xs) (sym one);
-    exist = subst (All (λ place. place < length p.groups)) (sym one) (All-cons (λ place. place < length p.groups) place [] exists (All-nil (λ place. place < length p.groups)));
-    gone = λ n within w. both_ways (family_of after.kept place) is_out (subst (λ i. family_of after.kept i ≡ true) (only n (subst (λ (xs : List ℕ). Contains xs n) one within)) w.chosen);
-    less = less;
-    noted = λ n w out. subst (λ (xs : List ℕ). Contains xs n) (sym one) (elim (cases_eq n place) [
-      | inl e ↦ subst (λ i. Contains (place ∷ []) i) (sym e) (Contains-push [] place)
-      | inr ne ↦ absurd (out (record { exists = w.exists; chosen = is_other n ne ∙ w.chosen }))
-    ]);
-    none_lost = λ other jointly within n w. elim (cases_eq n place) [
-      | inl e ↦ absurd (never other jointly within (subst (IsIn p other) e w))
-      | inr ne ↦ record { exists = w.exists; chosen = is_other n ne ∙ (within n w).chosen }
-    ];
-  }
-    where
-      one : newly before after ≡ place ∷ []
-      one = ap (λ (xs : List ℕ). drop (length before.fallen.items) xs) fallen ∙ drop_at before.fallen.items (place ∷ []) (length before.fallen.items) refl
-
-      only : (n : ℕ) → Contains (place ∷ []) n → n ≡ place
-      only n within = elim (Contains-push_cases [] place n within) [
-        | inl none ↦ absurd (omega (arith, none.1))
-        | inr is ↦ sym is
-      ]
-
-      is_other : (n : ℕ) → (n ≡ place → ⊥) → family_of after.kept n ≡ family_of before.kept n
-      is_other n ne = ap (λ (xs : List Bool). get_or xs n false) kept ∙ get_or-set_other before.kept place n false false ne
-
-      is_out : family_of after.kept place ≡ false
-      is_out = ap (λ (xs : List Bool). get_or xs place false) kept ∙ get_or-set_same before.kept place false false (omega arith)
-
-      less : (n : ℕ) → IsIn p (family_of after.kept) n → IsIn p (family_of before.kept) n
-      less n w = elim (cases_eq n place) [
-        | inl e ↦ absurd (both_ways (family_of after.kept place) is_out (subst (λ i. family_of after.kept i ≡ true) e w.chosen))
-        | inr ne ↦ record { exists = w.exists; chosen = sym (is_other n ne) ∙ w.chosen }
-      ]
+  one_fell before after place kept fallen exists never one_each = search (rules, arith, length-set, All-cons, All-nil, both_ways, cases_eq, Contains-push, drop_at, Contains-push_cases, get_or-set_other, get_or-set_same)
 
   -- ---- what rests stays at rest, where nothing falls
 
   -- the groups of a family are still in it
   same_groups : (b c : Family) → Falls p b c → newly b c ≡ [] → (place : ℕ) → IsIn p (family_of b.kept) place → IsIn p (family_of c.kept) place
-  same_groups b c falls none place w = elim (cases_Bool (family_of c.kept place)) [
-    | inl here ↦ record { exists = w.exists; chosen = here }
-    | inr gone ↦ absurd (let fell = subst (λ (xs : List ℕ). Contains xs place) none (falls.noted place w (λ v. both_ways (family_of c.kept place) gone v.chosen)) in omega (arith, fell.1))
-  ]
+  same_groups b c falls none place w = grind (arith, common_steps, cases_Bool, both_ways)
 
   pub keeps_still : {b c : Family} (operator effect place : ℕ) → Falls p b c → newly b c ≡ [] → KeepsAt p b.kept operator effect place → KeepsAt p c.kept operator effect place
-  keeps_still {b} {c} operator effect place falls none = effect_keeps_more (IsKept p b.kept) (IsKept p c.kept)
-      (operator_at p operator) (group_at p place) (effect_at (operator_at p operator) effect)
-      (group_of_larger p (family_of b.kept) (family_of c.kept) (same_groups b c falls none))
+  keeps_still {b} {c} operator effect place falls none = search (rules, arith, effect_keeps_more, group_of_larger, same_groups)
 
   pub none_first : {a b c : Family} → Falls p a b → Falls p b c → newly a c ≡ [] → newly a b ≡ []
   none_first {a} {b} {c} first second none = none_left (newly a b) (newly b c) (sym (newly_then first second) ∙ none)
@@ -135,12 +79,7 @@ module _ {p : Parts} where
   -- it is kept by every family that has these groups
   pub basis_keeps : (basis kept : List Bool) (operator effect place : ℕ) → ((n : ℕ) → IsIn p (family_of basis) n → IsIn p (family_of kept) n)
       → IsIn p (family_of kept) place → KeepsWithItself p basis operator effect place → KeepsAt p kept operator effect place
-  basis_keeps basis kept operator effect place within w = effect_keeps_more (IsGroupOfOr p (family_of basis) (group_at p place)) (IsKept p kept)
-      (operator_at p operator) (group_at p place) (effect_at (operator_at p operator) effect)
-      (λ group either. elim either [
-        | inl b ↦ (b.0, within b.0 b.1, b.2)
-        | inr is ↦ (place, w, is)
-      ])
+  basis_keeps basis kept operator effect place within w = search (rules, arith, effect_keeps_more)
 
   -- ---- where nothing waits, the family is the greatest
 
@@ -153,8 +92,7 @@ module _ {p : Parts} where
           (λ operator exists. keeps_from_effects (IsKept p after.kept) (operator_at p operator) (group_at p place)
           (λ effect within has. rest operator exists effect within place w has));
     };
-    greatest = λ other jointly. falls.none_lost other jointly
-        (λ place w. record { exists = w.exists; chosen = (candidates place w.exists).1 (jointly.may place w) });
+    greatest = grind (arith, common_steps);
   }
 
   -- a group that an operator of the task doesn't keep is in no family that is kept jointly
@@ -177,8 +115,7 @@ module _ {p : Parts} where
 
   -- where no more fell than before, none did
   pub none_newly : {b c : Family} → Falls p b c → length c.fallen.items ≡ length b.fallen.items → newly b c ≡ []
-  none_newly {b} {c} falls same = none_of_length (newly b c)
-      (let len = ap length falls.behind ∙ length-append b.fallen.items (newly b c) in omega arith)
+  none_newly {b} {c} falls same = grind (arith, common_steps, none_of_length, length-append)
 
   pub as_before : {b c : Family} → Falls p b c → length c.fallen.items ≡ length b.fallen.items → c.fallen.items ≡ b.fallen.items
   as_before {b} {c} falls same = falls.behind ∙ (ap (λ (xs : List ℕ). b.fallen.items ++ xs) (none_newly falls same) ∙ append-nil b.fallen.items)
@@ -192,7 +129,7 @@ module _ (p : Parts) where
       (clash_keeps (IsKept p basis) (operator_at p operator) (group_at p place) (effect_at (operator_at p operator) effect) clash)
 
   -- and stays so while the basis grows
-  pub basis_grows : (b c : List Bool) (operator effect place : ℕ) → BasisGrows b c → KeepsWithItself p b operator effect place → KeepsWithItself p c operator effect place
+  pub basis_grows : (b c : List Bool) (operator effect place : ℕ) → IsPartOf b c → KeepsWithItself p b operator effect place → KeepsWithItself p c operator effect place
   basis_grows b c operator effect place grows = effect_keeps_more (IsGroupOfOr p (family_of b) (group_at p place)) (IsGroupOfOr p (family_of c) (group_at p place))
       (operator_at p operator) (group_at p place) (effect_at (operator_at p operator) effect)
       (λ group either. elim either [

@@ -1,5 +1,5 @@
 -- What the notes of facts that don't clash imply for another fact.
-use Rattle.sas_mutex.proofs.Imports.{◌≡◌, ◌≢◌, ◌⊎◌, ℕ, ◌<◌, Bool, [], length, get_or, List, ◌∷◌, ◌++◌, None, Some, subst, refl, sym, ap, ◌∙◌, inl, inr, append-nil, All, Any, Contains, cases_eq, get_or_default, Contains-append_left, Contains-append_right, Contains-append_cases, Contains-push, Contains-push_cases, Contains-get_or, Change, Fact, Effect, change_of, Operator, Parts, effect_at, group_at, FactExists, EffectKeeps, AreGone, Marks, IsKept, EffectPlace, operator_of, effect_of, IsNotedAt, ShareOne, AreKnown, IsMet, RemovesByNotes, SomeRemoves, IsNotedFor, known_at, preconditions, Contradict, Clash, IsRemoved, IsIn, known, Index, Notes, IsGone, clash_more, group_of_larger, family_of, IsIndexOf, HasFact, groups_of, value_note, group_note, IsOfGroupBeside, HasOtherValue, HasNotedGroup, ShareKept, SharesApart, Excluding, Excludes, AreGoneAt, WellRanged, variable_below, a_note, apart_or_not, one_or_two, value_note_shows, no_value_note_shows, no_note_shows, some_note_shows, shared_turned, no_effect}
+use Rattle.sas_mutex.proofs.Imports.{arith, common_steps, rules, ◌≡◌, ◌≢◌, ◌⊎◌, ℕ, ◌<◌, Bool, [], length, List, ◌∷◌, ◌++◌, None, Some, subst, refl, sym, ap, ◌∙◌, inl, inr, append-nil, All, Any, Contains, cases_eq, get_or_default, Contains-append_left, Contains-append_right, Contains-append_cases, Contains-push, Contains-push_cases, Contains-get_or, Change, Fact, Effect, change_of, Operator, Parts, effect_at, group_at, FactExists, EffectKeeps, AreGone, Marks, IsKept, EffectPlace, operator_of, effect_of, IsNotedAt, ShareOne, AreKnown, IsMet, RemovesByNotes, SomeRemoves, IsNotedFor, known_at, preconditions, Contradict, Clash, IsRemoved, IsIn, known, Index, Notes, IsGone, clash_more, group_of_larger, family_of, IsIndexOf, HasFact, groups_of, value_note, group_note, IsOfGroupBeside, HasOtherValue, HasNotedGroup, ShareKept, SharesApart, Excluding, Excludes, AreGoneAt, WellRanged, variable_below, a_note, apart_or_not, one_or_two, value_note_shows, no_value_note_shows, no_note_shows, some_note_shows, shared_turned, no_effect}
 use Rattle.sas_mutex.proofs.TaskFacts.{known_at_exist, conditions_exist}
 use Rattle.sas_mutex.proofs.KnownFacts.{contradict_turned, not_itself, shares_contradicts, contradicts_shares, share_one, share_kept}
 
@@ -54,24 +54,14 @@ module _ (at : EffectPlace) (index : Index) {change : Change} (fits : IsFiring a
 
   -- where another value is noted for its variable, the fact clashes with what is known
   pub other_value_clashes : HasOtherValue notes.values fact → Clash (IsKept p kept) with
-  other_value_clashes (value, at, differs) = (
-    fact,
-    record { var = fact.var; value = value },
-    itself,
-    also (record { var = fact.var; value = value })
-        (value_note_shows before fact.var value (value_note notes.values fact.var) (are.noted.values fact.var on_variable) at),
-    inl (refl, λ e. differs (sym e)),
-  )
+  other_value_clashes (value, at, differs) = search (rules, arith, itself, also, value_note_shows, on_variable)
 
   -- a fact that is noted doesn't clash with what is known, which doesn't clash by itself
   there_no_clash : Contains before fact → Clash (IsKept p kept) with → ⊥
   there_no_clash here clash = are.apart (clash.0, clash.1, was_in clash.0 clash.2, was_in clash.1 clash.3, clash.4)
     where
       was_in : (f : Fact) → Contains with f → Contains before f
-      was_in f in_all = elim (either f in_all) [
-        | inl in_before ↦ in_before
-        | inr e ↦ subst (λ (x : Fact). Contains before x) e here
-      ]
+      was_in f in_all = grind (arith, common_steps, either)
 
   pub noted_no_clash : value_note notes.values fact.var ≡ Some fact.value → Clash (IsKept p kept) with → ⊥
   noted_no_clash at = there_no_clash (value_note_shows before fact.var fact.value (value_note notes.values fact.var) (are.noted.values fact.var on_variable) at)
@@ -178,13 +168,7 @@ module _ (at : EffectPlace) (index : Index) {change : Change} (fits : IsFiring a
   conditions_there = conditions_exist p fits.0 at.operator fits.2
 
   pub removes_is_removed : SomeRemoves o notes fact → IsRemoved o with fact
-  removes_is_removed (effect, lt, removes) = record {
-    effect = effect_at o effect;
-    among = Contains-get_or o.effects effect no_effect lt;
-    fires = λ k d below. met_is_in (get_or (effect_at o effect).conditions k d) (conditions_there effect lt k d below) (removes.fires k d below);
-    var = removes.var;
-    other = removes.other;
-  }
+  removes_is_removed (effect, lt, removes) = search (rules, arith, Contains-get_or, met_is_in, conditions_there)
 
   pub removed_is_removes : IsRemoved o with fact → SomeRemoves o notes fact
   removed_is_removes is =
@@ -193,8 +177,7 @@ module _ (at : EffectPlace) (index : Index) {change : Change} (fits : IsFiring a
         effect,
         lt,
         subst (λ (e : Effect). RemovesByNotes notes fact e) (sym same) (record {
-          fires = λ k d below. in_is_met (get_or is.effect.conditions k d)
-              (subst (λ (e : Effect). All (FactExists p.variables) e.conditions) same (conditions_there effect lt) k d below) (is.fires k d below);
+          fires = search (rules, arith, in_is_met, conditions_there);
           var = is.var;
           other = is.other;
         }),
@@ -203,11 +186,7 @@ module _ (at : EffectPlace) (index : Index) {change : Change} (fits : IsFiring a
 -- what clashes clashes with more facts
 pub clash_stays : (Counts : List Fact → Type 0) (o : Operator) (conditions second : List Fact) → Clash Counts (known o conditions [])
     → Clash Counts (known o conditions second)
-clash_stays Counts o conditions second clash = (clash.0, clash.1, also_there clash.0 clash.2, also_there clash.1 clash.3, clash.4)
-  where
-    also_there : (x : Fact) → Contains (known o conditions []) x → Contains (known o conditions second) x
-    also_there x here = subst (λ (xs : List Fact). Contains (xs ++ second) x) (append-nil (preconditions o ++ conditions))
-        (Contains-append_left (known o conditions []) second x here)
+clash_stays Counts o conditions second clash = search (rules, arith, append-nil, Contains-append_left)
 
 -- where one of some facts clashes with what is known, all of them do
 pub one_clashes : (Counts : List Fact → Type 0) (o : Operator) (conditions facts : List Fact) (fact : Fact) → Contains facts fact
@@ -227,10 +206,7 @@ one_clashes Counts o conditions facts fact among clash = (clash.0, clash.1, ther
 -- or they clash themselves
 module _ (Counts : List Fact → Type 0) (o : Operator) (conditions facts : List Fact) where
   pub themselves_clash : Clash Counts facts → Clash Counts (known o conditions facts)
-  themselves_clash clash = (clash.0, clash.1, there clash.0 clash.2, there clash.1 clash.3, clash.4)
-    where
-      there : (x : Fact) → Contains facts x → Contains (known o conditions facts) x
-      there x among = Contains-append_right (preconditions o ++ conditions) facts x among
+  themselves_clash clash = grind (arith, common_steps, Contains-append_right)
 
   abbrev first : List Fact
   first = preconditions o ++ conditions
@@ -251,22 +227,12 @@ module _ (Counts : List Fact → Type 0) (o : Operator) (conditions facts : List
 -- what clashes never is, so that an effect that fires only there keeps each group
 pub clash_keeps : (Counts : List Fact → Type 0) (o : Operator) (group : List Fact) (e : Effect) → Clash Counts (known o e.conditions [])
     → EffectKeeps Counts o group e
-clash_keeps Counts o group e clash = record {
-  single = λ other below has on_other. clash_stays Counts o e.conditions (effect_at o other).conditions clash;
-  others = λ f in_group on_other. inl (clash_stays Counts o e.conditions (f ∷ []) clash);
-}
+clash_keeps Counts o group e clash = grind (arith, common_steps, clash_stays)
 
 -- what doesn't clash under a family doesn't under a smaller one
 pub noted_fewer : (p : Parts) (kept fewer : List Bool) (operator effect : ℕ) (marks : Marks) → ((place : ℕ) → IsIn p (family_of fewer) place → IsIn p (family_of kept) place)
     → IsNotedFor p kept operator effect marks → IsNotedFor p fewer operator effect marks
-noted_fewer p kept fewer operator effect marks less noted = record {
-  are = record {
-    noted = noted.are.noted;
-    apart = λ clash. noted.are.apart (clash_more (IsKept p fewer) (IsKept p kept) (known_at p operator effect)
-        (group_of_larger p (family_of fewer) (family_of kept) less) clash);
-  };
-  from = noted.from;
-}
+noted_fewer p kept fewer operator effect marks less noted = search (rules, arith, are, clash_more, group_of_larger)
 
 -- where a fact of a group that counts is known, and is gone, all of the group are
 pub known_one_is_all : (p : Parts) (kept : List Bool) (o : Operator) (place : ℕ) (e : Effect) (h : Fact) → IsIn p (family_of kept) place

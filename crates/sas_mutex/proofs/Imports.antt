@@ -30,7 +30,7 @@ pub use Rattle.sas_groups.proofs.GreatestFamily.{group_of_larger, keeps_more, cl
 pub use Rattle.sas_groups.proofs.Iff.{iff_yes, iff_no, iff_from, iff_other, iff_not}
 pub use Rattle.sas_groups.proofs.InLists.{is_among, in_flat, given_is}
 pub use Rattle.sas_groups.proofs.JointLists.{listed_invariants}
-pub use Rattle.sas_groups.proofs.NotesOfFacts.{a_note, apart_or_not, one_or_two, value_note_shows, no_value_note_shows, no_note_shows, some_note_shows, shared_turned, none_or_some, value_note_of, note_stays, note_changes, other_known, no_other, from_apart, noted_still, at_most_one, one_note_shows, completed, noted_less, forgotten_now, forgotten_still, blank_in_the_end, blank_same}
+pub use Rattle.sas_groups.proofs.NotesOfFacts.{IsForgotten, a_note, apart_or_not, one_or_two, value_note_shows, no_value_note_shows, no_note_shows, some_note_shows, shared_turned, none_or_some, value_note_of, note_stays, note_changes, other_known, no_other, from_apart, noted_still, at_most_one, one_note_shows, completed, noted_less, forgotten_now, forgotten_still, blank_in_the_end, blank_same}
 pub use Rattle.sas_groups.proofs.Larger.{larger_groups_have}
 pub use Rattle.sas_groups.proofs.Turns.{Turns, turns_begin, turn_has, turn_more, turns_end}
 pub use Rattle.sas_groups.specs.Checks.{IsGone, IsFirstVerdict, AreGone, EffectKeeps}
@@ -43,7 +43,7 @@ pub use Rattle.sas_groups.specs.Joint.{verdict_at, AreJointVerdicts, AreInvarian
 pub use Rattle.sas_groups.specs.Kept.{family_of}
 pub use Rattle.sas_groups.specs.Lists.{known, known_left, known_on}
 pub use Rattle.sas_groups.specs.Notes.{value_note, group_note, IsOfGroupBeside, IsWide, AreBlank, AreFrom, IsValueNote, IsOfGroup, IsNoteOf, IsGroupNote}
-pub use Rattle.sas_groups.specs.Noting.{HasOtherValue, HasNotedGroup, ShareKept, SharesApart, NotesForGroup, IsContradicted, ChangesAt, IsThere, NotesFirstFact, IsSetApart, AreBelow, IsForgotten}
+pub use Rattle.sas_groups.specs.Noting.{HasOtherValue, HasNotedGroup, ShareKept, SharesApart, NotesForGroup, IsContradicted, ChangesAt, IsThere, NotesFirstFact, IsSetApart, AreBelow}
 pub use Rattle.sas_groups.specs.Runs.{AreOnOne, AreRuns}
 pub use Rattle.sas_groups.specs.Verdicts.{IsJointVerdict}
 pub use Rattle.sas_groups.specs.declared.index.Index.{Index}
@@ -53,15 +53,15 @@ pub use Rattle.sas_groups.specs.declared.notes.Notes.{Notes}
 pub use Rattle.sas_groups.specs.declared.verdict.Verdict.{Verdict}
 pub use Rattle.sas_groups.specs.declared.verdict.Verdict.TheVariants.{Derived, Initial, Broken, Exclusive}
 pub use Rattle.sas_meaning.specs.Steps.{preconditions, old_fact}
-pub use Rattle.sas_mutex.specs.Basis.{AreNotedWith, BasisGrows, Excludes, HasGrown, IsBasis, IsOfNone, SetsNone}
-pub use Rattle.sas_mutex.specs.ByNotes.{IsNotedAt, ShareOne, AreKnown, IsMet, RemovesByNotes, SomeRemoves, IsNotedFor, known_at, IsUnknownAt, IsGoneAt, IsDecidedByFirst, NeverFires, NotBothAt, BothClashAt, SetsBeside, IsApartAt, IsSingleOn, IsSingleOnFirst, IsUnknown, ClashesAt, SetsOtherValue, EffectKeepsGroupWithItself, EffectKeepsGroup, AreGoneAt}
+pub use Rattle.sas_mutex.specs.Basis.{AreNotedWith, IsPartOf, Excludes, HasGrown, IsBasis, IsOfNone, SetsNone}
+pub use Rattle.sas_mutex.specs.ByNotes.{IsNotedAt, ShareOne, AreKnown, IsMet, RemovesByNotes, SomeRemoves, IsNotedFor, known_at, IsUnknownAt, IsGoneAt, IsDecidedByFirst, NeverFires, NotBothAt, BothClashAt, SetsBeside, IsApartAt, IsSingleOn, ClashesAt, SetsOtherValue, EffectKeepsGroupWithItself, EffectKeepsGroup, AreGoneAt}
 pub use Rattle.sas_mutex.specs.Effects.{IsKept, KeepsAt, KeepsWithItself, IsUnconditional}
 pub use Rattle.sas_mutex.specs.Falling.{count, IsAtRest, AreCandidates, newly, Falls, FamilyHasRoom, RestsOn, IsWithin}
 pub use Rattle.sas_mutex.specs.Firing.{EffectPlace, operator_of, effect_of}
 pub use Rattle.sas_mutex.specs.Judging.{AreFirstVerdicts, IsUndecided, KeptSoFar, IsVerdictSoFar, AreVerdictsSoFar}
 pub use Rattle.sas_mutex.specs.Looking.{ForPairs, Looked, IsPair, IsOfEffect, IsOfOperator, IsOfAlike, IsOfUnconditional}
 pub use Rattle.sas_mutex.specs.Marks.{IsNotedFrom, IsClean}
-pub use Rattle.sas_mutex.specs.Watching.{watch_at, IsLastBelow, AreChained, AreMore, WatchesMore, HasWatchFrom, since_of, IsWatchOf, RestsBy, IsOver, IsUnwatched, IsUnwatchedBehind, AreFallen, AreUnwatched, AreWatched, IsWatchedAnew, FallenAreUnwatched, StayUnwatched, AreLooseAtRest, IsReady}
+pub use Rattle.sas_mutex.specs.Watching.{watch_at, IsLastBelow, AreChained, AreMore, WatchesMore, HasWatchFrom, since_of, IsWatchOf, RestsBy, IsOver, IsUnwatched, AreFallen, AreUnwatched, AreWatched, IsWatchedAnew, FallenAreUnwatched, StayUnwatched, AreLooseAtRest, IsReady}
 pub use Rattle.sas_mutex.specs.declared.family.Excluding.{Excluding}
 pub use Rattle.sas_mutex.specs.declared.family.Family.{Family}
 pub use Rattle.sas_mutex.specs.declared.marks.Marks.{Marks}

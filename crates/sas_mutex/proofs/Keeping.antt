@@ -1,5 +1,5 @@
 -- What an effect preserves if more or fewer groups are assumed.
-use Rattle.sas_mutex.proofs.Imports.{◌≡◌, ◌≢◌, ◌⊎◌, ℕ, ◌<◌, List, [], ◌∷◌, length, refl, sym, ap, inl, inr, arith, Contains, Contains-append_right, Contains-append_cases, All-contains, All-cons, All-nil, contains_none, one_or_two, Fact, Effect, Operator, Parts, effect_at, group_at, sets, Clash, known, clash_more, EffectKeeps, HasFactBeside}
+use Rattle.sas_mutex.proofs.Imports.{common_steps, rules, ◌≡◌, ◌≢◌, ◌⊎◌, ℕ, ◌<◌, List, [], ◌∷◌, length, refl, sym, ap, inl, inr, arith, Contains, Contains-append_right, Contains-append_cases, All-contains, All-cons, All-nil, contains_none, one_or_two, Fact, Effect, Operator, Parts, effect_at, group_at, sets, Clash, known, clash_more, EffectKeeps, HasFactBeside}
 
 -- what clashes where some groups count clashes where others do
 module _ (Counts Others : List Fact → Type 0) (o : Operator) (group : List Fact) (e : Effect) where
@@ -9,15 +9,11 @@ module _ (Counts Others : List Fact → Type 0) (o : Operator) (group : List Fac
       → EffectKeeps Counts o group e → EffectKeeps Others o group e
   effect_keeps_by both one keeps = record {
     single = λ other lt hf ne. both other lt (keeps.single other lt hf ne);
-    others = λ f in_f ne. elim (keeps.others f in_f ne) [
-      | inl c ↦ inl (one f c)
-      | inr r ↦ inr r
-    ];
+    others = grind (arith, common_steps);
   }
 
   pub effect_keeps_more : ((g : List Fact) → Counts g → Others g) → EffectKeeps Counts o group e → EffectKeeps Others o group e
-  effect_keeps_more more = effect_keeps_by (λ other lt. clash_more Counts Others (known o e.conditions (effect_at o other).conditions) more)
-      (λ f. clash_more Counts Others (known o e.conditions (f ∷ [])) more)
+  effect_keeps_more more = search (rules, arith, effect_keeps_by, clash_more)
 
 -- a list contains another fact than this one, or no other
 pub other_or_none : (facts : List Fact) (fact : Fact) → ((other : Fact) × Contains facts other × (other ≢ fact)) ⊎ ((other : Fact) → Contains facts other → other ≡ fact)
@@ -44,7 +40,4 @@ keeps_only Counts o group e only = record {
 -- so it is enough to look at other groups
 pub keeps_if_beside : (p : Parts) (Counts : List Fact → Type 0) (o : Operator) (place : ℕ) (e : Effect) → place < length p.groups → Contains (group_at p place) (sets e)
     → (HasFactBeside p place (sets e) → EffectKeeps Counts o (group_at p place) e) → EffectKeeps Counts o (group_at p place) e
-keeps_if_beside p Counts o place e exists has keeps = elim (other_or_none (group_at p place) (sets e)) [
-  | inl w ↦ keeps (record { exists = exists; among = has; other = w.0; beside = w.1; differ = w.2 })
-  | inr none ↦ keeps_only Counts o (group_at p place) e none
-]
+keeps_if_beside p Counts o place e exists has keeps = search (rules, arith, other_or_none, keeps_only)

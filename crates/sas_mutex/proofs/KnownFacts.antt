@@ -1,5 +1,5 @@
 -- Which facts are known according to the notes, and that they don't clash.
-use Rattle.sas_mutex.proofs.Imports.{common_steps, ◌≡◌, ◌≢◌, ◌⊎◌, ℕ, ◌<◌, Bool, [], length, get_or, List, ◌∷◌, ◌++◌, Option, None, Some, subst, refl, sym, ap, ◌∙◌, inl, inr, arith, All, Contains, option_to_list, IfSome, cases_eq, get_or_default, get_or-set_same, get_or-set_other, All-contains, Contains-append_left, Contains-push, Contains-push_cases, Fact, Parts, group_at, FactExists, Contradict, Clash, Index, same_Some, contains_none, IsKept, ShareOne, AreKnown, Notes, GroupNote, Nothing, One, Several, IsIndexOf, HasFact, groups_of, value_note, group_note, IsWide, AreBlank, AreFrom, IsValueNote, IsOfGroup, IsOfGroupBeside, IsNoteOf, IsGroupNote, NotesForGroup, ShareKept, IsContradicted, ChangesAt, IsThere, NotesFirstFact, IsSetApart, is_among, variable_below, none_or_some, apart_or_not, value_note_shows, no_value_note_shows, value_note_of, note_stays, note_changes, other_known, no_other, from_apart, noted_still}
+use Rattle.sas_mutex.proofs.Imports.{rules, common_steps, ◌≡◌, ◌≢◌, ◌⊎◌, ℕ, ◌<◌, Bool, [], length, List, ◌∷◌, ◌++◌, Option, None, Some, subst, refl, sym, ap, ◌∙◌, inl, inr, arith, All, Contains, option_to_list, IfSome, cases_eq, get_or_default, get_or-set_same, get_or-set_other, All-contains, Contains-append_left, Contains-push, Contains-push_cases, Fact, Parts, group_at, FactExists, Contradict, Clash, Index, same_Some, contains_none, IsKept, ShareOne, AreKnown, Notes, GroupNote, Nothing, One, Several, IsIndexOf, HasFact, groups_of, value_note, group_note, IsWide, AreBlank, AreFrom, IsValueNote, IsOfGroup, IsOfGroupBeside, IsNoteOf, IsGroupNote, NotesForGroup, ShareKept, IsContradicted, ChangesAt, IsThere, NotesFirstFact, IsSetApart, is_among, variable_below, none_or_some, apart_or_not, value_note_shows, no_value_note_shows, value_note_of, note_stays, note_changes, other_known, no_other, from_apart, noted_still}
 
 -- where several are, they clash if the group counts
 pub several_clash : (p : Parts) (Counts : List Fact → Type 0) (facts : List Fact) (place : ℕ) → Counts (group_at p place)
@@ -17,13 +17,7 @@ none_if_not_one p facts place Counts counts apart Several is not_one f of = apar
 -- facts contradict each other, whichever is named first
 pub contradict_turned : (Counts : List Fact → Type 0) (f g : Fact) → Contradict Counts f g → Contradict Counts g f
 contradict_turned Counts f g (inl (var, value)) = inl (sym var, λ e. value (sym e))
-contradict_turned Counts f g (inr one) = inr (record {
-  differ = λ e. one.differ (sym e);
-  group = one.group;
-  counts = one.counts;
-  first = one.second;
-  second = one.first;
-})
+contradict_turned Counts f g (inr one) = grind (arith, common_steps)
 
 pub not_itself : (Counts : List Fact → Type 0) (f : Fact) → Contradict Counts f f → ⊥
 not_itself Counts f (inl (var, value)) = value refl
@@ -111,51 +105,8 @@ share_kept p index kept f g indexed f_exists g_exists share = record {
 -- at first one fact is known at most: the one apart
 module _ (p : Parts) (kept : List Bool) (old new : Notes) (blank : AreBlank p old) where
   pub known_apart : (apart : Option Fact) → IsSetApart apart old new → ((f : Fact) → apart ≡ Some f → FactExists p.variables f) → AreKnown p kept (option_to_list apart) new
-  known_apart None is_set exists = record {
-    noted = record {
-      values = λ var lt. value_note_of [] var (value_note new.values var)
-          (λ value at. absurd (none_or_some value (value_note new.values var) (ap (λ vs. value_note vs var) is_set.values ∙ blank.values var lt) at))
-          (λ none f within. absurd (contains_none f within));
-      groups = λ place lt. subst (IsNoteOf (IsOfGroupBeside p [] new.apart place)) (sym (ap (λ gs. group_note gs place) is_set.same_groups ∙ blank.groups place lt))
-          (λ f beside. contains_none f beside.of.among);
-      one_apart = λ f e. absurd (none_or_some f new.apart is_set.now e);
-    };
-    apart = λ clash. contains_none clash.0 clash.2;
-  }
-  known_apart (Some one) is_set exists = record {
-    noted = record {
-      values = λ var lt. elim (cases_eq var one.var) [
-        | inl e ↦ subst (λ v. IsValueNote (one ∷ []) v (value_note new.values v)) (sym e)
-            (value_note_of (one ∷ []) one.var (value_note new.values one.var)
-            (λ value at. subst (λ v. Contains (one ∷ []) (record { var = one.var; value = v })) (same_Some one.value value (sym here ∙ at)) its)
-            (λ none. absurd (none_or_some one.value (value_note new.values one.var) none here)))
-        | inr ne ↦ value_note_of (one ∷ []) var (value_note new.values var)
-            (λ value at. absurd (none_or_some value (value_note new.values var) (elsewhere var ne lt) at))
-            (λ none f within on. ne (sym on ∙ ap (λ (x : Fact). x.var) (only f within)))
-      ];
-      groups = λ place lt. subst (IsNoteOf (IsOfGroupBeside p (one ∷ []) new.apart place)) (sym (ap (λ gs. group_note gs place) is_set.same_groups ∙ blank.groups place lt))
-          (λ f beside. beside.beside (is_set.now ∙ ap (λ x. Some x) (sym (only f beside.of.among))));
-      one_apart = λ f e. subst (λ (x : Fact). Contains (one ∷ []) x) (same_Some one f (sym is_set.now ∙ e)) its;
-    };
-    apart = λ clash. not_itself (IsKept p kept) one (subst (λ (x : Fact). Contradict (IsKept p kept) x one) (only clash.0 clash.2)
-        (subst (λ (x : Fact). Contradict (IsKept p kept) clash.0 x) (only clash.1 clash.3) clash.4));
-  }
-    where
-      its : Contains (one ∷ []) one
-      its = (0, omega arith, refl)
-
-      only : (f : Fact) → Contains (one ∷ []) f → f ≡ one
-      only f within = elim (Contains-push_cases [] one f within) [
-        | inl none ↦ absurd (contains_none f none)
-        | inr e ↦ sym e
-      ]
-
-      here : value_note new.values one.var ≡ Some one.value
-      here = ap (λ vs. value_note vs one.var) is_set.values
-          ∙ get_or-set_same old.values one.var (Some one.value) None (let w = blank.wide.variables in let l = variable_below p one (exists one refl) in omega arith)
-
-      elsewhere : (var : ℕ) → var ≢ one.var → var < length p.variables → value_note new.values var ≡ None
-      elsewhere var ne lt = ap (λ vs. value_note vs var) is_set.values ∙ (get_or-set_other old.values one.var var (Some one.value) None ne ∙ blank.values var lt)
+  known_apart None is_set exists = grind (arith, common_steps, value_note_of, none_or_some, contains_none)
+  known_apart (Some one) is_set exists = search (rules, arith, cases_eq, value_note_of, same_Some, none_or_some, not_itself, Contains-push_cases, contains_none, get_or-set_same, variable_below, get_or-set_other)
 
 module _ (p : Parts) (index : Index) (kept : List Bool) (before : List Fact) (old : Notes) (indexed : IsIndexOf p index) (wide : IsWide p old)
     (there : (f : Fact) → Contains before f → FactExists p.variables f)
@@ -172,19 +123,12 @@ module _ (p : Parts) (index : Index) (kept : List Bool) (before : List Fact) (ol
       here = value_note_shows before fact.var fact.value (value_note old.values fact.var) (known.noted.values fact.var on_variable) is_there.noted
 
       was_in : (f : Fact) → Contains (before ++ fact ∷ []) f → Contains before f
-      was_in f in_all = elim (Contains-push_cases before fact f in_all) [
-        | inl in_before ↦ in_before
-        | inr e ↦ subst (λ (x : Fact). Contains before x) e here
-      ]
+      was_in f in_all = grind (arith, common_steps, Contains-push_cases, here)
 
   -- a fact that is refused contradicts one of those before
   pub refused : IsContradicted index kept fact old
       → (g : Fact) × Contains before g × Contradict (IsKept p kept) fact g
-  refused (inl (value, at, differs)) = (
-    record { var = fact.var; value = value },
-    value_note_shows before fact.var value (value_note old.values fact.var) (known.noted.values fact.var on_variable) at,
-    inl (refl, λ e. differs (sym e)),
-  )
+  refused (inl (value, at, differs)) = grind (arith, common_steps, value_note_shows, on_variable)
   refused (inr (inl is)) =
       let has : HasFact p is.place fact = (indexed.groups fact exists is.place).0 is.among in
       let (other, of, differ) = other_known (IsOfGroupBeside p before old.apart is.place) fact (group_note old.groups is.place) is.other (known.noted.groups is.place has.exists) in (
@@ -238,8 +182,7 @@ module _ (p : Parts) (index : Index) (kept : List Bool) (before : List Fact) (ol
         ]
 
     value_here : value_note new.values fact.var ≡ Some fact.value
-    value_here = ap (λ vs. value_note vs fact.var) is.values
-        ∙ get_or-set_same old.values fact.var (Some fact.value) None (let w = wide.variables in let l = on_variable in omega arith)
+    value_here = grind (arith, common_steps, get_or-set_same, on_variable)
 
     value_elsewhere : (var : ℕ) → var ≢ fact.var → value_note new.values var ≡ value_note old.values var
     value_elsewhere var ne = ap (λ vs. value_note vs var) is.values ∙ get_or-set_other old.values fact.var var (Some fact.value) None ne
@@ -347,10 +290,7 @@ module _ {p : Parts} {kept : List Bool} {all : List Fact} (exist : All (FactExis
 
       one_of : (apart : Option Fact) (f : Fact) → Contains (option_to_list apart) f → apart ≡ Some f
       one_of None f within = absurd (contains_none f within)
-      one_of (Some one) f within = elim (Contains-push_cases [] one f within) [
-        | inl none ↦ absurd (contains_none f none)
-        | inr e ↦ ap (λ x. Some x) e
-      ]
+      one_of (Some one) f within = grind (arith, common_steps, Contains-push_cases, contains_none)
 
   module _ {index : Index} {came : List Fact} {old : Notes} (indexed : IsIndexOf p index) (so_far : AreSoFar p kept all came old)
       (fact : Fact) (within : Contains all fact) where
@@ -391,7 +331,4 @@ module _ {p : Parts} {kept : List Bool} {all : List Fact} (exist : All (FactExis
 
 -- a fact alone doesn't clash
 pub few_apart : (Counts : List Fact → Type 0) (facts : List Fact) → length facts < 2 → Clash Counts facts → ⊥
-few_apart Counts facts few (f, g, (n, n_below, n_is), (m, m_below, m_is), why) =
-    let same : n ≡ m = omega arith in
-    let is : f ≡ g = sym n_is ∙ (ap (λ i. get_or facts i f) same ∙ (get_or_default facts m f g m_below ∙ m_is)) in
-    not_itself Counts g (subst (λ (x : Fact). Contradict Counts x g) is why)
+few_apart Counts facts few (f, g, (n, n_below, n_is), (m, m_below, m_is), why) = grind (arith, common_steps, get_or_default, not_itself)

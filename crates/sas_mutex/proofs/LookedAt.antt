@@ -1,5 +1,5 @@
 -- Checks of effects, one after another.
-use Rattle.sas_mutex.proofs.Imports.{◌≡◌, ◌⊎◌, ◌<◌, ◌≤◌, ℕ, Bool, true, false, List, [], ◌∷◌, ◌++◌, length, get_or, set, arith, ap, subst, sym, ◌∙◌, inl, inr, All-contains, vec_capacity, both_ways, get_or_default, get_or-set_same, length-set, length_push, All, All-nil, Contains, Fact, Parts, operator_at, effect_at, group_at, Clash, sets, known, HasFactBeside, EffectKeeps, IsIn, IsGroupOfOr, family_of, Family, Marks, SetsNone, Excludes, IsKept, KeepsAt, KeepsWithItself, IsUnconditional, EffectPlace, IsNotedFrom, AreKnown, IsNotedFor, NeverFires, known_at, HasGrown, FamilyHasRoom, RestsOn, count, ForPairs, Looked, IsPair, IsOfEffect, IsOfOperator, IsOfAlike}
+use Rattle.sas_mutex.proofs.Imports.{common_steps, rules, ◌≡◌, ◌⊎◌, ◌<◌, ◌≤◌, ℕ, Bool, true, false, List, [], ◌∷◌, ◌++◌, length, get_or, set, arith, ap, subst, sym, ◌∙◌, inl, inr, All-contains, vec_capacity, both_ways, get_or_default, get_or-set_same, length-set, length_push, All-nil, Contains, Fact, Parts, operator_at, effect_at, group_at, Clash, sets, known, HasFactBeside, EffectKeeps, IsIn, IsGroupOfOr, family_of, Family, Marks, SetsNone, IsKept, KeepsAt, KeepsWithItself, IsUnconditional, EffectPlace, IsNotedFor, NeverFires, known_at, HasGrown, FamilyHasRoom, RestsOn, count, ForPairs, Looked, IsPair, IsOfEffect, IsOfOperator, IsOfAlike}
 use Rattle.sas_mutex.proofs.Counting.{count_fell}
 use Rattle.sas_mutex.proofs.Keeping.{keeps_if_beside}
 use Rattle.sas_mutex.proofs.FallingGroups.{falls_then, one_fell, never_jointly, none_first, none_then, keeps_still, basis_keeps, basis_grows}
@@ -12,16 +12,12 @@ same_known p operator of effect plain also = ap (λ (conditions : List Fact). kn
 
 pub alike_notes : (p : Parts) (operator of effect : ℕ) (kept : List Bool) (marks : Marks) → IsUnconditional p operator of → IsUnconditional p operator effect
     → IsNotedFor p kept operator of marks → IsNotedFor p kept operator effect marks
-alike_notes p operator of effect kept marks plain also noted = record {
-  are = subst (λ (facts : List Fact). AreKnown p kept facts marks.known) (same_known p operator of effect plain also) noted.are;
-  from = subst (λ (facts : List Fact). IsNotedFrom p facts marks) (same_known p operator of effect plain also) noted.from;
-}
+alike_notes p operator of effect kept marks plain also noted = grind (arith, common_steps, same_known)
 
 pub alike_never_fires : (f : EffectPlace) (kept : List Bool) (effect place : ℕ) → IsOfAlike f effect place → NeverFires f kept
     → Clash (IsKept f.task kept) (known_at f.task f.operator effect)
 alike_never_fires f kept effect place (inl is) never = subst (λ n. Clash (IsKept f.task kept) (known_at f.task f.operator n)) (sym is) never
-alike_never_fires f kept effect place (inr (plain, of)) never =
-    subst (Clash (IsKept f.task kept)) (same_known f.task f.operator f.effect effect plain of.1) never
+alike_never_fires f kept effect place (inr (plain, of)) never = grind (arith, common_steps, same_known)
 
 -- ---- checks
 
@@ -30,26 +26,17 @@ module _ {p : Parts} {operator : ℕ} where
   pub looked_grown : {Pairs : ℕ → ℕ → Type 0} {before after : Family} {alone : Bool} → HasGrown before after → FamilyHasRoom p after
       → ForPairs p operator before.kept Pairs (KeepsAt p before.kept operator)
       → (alone ≡ true → ForPairs p operator before.kept Pairs (KeepsWithItself p after.basis operator)) → Looked p operator Pairs before after alone
-  looked_grown {Pairs} {before} {after} {alone} grown room keeps by_basis = record {
-    falls = grown_falls p before after grown;
-    room = room;
-    grows = grown.grows;
-    keeps = λ _. subst (λ (kept : List Bool). ForPairs p operator kept Pairs (KeepsAt p kept operator)) (sym grown.kept) keeps;
-    by_basis = λ t. subst (λ (kept : List Bool). ForPairs p operator kept Pairs (KeepsWithItself p after.basis operator)) (sym grown.kept) (by_basis t);
-  }
+  looked_grown {Pairs} {before} {after} {alone} grown room keeps by_basis = grind (arith, common_steps, grown_falls)
 
   pub looked_pair : (of at : ℕ) {before after : Family} {alone : Bool} → HasGrown before after → FamilyHasRoom p after
       → (IsIn p (family_of before.kept) at → KeepsAt p before.kept operator of at) → (alone ≡ true → KeepsWithItself p after.basis operator of at)
       → Looked p operator (IsPair of at) before after alone
-  looked_pair of at {before} {after} {alone} grown room keeps by_basis = looked_grown grown room
-      (λ effect place (is, there) w _. rw (is, there) (keeps (subst (IsIn p (family_of before.kept)) there w)))
-      (λ t effect place (is, there) _ _. rw (is, there) (by_basis t))
+  looked_pair of at {before} {after} {alone} grown room keeps by_basis = grind (arith, common_steps, looked_grown)
 
   -- none of the pairs counts
   pub looked_none : {Pairs : ℕ → ℕ → Type 0} {family : Family} {alone : Bool} → FamilyHasRoom p family
       → ForPairs p operator family.kept Pairs (λ effect place. ⊥) → Looked p operator Pairs family family alone
-  looked_none {Pairs} {family} {alone} room none = looked_grown (same_grown family) room
-      (λ effect place pair w has. absurd (none effect place pair w has)) (λ _ effect place pair w has. absurd (none effect place pair w has))
+  looked_none {Pairs} {family} {alone} room none = grind (arith, common_steps, looked_grown, same_grown)
 
   -- each pair is one of those checked first, or one of those checked then
   pub looked_then : {First Second Both : ℕ → ℕ → Type 0} {a b c : Family} {x y z : Bool} → Looked p operator First a b x → Looked p operator Second b c y
@@ -75,16 +62,7 @@ module _ {p : Parts} {operator : ℕ} where
       → ((effect place : ℕ) → Others effect place → Pairs effect place)
       → (y ≡ true → (x ≡ true) ⊎ ((effect place : ℕ) → Others effect place → KeepsWithItself p after.basis operator effect place))
       → Looked p operator Others before after y
-  looked_by {Pairs} {Others} {before} {after} {x} {y} looked among more = record {
-    falls = looked.falls;
-    room = looked.room;
-    grows = looked.grows;
-    keeps = λ none effect place pair. looked.keeps none effect place (among effect place pair);
-    by_basis = λ t effect place pair w has. elim (more t) [
-      | inl alone ↦ looked.by_basis alone effect place (among effect place pair) w has
-      | inr keeps ↦ keeps effect place pair
-    ];
-  }
+  looked_by {Pairs} {Others} {before} {after} {x} {y} looked among more = grind (arith, common_steps)
 
   -- the effect sets no fact of a group in the family that has another one
   pub looked_unset : (of : ℕ) {family : Family} {alone : Bool} → FamilyHasRoom p family → SetsNone p family.kept operator of
@@ -95,8 +73,7 @@ module _ {p : Parts} {operator : ℕ} where
       unset : (Counts : List Fact → Type 0) (effect place : ℕ) → effect ≡ of → IsIn p (family_of family.kept) place
           → Contains (group_at p place) (sets (effect_at (operator_at p operator) effect))
           → EffectKeeps Counts (operator_at p operator) (group_at p place) (effect_at (operator_at p operator) effect)
-      unset Counts effect place is w has = keeps_if_beside p Counts (operator_at p operator) place (effect_at (operator_at p operator) effect) w.exists has
-          (λ beside. absurd (none place w (subst (λ n. HasFactBeside p place (sets (effect_at (operator_at p operator) n))) is beside)))
+      unset Counts effect place is w has = search (rules, arith, keeps_if_beside)
 
   -- all groups that contain the fact that the effect sets and another one
   pub looked_all : (of : ℕ) (groups : List ℕ) (count : ℕ) {before after : Family} {alone : Bool}
@@ -134,27 +111,10 @@ module _ (p : Parts) (operator of at : ℕ) (before after : Family) (kept : afte
     (basis : after.basis ≡ before.basis) (supports : after.supports ≡ before.supports) (none : after.excluding ≡ []) (capacity : vec_capacity before.fallen ≤ vec_capacity after.fallen)
     (room : FamilyHasRoom p before) (here : IsIn p (family_of before.kept) at) where
   removed_room : FamilyHasRoom p after
-  removed_room =
-      let fell = ap count kept in
-      let less = count_fell before.kept at here.chosen in
-      let more = ap length fallen ∙ length_push before.fallen.items at in
-      record {
-        one_each = ap length kept ∙ (length-set before.kept at false ∙ room.one_each);
-        room = omega (arith, room.room, capacity);
-        few = omega (arith, room.few);
-        basis = record {
-          one_each = ap length basis ∙ room.basis.one_each;
-          only = λ place is. subst (λ (xs : List ℕ). Contains xs place) (sym supports) (room.basis.only place (subst (λ (xs : List Bool). family_of xs place ≡ true) basis is));
-          low = subst (All (λ (support : ℕ). support < length p.groups)) (sym supports) room.basis.low;
-        };
-        excluding = subst (All (Excludes p after.kept)) (sym none) (All-nil (Excludes p after.kept));
-      }
+  removed_room = grind (arith, common_steps, count_fell, length_push, length-set, All-nil)
 
   removed : (place : ℕ) → place ≡ at → IsIn p (family_of after.kept) place → ⊥
-  removed place is w = both_ways (family_of after.kept place)
-      (ap (λ (xs : List Bool). family_of xs place) kept ∙ (ap (λ (n : ℕ). family_of (set before.kept at false) n) is
-      ∙ get_or-set_same before.kept at false false (let exists = here.exists in let one_each = room.one_each in omega arith)))
-      w.chosen
+  removed place is w = grind (arith, common_steps, both_ways, get_or-set_same)
 
   pub looked_removed : operator < length p.operators → of < length (operator_at p operator).effects
       → Contains (group_at p at) (sets (effect_at (operator_at p operator) of)) → (KeepsAt p before.kept operator of at → ⊥)

@@ -1,5 +1,5 @@
 -- Effects without conditions, in terms of their changes.
-use Rattle.sas_mutex.proofs.Imports.{◌≡◌, ℕ, ◌<◌, List, [], length, get_or, None, sym, ◌∙◌, ap, subst, All, All-nil, Any, Change, Fact, Effect, Operator, change_of, plain_effects, effect_at, Notes, IsMet, SomeRemoves, SetsOtherValue, as_many_effects, effect_is_plain}
+use Rattle.sas_mutex.proofs.Imports.{arith, common_steps, ◌≡◌, ℕ, ◌<◌, List, [], length, get_or, None, sym, ap, subst, All-nil, Any, Change, Fact, Effect, Operator, change_of, plain_effects, effect_at, Notes, SomeRemoves, SetsOtherValue, as_many_effects, effect_is_plain}
 
 module _ (o : Operator) (changes : List Change) (is : o.effects ≡ plain_effects changes) where
   pub within : (k : ℕ) → k < length changes → k < length o.effects
@@ -13,16 +13,7 @@ module _ (o : Operator) (changes : List Change) (is : o.effects ≡ plain_effect
 
   -- an effect removes a fact if its change sets another value
   pub change_removes : (notes : Notes) (fact : Fact) → Any (SetsOtherValue fact) changes → SomeRemoves o notes fact
-  change_removes notes fact (k, change, lt, at, (var, other)) =
-      let same : change_of (effect_at o k) ≡ change = sym (change_is k change lt) ∙ at in (
-        k,
-        within k lt,
-        record {
-          fires = subst (All (IsMet notes fact)) (sym (no_conditions k lt)) (All-nil (IsMet notes fact));
-          var = ap (λ (c : Change). c.var) same ∙ var;
-          other = λ e. other (sym (ap (λ (c : Change). c.new) same) ∙ e);
-        },
-      )
+  change_removes notes fact (k, change, lt, at, (var, other)) = grind (arith, common_steps, change_is, within, no_conditions, All-nil)
 
   pub removes_by_change : (notes : Notes) (fact : Fact) → SomeRemoves o notes fact → Any (SetsOtherValue fact) changes
   removes_by_change notes fact (effect, lt, removes) =

@@ -1,5 +1,5 @@
 -- The facts that changes set exist, so the index contains their groups.
-use Rattle.sas_mutex.proofs.Imports.{◌≡◌, ℕ, ◌<◌, Bool, List, length, get_or, sym, ◌∙◌, ap, subst, Contains, ◌↔◌, get_or_default, Change, Parts, operator_at, effect_at, group_at, change_of, fact_of, FactExists, WellRanged, sets, Index, IsIndexOf, HasFactBeside, larger_groups_of, larger_groups_have, EffectPlace, operator_of, SetsBeside, NotBothAt, BothClashAt, effect_fits}
+use Rattle.sas_mutex.proofs.Imports.{arith, common_steps, rules, ◌≡◌, ℕ, ◌<◌, Bool, List, length, get_or, sym, ◌∙◌, subst, Contains, ◌↔◌, get_or_default, Change, Parts, operator_at, effect_at, change_of, fact_of, FactExists, WellRanged, sets, Index, IsIndexOf, HasFactBeside, larger_groups_of, larger_groups_have, EffectPlace, operator_of, SetsBeside, NotBothAt, BothClashAt, effect_fits}
 
 module _ (p : Parts) (ranged : WellRanged p) (operator effect : ℕ) (exists : operator < length p.operators) (lt : effect < length (operator_at p operator).effects)
     (change : Change) (is : change ≡ change_of (effect_at (operator_at p operator) effect)) where
@@ -17,14 +17,10 @@ module _ (p : Parts) (ranged : WellRanged p) (operator effect : ℕ) (exists : o
 -- can't fire together
 module _ (f : EffectPlace) (kept : List Bool) (group other : ℕ) (change : Change) (is : change ≡ change_of (effect_at (operator_of f) other)) where
   pub not_beside : (SetsBeside f change group → ⊥) → NotBothAt f kept other group
-  not_beside none has on_other = absurd (none (record {
-    beside = λ same. on_other (same ∙ ap (λ (c : Change). c.var) is);
-    has = subst (λ (c : Change). Contains (group_at f.task group) (fact_of c)) (sym is) has;
-  }))
+  not_beside none has on_other = grind (arith, common_steps)
 
   pub clash_beside : NotBothAt f kept other group → SetsBeside f change group → BothClashAt f kept other
-  clash_beside not_both it = not_both (subst (λ (c : Change). Contains (group_at f.task group) (fact_of c)) is it.has)
-      (λ same. it.beside (same ∙ sym (ap (λ (c : Change). c.var) is)))
+  clash_beside not_both it = search (rules, arith)
 
 -- what each of a list's items has, one that the list contains has
 pub at_item : (P : ℕ → Type 0) (xs : List ℕ) (n : ℕ) → ((k : ℕ) → k < length xs → P (get_or xs k 0)) → Contains xs n → P n

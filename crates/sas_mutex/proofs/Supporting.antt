@@ -1,57 +1,27 @@
 -- Growing the basis and emptying it.
-use Rattle.sas_mutex.proofs.Imports.{◌≡◌, ℕ, ◌+◌, ◌<◌, ◌≤◌, Bool, true, false, List, [], length, set, refl, sym, ◌∙◌, ap, subst, inl, inr, vec_capacity, Vec, cases_eq, cases_lt, true≢false, get_or-set_same, get_or-set_other, get_or_past, get_or, All-nil, All-contains, All, Contains-get_or, Parts, family_of, Excluding, Family, AreNotedWith, IsBasis, IsOfNone, Excludes, HasGrown, count, Falls, FamilyHasRoom}
+use Rattle.sas_mutex.proofs.Imports.{arith, common_steps, rules, ◌≡◌, ℕ, ◌<◌, Bool, true, false, List, [], length, set, refl, sym, subst, inl, inr, cases_eq, cases_lt, true≢false, get_or-set_same, get_or-set_other, get_or_past, get_or, All-nil, All-contains, All, Contains-get_or, Parts, family_of, Excluding, Family, AreNotedWith, IsBasis, IsOfNone, Excludes, HasGrown, Falls, FamilyHasRoom}
 use Rattle.sas_mutex.proofs.FallingGroups.{none_fell}
 
 -- a place at which a list is true is one of its places
 pub kept_below : (kept : List Bool) (place : ℕ) → family_of kept place ≡ true → place < length kept
-kept_below kept place is = elim (cases_lt place (length kept)) [
-  | inl lt ↦ lt
-  | inr past ↦ absurd (true≢false (sym is ∙ get_or_past kept place false past))
-]
+kept_below kept place is = grind (arith, common_steps, cases_lt, true≢false, get_or_past)
 
 -- no groups are a basis
 pub none_are : (groups : ℕ) (family : Family) → IsOfNone groups family.basis → family.supports ≡ [] → IsBasis groups family
-none_are groups family none free = record {
-  one_each = none.one_each;
-  only = λ place there. absurd (true≢false (sym there ∙ none.out place));
-  low = subst (All (λ (support : ℕ). support < groups)) (sym free) (All-nil (λ (support : ℕ). support < groups));
-}
+none_are groups family none free = grind (arith, common_steps, true≢false, All-nil)
 
 -- a family with the same groups has room if it has a basis, and nothing fell
 pub same_room : (p : Parts) (before after : Family) → after.kept ≡ before.kept → after.fallen ≡ before.fallen → IsBasis (length p.groups) after
     → All (Excludes p before.kept) after.excluding → FamilyHasRoom p before → FamilyHasRoom p after
-same_room p before after kept fallen basis excluding room = record {
-  one_each = ap length kept ∙ room.one_each;
-  room = subst (λ (f : Vec ℕ). count after.kept + length f.items ≤ vec_capacity f) (sym fallen)
-      (subst (λ (k : List Bool). count k + length before.fallen.items ≤ vec_capacity before.fallen) (sym kept) room.room);
-  few = subst (λ (f : Vec ℕ). count after.kept + length f.items ≤ length p.groups) (sym fallen)
-      (subst (λ (k : List Bool). count k + length before.fallen.items ≤ length p.groups) (sym kept) room.few);
-  basis = basis;
-  excluding = subst (λ (k : List Bool). All (Excludes p k) after.excluding) (sym kept) excluding;
-}
+same_room p before after kept fallen basis excluding room = grind (arith, common_steps)
 
 pub same_falls : (p : Parts) (before after : Family) → after.kept ≡ before.kept → after.fallen ≡ before.fallen → Falls p before after
-same_falls p before after kept fallen = record {
-  one_each = ap length kept;
-  behind = moved.behind;
-  exist = moved.exist;
-  gone = moved.gone;
-  less = moved.less;
-  noted = moved.noted;
-  none_lost = moved.none_lost;
-}
-  where
-    plain : Family → Family
-    plain f = record { kept = f.kept; fallen = f.fallen; basis = before.basis; supports = before.supports; is_short = before.is_short; excluding = before.excluding }
-
-    moved : Falls p before (plain after)
-    moved = rw (kept, fallen) (none_fell before)
+same_falls p before after kept fallen = grind (arith, common_steps, none_fell)
 
 -- the same where the basis has grown
 pub grown_room : (p : Parts) (before after : Family) → HasGrown before after → All (Excludes p before.kept) after.excluding → FamilyHasRoom p before
     → FamilyHasRoom p after
-grown_room p before after grown excluding room =
-    same_room p before after grown.kept grown.fallen (grown.basis (length p.groups) room.basis) excluding room
+grown_room p before after grown excluding room = search (rules, arith, same_room)
 
 -- the same facts are noted as excluding others
 pub same_excluding : (p : Parts) (before after : Family) → after.excluding ≡ before.excluding → FamilyHasRoom p before → All (Excludes p before.kept) after.excluding
@@ -77,12 +47,7 @@ pub same_grown : (family : Family) → HasGrown family family
 same_grown family = record { kept = refl; fallen = refl; basis = λ groups is. is; grows = λ place is. is }
 
 pub grown_then : (a b c : Family) → HasGrown a b → HasGrown b c → HasGrown a c
-grown_then a b c first second = record {
-  kept = second.kept ∙ first.kept;
-  fallen = second.fallen ∙ first.fallen;
-  basis = λ groups is. second.basis groups (first.basis groups is);
-  grows = λ place is. second.grows place (first.grows place is);
-}
+grown_then a b c first second = search (rules, arith)
 
 -- ---- one place of a list is set
 
@@ -90,13 +55,7 @@ pub out_now : (list : List Bool) (place : ℕ) → place < length list → famil
 out_now list place below = get_or-set_same list place false false below
 
 pub out_still : (list : List Bool) (place group : ℕ) → place < length list → family_of list group ≡ false → family_of (set list place false) group ≡ false
-out_still list place group below out = elim (cases_eq group place) [
-  | inl e ↦ subst (λ n. family_of (set list place false) n ≡ false) (sym e) (out_now list place below)
-  | inr ne ↦ get_or-set_other list place group false false ne ∙ out
-]
+out_still list place group below out = grind (arith, common_steps, cases_eq, out_now, get_or-set_other)
 
 pub out_less : (list : List Bool) (place group : ℕ) → place < length list → family_of (set list place false) group ≡ true → family_of list group ≡ true
-out_less list place group below is = elim (cases_eq group place) [
-  | inl e ↦ absurd (true≢false (sym is ∙ (ap (λ (n : ℕ). family_of (set list place false) n) e ∙ out_now list place below)))
-  | inr ne ↦ sym (get_or-set_other list place group false false ne) ∙ is
-]
+out_less list place group below is = grind (arith, common_steps, cases_eq, true≢false, out_now, get_or-set_other)

@@ -1,12 +1,11 @@
 -- All facts that a task mentions exist.
-use Rattle.sas_mutex.proofs.Imports.{ℕ, ◌<◌, [], length, List, ◌∷◌, ◌++◌, Option, None, Some, All, Contains, cons_option, All-nil, All-cons, All-append, All-from_recursion, All-contains, All-head, All-tail, Fact, Effect, Parts, operator_at, effect_at, group_at, FactExists, MayHaveValue, WellRanged, EffectFits, Listed, holds_at, old_fact, preconditions, known, operator_fits, effect_fits}
+use Rattle.sas_mutex.proofs.Imports.{arith, common_steps, ℕ, ◌<◌, [], length, List, ◌∷◌, ◌++◌, Option, None, Some, All, Contains, cons_option, All-nil, All-cons, All-append, All-from_recursion, All-contains, All-head, All-tail, Fact, Effect, Parts, operator_at, effect_at, group_at, FactExists, MayHaveValue, WellRanged, EffectFits, holds_at, old_fact, preconditions, known, operator_fits, effect_fits}
 use Rattle.std.specs.Prelude.{filter_map}
 
 module _ (p : Parts) (ranged : WellRanged p) where
   -- the facts of a group exist
   pub group_facts : (group : ℕ) → group < length p.groups → All (FactExists p.variables) (group_at p group)
-  group_facts group lt = All-from_recursion (FactExists p.variables) (group_at p group)
-      (holds_at (Listed (FactExists p.variables)) [] p.groups ranged.groups.each group lt).each
+  group_facts group lt = grind (arith, common_steps, All-from_recursion, holds_at)
 
   module _ (operator : ℕ) (lt : operator < length p.operators) where
     -- the conditions of an effect exist
@@ -40,5 +39,4 @@ module _ (p : Parts) (ranged : WellRanged p) where
 
     pub known_at_exist : (effect : ℕ) → effect < length (operator_at p operator).effects
         → (f : Fact) → Contains (known (operator_at p operator) (effect_at (operator_at p operator) effect).conditions []) f → FactExists p.variables f
-    known_at_exist effect below f among = All-contains (FactExists p.variables) (known (operator_at p operator) (effect_at (operator_at p operator) effect).conditions []) f
-        (known_here_exist effect below) among
+    known_at_exist effect below f among = grind (arith, common_steps, All-contains, known_here_exist)

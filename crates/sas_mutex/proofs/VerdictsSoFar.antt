@@ -1,5 +1,5 @@
 -- The verdicts after each effect and each operator.
-use Rattle.sas_mutex.proofs.Imports.{common_steps, below_more, ◌≡◌, ◌≢◌, ℕ, ◌+◌, ◌<◌, Bool, true, false, List, [], ◌∷◌, ◌++◌, length, set, refl, sym, ◌∙◌, ap, subst, inl, inr, arith, cases_eq, cases_Bool, both_ways, length_push, get_or_push, get_or_append_left, length-set, get_or-set_same, get_or-set_other, set-set, set-get_or, All-from_get_or, Contains, ◌↔◌, IsTrue, Fact, Operator, Parts, operator_at, effect_at, group_at, EffectKeeps, keeps_from_effects, effect_of_keeps, Marks, IsKept, KeepsWithItself, AreCandidates, AreFirstVerdicts, IsUndecided, KeptSoFar, IsVerdictSoFar, AreVerdictsSoFar, IsNotedFor, known_at, Verdict, Exclusive, Derived, Initial, Broken, Clash, Keeps, sets, MayBeExclusive, IsIn, IsGroupOfOr, IsGreatest, IsJointVerdict, IsFirstVerdict, outside_is_broken, clash_more, GroupNote, Several, family_of, HasFactBeside, verdict_at, AreJointVerdicts, IsGroupNote, at_most_one}
+use Rattle.sas_mutex.proofs.Imports.{rules, common_steps, below_more, ◌≡◌, ◌≢◌, ℕ, ◌+◌, ◌<◌, Bool, true, false, List, [], ◌∷◌, ◌++◌, length, set, refl, sym, ◌∙◌, ap, subst, inl, inr, arith, cases_eq, cases_Bool, both_ways, length_push, get_or_push, get_or_append_left, length-set, get_or-set_same, get_or-set_other, set-set, set-get_or, All-from_get_or, Contains, ◌↔◌, IsTrue, Fact, Operator, Parts, operator_at, effect_at, group_at, EffectKeeps, keeps_from_effects, effect_of_keeps, Marks, IsKept, KeepsWithItself, AreCandidates, AreFirstVerdicts, IsUndecided, KeptSoFar, IsVerdictSoFar, AreVerdictsSoFar, IsNotedFor, known_at, Verdict, Exclusive, Derived, Initial, Broken, Clash, Keeps, sets, MayBeExclusive, IsIn, IsGroupOfOr, IsGreatest, IsJointVerdict, IsFirstVerdict, outside_is_broken, clash_more, GroupNote, Several, family_of, HasFactBeside, verdict_at, AreJointVerdicts, IsGroupNote, at_most_one}
 use Rattle.sas_mutex.proofs.Keeping.{effect_keeps_more, keeps_if_beside}
 use Rattle.sas_mutex.proofs.KnownFacts.{several_clash}
 use Rattle.sas_mutex.proofs.FromNotes.{clash_keeps}
@@ -25,10 +25,7 @@ module _ (p : Parts) where
   }
 
   pub first_all : (n : ℕ) (verdicts : List Verdict) → n ≡ length p.groups → FirstUpTo p n verdicts → AreFirstVerdicts p verdicts
-  first_all n verdicts all first = record {
-    one_each = first.one_each ∙ all;
-    are = λ place lt. first.are place (omega arith);
-  }
+  first_all n verdicts all first = grind (arith, common_steps)
 
   -- nothing speaks against a group so far where it may be exclusive
   exclusive_may : (place : ℕ) (verdict : Verdict) → IsFirstVerdict p (group_at p place) verdict → (verdict ≡ Exclusive) ↔ MayBeExclusive p (group_at p place)
@@ -52,10 +49,7 @@ module _ (p : Parts) (kept : List Bool) (place : ℕ) (exists : place < length p
 
   -- the groups of the family with this place are those of the family, and this one
   pub with_place : (group : List Fact) → IsKept p (set kept place true) group → IsGroupOfOr p (family_of kept) (group_at p place) group
-  with_place group (n, among, is) = elim (cases_eq n place) [
-    | inl e ↦ inr (is ∙ ap (group_at p) e)
-    | inr ne ↦ inl (n, record { exists = among.exists; chosen = sym (get_or-set_other kept place n true false ne) ∙ among.chosen }, is)
-  ]
+  with_place group (n, among, is) = grind (arith, common_steps, cases_eq, get_or-set_other)
 
   pub or_itself : (group : List Fact) → IsGroupOfOr p (family_of kept) (group_at p place) group → IsKept p (set kept place true) group
   or_itself group either = grind (arith, common_steps, cases_eq, get_or-set_other, is_in_then)
@@ -66,20 +60,17 @@ module _ (p : Parts) (kept : List Bool) (place : ℕ) (exists : place < length p
 
   pub keeps_then : (operator effect : ℕ) → KeepsWithItself p kept operator effect place
       → EffectKeeps (IsKept p (set kept place true)) (operator_at p operator) (group_at p place) (effect_at (operator_at p operator) effect)
-  keeps_then operator effect = effect_keeps_more (IsGroupOfOr p (family_of kept) (group_at p place)) (IsKept p (set kept place true))
-      (operator_at p operator) (group_at p place) (effect_at (operator_at p operator) effect) or_itself
+  keeps_then operator effect = search (rules, arith, effect_keeps_more, or_itself)
 
   pub keeps_itself : (operator effect : ℕ)
       → EffectKeeps (IsKept p (set kept place true)) (operator_at p operator) (group_at p place) (effect_at (operator_at p operator) effect)
       → KeepsWithItself p kept operator effect place
-  keeps_itself operator effect = effect_keeps_more (IsKept p (set kept place true)) (IsGroupOfOr p (family_of kept) (group_at p place))
-      (operator_at p operator) (group_at p place) (effect_at (operator_at p operator) effect) with_place
+  keeps_itself operator effect = search (rules, arith, effect_keeps_more, with_place)
 
   -- an effect that never fires keeps it
   never_fires : (operator effect : ℕ) → Clash (IsGroupOfOr p (family_of kept) (group_at p place)) (known_at p operator effect)
       → KeepsWithItself p kept operator effect place
-  never_fires operator effect = clash_keeps (IsGroupOfOr p (family_of kept) (group_at p place)) (operator_at p operator) (group_at p place)
-      (effect_at (operator_at p operator) effect)
+  never_fires operator effect = search (rules, arith, clash_keeps)
 
   pub clash_never_fires : (operator effect : ℕ) → Clash (IsKept p kept) (known_at p operator effect) → KeepsWithItself p kept operator effect place
   clash_never_fires operator effect clash = never_fires operator effect
@@ -132,12 +123,6 @@ module _ (p : Parts) (kept : List Bool) where
   so_far_by operator effect operator' effect' place Initial more is = is
   so_far_by operator effect operator' effect' place (Broken breaking) more is = is
 
-  so_far_first : (place : ℕ) (verdict : Verdict) → IsFirstVerdict p (group_at p place) verdict → IsVerdictSoFar p kept 0 0 place verdict
-  so_far_first place Exclusive is = (is, λ out. record { operators = λ lower lt. absurd (omega arith); effects = λ lower lt. absurd (omega arith) })
-  so_far_first place Derived is = is
-  so_far_first place Initial is = is
-  so_far_first place (Broken operator) is = absurd is
-
   -- an effect that keeps the group, or sets no fact of it
   pub one_effect_more : (operator effect place : ℕ)
       → (Contains (group_at p place) (sets (effect_at (operator_at p operator) effect)) → KeepsWithItself p kept operator effect place)
@@ -158,11 +143,7 @@ module _ (p : Parts) (kept : List Bool) where
 
   pub next_operator : (operator effects : ℕ) (verdicts : List Verdict) → effects ≡ length (operator_at p operator).effects
       → AreVerdictsSoFar p kept operator effects verdicts → AreVerdictsSoFar p kept (operator + 1) 0 verdicts
-  next_operator operator effects verdicts all so_far = record {
-    one_each = so_far.one_each;
-    are = λ place lt. so_far_by operator effects (operator + 1) 0 place (verdict_at verdicts place)
-        (λ out. one_operator_more operator effects place all) (so_far.are place lt);
-  }
+  next_operator operator effects verdicts all so_far = search (rules, arith, so_far_by, one_operator_more)
 
   -- the effect judged of each group that has the fact which it sets and another one
   one_effect_judged : (operator effect place : ℕ) (verdict : Verdict) → place < length p.groups
@@ -181,20 +162,12 @@ module _ (p : Parts) (kept : List Bool) where
   pub next_effect : (operator effect : ℕ) (verdicts : List Verdict)
       → ((place : ℕ) → HasFactBeside p place (sets (effect_at (operator_at p operator) effect)) → IsVerdictSoFar p kept operator (effect + 1) place (verdict_at verdicts place))
       → AreVerdictsSoFar p kept operator effect verdicts → AreVerdictsSoFar p kept operator (effect + 1) verdicts
-  next_effect operator effect verdicts judged so_far = record {
-    one_each = so_far.one_each;
-    are = λ place lt. one_effect_judged operator effect place (verdict_at verdicts place) lt (judged place) (so_far.are place lt);
-  }
+  next_effect operator effect verdicts judged so_far = grind (arith, common_steps, one_effect_judged)
 
   -- of a group that is in the family, or of which something is judged, nothing is left to decide
   pub decided_already : (operator effect place : ℕ) (verdicts : List Verdict) → place < length p.groups → (IsUndecided kept verdicts place → ⊥)
       → IsVerdictSoFar p kept operator effect place (verdict_at verdicts place) → IsVerdictSoFar p kept operator (effect + 1) place (verdict_at verdicts place)
-  decided_already operator effect place verdicts exists judged is = elim (cases_Bool (family_of kept place)) [
-    | inl here ↦ so_far_by operator effect operator (effect + 1) place (verdict_at verdicts place)
-        (λ out. absurd (out (record { exists = exists; chosen = here }))) is
-    | inr gone ↦ decided_for_good operator effect operator (effect + 1) place (verdict_at verdicts place)
-        (λ nothing. judged (record { fell = gone; nothing = nothing })) is
-  ]
+  decided_already operator effect place verdicts exists judged is = grind (arith, common_steps, cases_Bool, so_far_by, decided_for_good)
 
   -- one verdict is judged
   pub one_judged : (operator effect place : ℕ) (verdicts : List Verdict) (verdict : Verdict) → place < length p.groups
@@ -246,8 +219,4 @@ module _ (p : Parts) (kept : List Bool) where
 
   pub joint_in_the_end : (operators : ℕ) (verdicts : List Verdict) → operators ≡ length p.operators → IsGreatest p (family_of kept)
       → AreVerdictsSoFar p kept operators 0 verdicts → AreJointVerdicts p verdicts
-  joint_in_the_end operators verdicts all greatest so_far = record {
-    one_each = so_far.one_each;
-    are = λ place lt. all_judged greatest place lt (verdict_at verdicts place)
-        (subst (λ n. IsVerdictSoFar p kept n 0 place (verdict_at verdicts place)) all (so_far.are place lt));
-  }
+  joint_in_the_end operators verdicts all greatest so_far = search (rules, arith, all_judged)

@@ -1,5 +1,5 @@
 -- The watches of a group as a linked list, as more watches are added.
-use Rattle.sas_mutex.proofs.Imports.{◌≡◌, ◌≢◌, ℕ, ◌<◌, ◌≤◌, ◌^◌, Bool, true, List, [], ◌∷◌, ◌++◌, length, get_or, set, Option, Some, None, refl, sym, ◌∙◌, ap, subst, inl, inr, arith, cases_eq, cases_lt, length-set, length-append, length_push, get_or-set_same, get_or-set_other, get_or_append_left, append_assoc, All-nil, All-cons, All-append, get_or-append_seam, family_of, Watch, Watches, watch_at, IsLastBelow, AreChained, AreMore, WatchesMore, HasWatchFrom}
+use Rattle.sas_mutex.proofs.Imports.{common_steps, rules, ◌≡◌, ◌≢◌, ℕ, ◌<◌, ◌≤◌, ◌^◌, Bool, true, List, [], ◌∷◌, ◌++◌, length, get_or, set, Option, Some, None, sym, ◌∙◌, ap, subst, inl, inr, arith, cases_eq, cases_lt, length-set, length-append, length_push, get_or-set_same, get_or-set_other, get_or_append_left, append_assoc, All-nil, All-cons, All-append, get_or-append_seam, family_of, Watch, Watches, watch_at, IsLastBelow, AreChained, AreMore, WatchesMore, HasWatchFrom}
 
 -- a watch stays where it is
 pub watch_still : (made more : List Watch) (place : ℕ) → place < length made → watch_at (made ++ more) place ≡ watch_at made place
@@ -7,13 +7,8 @@ watch_still made more place lt = get_or_append_left made more (record { group = 
 
 -- and so does the last one of a group below a place
 pub last_still : (made more : List Watch) (below group : ℕ) (last : Option ℕ) → below ≤ length made → IsLastBelow made below group last → IsLastBelow (made ++ more) below group last
-last_still made more below group None within none =
-    λ place lt is. none place lt (sym (ap (λ (w : Watch). w.group) (watch_still made more place (omega arith))) ∙ is)
-last_still made more below group (Some at) within (lt, its, none) = (
-  lt,
-  ap (λ (w : Watch). w.group) (watch_still made more at (omega arith)) ∙ its,
-  λ place behind lt' is. none place behind lt' (sym (ap (λ (w : Watch). w.group) (watch_still made more place (omega arith))) ∙ is),
-)
+last_still made more below group None within none = grind (arith, common_steps, watch_still)
+last_still made more below group (Some at) within (lt, its, none) = grind (arith, common_steps, watch_still)
 
 module _ (made : List Watch) (new : Watch) where
   last_is : watch_at (made ++ new ∷ []) (length made) ≡ new
@@ -24,37 +19,18 @@ module _ (made : List Watch) (new : Watch) where
 
   -- one more watch is the last one of its group
   last_here : IsLastBelow (made ++ new ∷ []) (length (made ++ new ∷ [])) new.group (Some (length made))
-  last_here = (
-    omega (arith, length_push made new),
-    ap (λ (w : Watch). w.group) last_is,
-    λ place behind lt _. absurd (let more = length_push made new in omega arith),
-  )
+  last_here = grind (arith, common_steps, length_push, last_is)
 
   -- and of no other
   last_elsewhere : (group : ℕ) (last : Option ℕ) → new.group ≢ group → IsLastBelow made (length made) group last
       → IsLastBelow (made ++ new ∷ []) (length (made ++ new ∷ [])) group last
-  last_elsewhere group None ne none = λ place lt is. elim (cases_lt place (length made)) [
-    | inl before ↦ none place before (sym (ap (λ (w : Watch). w.group) (watch_still made (new ∷ []) place before)) ∙ is)
-    | inr past ↦ ne (sym (ap (λ (w : Watch). w.group) last_is) ∙ (ap (λ (n : ℕ). (watch_at (made ++ new ∷ []) n).group) (sym (at_end place lt past)) ∙ is))
-  ]
-  last_elsewhere group (Some at) ne (lt, its, none) = (
-    omega (arith, lt, length_push made new),
-    ap (λ (w : Watch). w.group) (watch_still made (new ∷ []) at lt) ∙ its,
-    λ place behind lt' is. elim (cases_lt place (length made)) [
-      | inl before ↦ none place behind before (sym (ap (λ (w : Watch). w.group) (watch_still made (new ∷ []) place before)) ∙ is)
-      | inr past ↦ ne (sym (ap (λ (w : Watch). w.group) last_is) ∙ (ap (λ (n : ℕ). (watch_at (made ++ new ∷ []) n).group) (sym (at_end place lt' past)) ∙ is))
-    ],
-  )
+  last_elsewhere group None ne none = grind (arith, common_steps, cases_lt, watch_still, last_is, at_end)
+  last_elsewhere group (Some at) ne (lt, its, none) = grind (arith, common_steps, length_push, watch_still, cases_lt, last_is, at_end)
 
   pub chained_more : (last last' : List (Option ℕ)) → new.group < length last → new.before ≡ get_or last new.group None
       → last' ≡ set last new.group (Some (length made)) → AreChained made last → AreChained (made ++ new ∷ []) last'
   chained_more last last' below before is chained = record {
-    of_groups = λ group lt. elim (cases_eq group new.group) [
-      | inl e ↦ subst (λ n. IsLastBelow (made ++ new ∷ []) (length (made ++ new ∷ [])) n (get_or last' n None)) (sym e)
-          (subst (IsLastBelow (made ++ new ∷ []) (length (made ++ new ∷ [])) new.group) (sym here) last_here)
-      | inr ne ↦ subst (IsLastBelow (made ++ new ∷ []) (length (made ++ new ∷ [])) group) (sym (there group ne))
-          (last_elsewhere group (get_or last group None) (λ e. ne (sym e)) (chained.of_groups group (as_many lt)))
-    ];
+    of_groups = search (rules, arith, cases_eq, here, last_here, last_elsewhere, as_many);
     of_watches = λ place lt. elim (cases_lt place (length made)) [
       | inl earlier ↦ subst (λ (w : Watch). IsLastBelow (made ++ new ∷ []) place w.group w.before) (sym (watch_still made (new ∷ []) place earlier))
           (last_still made (new ∷ []) place (watch_at made place).group (watch_at made place).before (omega arith) (chained.of_watches place earlier))
@@ -112,10 +88,8 @@ watches_one_more kept start now after new are below inside before made last sinc
   made = record {
     more = are.made.more ++ new ∷ [];
     behind = made ∙ (ap (λ (xs : List Watch). xs ++ new ∷ []) are.made.behind ∙ append_assoc start.made are.made.more (new ∷ []));
-    its = All-append (λ (w : Watch). w.operator ≡ new.operator) are.made.more (new ∷ []) are.made.its
-        (All-cons (λ (w : Watch). w.operator ≡ new.operator) new [] refl (All-nil (λ (w : Watch). w.operator ≡ new.operator)));
-    in_family = All-append (λ (w : Watch). family_of kept w.group ≡ true) are.made.more (new ∷ []) are.made.in_family
-        (All-cons (λ (w : Watch). family_of kept w.group ≡ true) new [] inside (All-nil (λ (w : Watch). family_of kept w.group ≡ true)));
+    its = grind (arith, common_steps, All-append, All-cons, All-nil);
+    in_family = grind (arith, common_steps, All-append, All-cons, All-nil);
   };
   chained = subst (λ (xs : List Watch). AreChained xs after.last) (sym made) (chained_more now.made new now.last after.last below before last are.chained);
   one_each = ap length last ∙ (length-set now.last new.group (Some (length now.made)) ∙ are.one_each);

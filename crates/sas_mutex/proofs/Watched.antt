@@ -1,8 +1,17 @@
 -- Which groups operators depend on, as operators are checked and groups are removed.
-use Rattle.sas_mutex.proofs.Imports.{◌≡◌, ◌≢◌, ◌⊎◌, ℕ, ◌-◌, ◌<◌, ◌≤◌, ◌^◌, Bool, true, List, [], ◌++◌, length, get_or, set, Option, Some, None, refl, sym, ◌∙◌, ap, subst, inl, inr, arith, cases_eq, cases_lt, cases_Bool, length-set, length-append, get_or-set_same, get_or-set_other, get_or-append_right, get_or_append_left, get_or_default, All-nil, All-append, All-weaker, All-contains, Family, Watch, Watches, Falls, newly, IsWithin, IsAtRest, RestsOn, watch_at, since_of, IsLastBelow, AreChained, IsWatchOf, HasWatchFrom, RestsBy, IsOver, IsUnwatched, IsUnwatchedBehind, AreFallen, AreUnwatched, AreWatched, AreMore, IsWatchedAnew, FallenAreUnwatched, StayUnwatched, AreLooseAtRest, Contains-append_left, Contains-append_right, Contains-append_cases, Contains-get_or, All, Contains, Parts, IsIn, family_of}
+use Rattle.sas_mutex.proofs.Imports.{common_steps, rules, ◌≡◌, ◌≢◌, ◌⊎◌, ℕ, ◌-◌, ◌<◌, ◌≤◌, ◌^◌, Bool, true, List, [], ◌++◌, length, get_or, set, Option, Some, None, refl, sym, ◌∙◌, ap, subst, inl, inr, arith, cases_eq, cases_lt, cases_Bool, length-set, length-append, get_or-set_same, get_or-set_other, get_or-append_right, get_or_append_left, get_or_default, All-nil, All-append, All-weaker, All-contains, Family, Watch, Watches, Falls, newly, IsWithin, IsAtRest, RestsOn, watch_at, since_of, IsLastBelow, AreChained, IsWatchOf, HasWatchFrom, RestsBy, IsOver, IsUnwatched, AreFallen, AreUnwatched, AreWatched, AreMore, IsWatchedAnew, FallenAreUnwatched, StayUnwatched, AreLooseAtRest, Contains-append_left, Contains-append_right, Contains-append_cases, Contains-get_or, All, Contains, Parts, IsIn, family_of}
 use Rattle.sas_mutex.proofs.FallingGroups.{fallen_exist}
 use Rattle.sas_mutex.proofs.Supporting.{kept_below}
 use Rattle.sas_mutex.proofs.WatchChains.{watch_still, last_still}
+
+-- no watch of the group after index `at` is valid any more; for `None`, no watch of the group at
+-- all
+abbrev pub IsUnwatchedBehind : Watches → ℕ → Option ℕ → Type 0
+IsUnwatchedBehind w group None = IsUnwatched w group
+IsUnwatchedBehind w group (Some at) = (at < length w.made)
+    × ((watch_at w.made at).group ≡ group)
+    × ((place : ℕ) → at < place → place < length w.made → (watch_at w.made place).group ≡ group
+    → IsOver w place)
 
 abbrev no_watch : Watch
 no_watch = record { group = 0; operator = 0; before = None }
@@ -91,8 +100,7 @@ module _ (p : Parts) where
       each_operator = ap length noted ∙ (length-set w.since operator now ∙ were.each_operator);
       chained = chained;
       few = few;
-      exist = subst (All (λ (x : Watch). x.operator < length p.operators)) (sym more.behind) (All-append (λ (x : Watch). x.operator < length p.operators) w.made more.more were.exist
-          (All-weaker (λ (x : Watch). x.operator ≡ operator) (λ (x : Watch). x.operator < length p.operators) (λ x is. omega (arith, exists)) more.more more.its));
+      exist = grind (arith, common_steps, All-append, All-weaker);
       fell = fallen_still b c falls were.fell;
       groups = its_groups;
       rest = λ other start is. elim (cases_eq other operator) [
@@ -108,18 +116,8 @@ module _ (p : Parts) where
   linked_on : (w : Watches) (group at : ℕ) (next : Option ℕ) → at < length w.made
       → ((place : ℕ) → at ≤ place → place < length w.made → (watch_at w.made place).group ≡ group → IsOver w place)
       → IsLastBelow w.made at group next → IsUnwatchedBehind w group next
-  linked_on w group at None lt over none = λ place below is. elim (cases_lt place at) [
-    | inl before ↦ absurd (none place before is)
-    | inr from ↦ over place from below is
-  ]
-  linked_on w group at (Some k) lt over (lt', its, none) = (
-    omega (arith, lt', lt),
-    its,
-    λ place above below is. elim (cases_lt place at) [
-      | inl before ↦ absurd (none place above before is)
-      | inr from ↦ over place from below is
-    ],
-  )
+  linked_on w group at None lt over none = grind (arith, common_steps, cases_lt)
+  linked_on w group at (Some k) lt over (lt', its, none) = grind (arith, common_steps, cases_lt)
 
   module _ (b c : Family) (w after : Watches) (operator : ℕ) (falls : Falls p b c) (one_each : length c.kept ≡ length p.groups)
       (anew : IsWatchedAnew operator c.kept w after) where
@@ -128,17 +126,10 @@ module _ (p : Parts) where
 
     -- a watch that was over is over, and each of the operator that was there
     pub over_still : (place : ℕ) → place < length w.made → IsOver w place → IsOver after place
-    over_still place lt over start is from = elim (cases_eq (watch_at w.made place).operator operator) [
-      | inl e ↦ absurd (let later = anew.now start (sym (ap (since_of after.since) (its ∙ e)) ∙ is) in omega arith)
-      | inr ne ↦ over start (sym (anew.others (watch_at w.made place).operator ne) ∙ (sym (ap (since_of after.since) its) ∙ is)) from
-    ]
-      where
-        its : (watch_at after.made place).operator ≡ (watch_at w.made place).operator
-        its = ap (λ (x : Watch). x.operator) (still place lt)
+    over_still place lt over start is from = grind (arith, common_steps, cases_eq, still)
 
     pub over_now : (place : ℕ) → place < length w.made → (watch_at w.made place).operator ≡ operator → IsOver after place
-    over_now place lt e start is from =
-        let later = anew.now start (sym (ap (since_of after.since) (ap (λ (x : Watch). x.operator) (still place lt) ∙ e)) ∙ is) in omega arith
+    over_now place lt e start is from = grind (arith, common_steps, still)
 
     -- a new watch is of a group of the family
     pub new_kept : (place : ℕ) → length w.made ≤ place → place < length after.made → family_of c.kept (watch_at after.made place).group ≡ true
@@ -150,37 +141,19 @@ module _ (p : Parts) where
     kept_before group is = (falls.less group (record { exists = let lt = kept_below c.kept group is in omega arith; chosen = is })).chosen
 
     pub stays_unwatched : StayUnwatched b.kept w after
-    stays_unwatched group out unwatched place lt is = elim (cases_lt place (length w.made)) [
-      | inl before ↦ over_still place before (unwatched place before (sym (ap (λ (x : Watch). x.group) (still place before)) ∙ is))
-      | inr past ↦ absurd (out (kept_before group (ap (family_of c.kept) (sym is) ∙ new_kept place past lt)))
-    ]
+    stays_unwatched group out unwatched place lt is = search (rules, arith, cases_lt, over_still, still, kept_before, new_kept)
 
     -- one watch more of a group was unwatched
     pub unwatched_behind : (group at : ℕ) (next : Option ℕ) → (family_of b.kept group ≡ true → ⊥) → at < length w.made → (watch_at w.made at).group ≡ group
         → ((place : ℕ) → at < place → place < length w.made → (watch_at w.made place).group ≡ group → IsOver w place)
         → IsOver after at → IsLastBelow w.made at group next → IsUnwatchedBehind after group next
-    unwatched_behind group at next out lt its behind here link = linked_on after group at next (omega (arith, lt, grown))
-        (λ place from below is. elim (cases_lt place (length w.made)) [
-          | inr past ↦ absurd (out (kept_before group (ap (family_of c.kept) (sym is) ∙ new_kept place past below)))
-          | inl before ↦ elim (cases_eq place at) [
-            | inl e ↦ subst (IsOver after) (sym e) here
-            | inr ne ↦ over_still place before (behind place (omega arith) before (sym (ap (λ (x : Watch). x.group) (still place before)) ∙ is))
-          ]
-        ])
-        (subst (λ (xs : List Watch). IsLastBelow xs at group next) (sym anew.made.behind) (last_still w.made anew.made.more at group next (omega (arith, lt)) link))
-      where
-        grown : length w.made ≤ length after.made
-        grown = let len = ap length anew.made.behind ∙ length-append w.made anew.made.more in omega arith
+    unwatched_behind group at next out lt its behind here link = search (rules, arith, linked_on, cases_lt, kept_before, new_kept, cases_eq, over_still, still, last_still, length-append)
 
   -- where no operator is looked at, nothing changes
   pub unwatched_if_over : (w : Watches) (group at : ℕ) (next : Option ℕ) → at < length w.made
       → ((place : ℕ) → at < place → place < length w.made → (watch_at w.made place).group ≡ group → IsOver w place)
       → IsOver w at → IsLastBelow w.made at group next → IsUnwatchedBehind w group next
-  unwatched_if_over w group at next lt behind here link = linked_on w group at next lt
-      (λ place from below is. elim (cases_eq place at) [
-        | inl e ↦ subst (IsOver w) (sym e) here
-        | inr ne ↦ behind place (omega arith) below is
-      ]) link
+  unwatched_if_over w group at next lt behind here link = search (rules, arith, linked_on, cases_eq)
 
   -- those who watch groups that aren't in the family stay unwatched
   pub unwatched_more : (xs : List ℕ) (count : ℕ) (kept : List Bool) (w after : Watches) → ((place : ℕ) → place < count → family_of kept (get_or xs place 0) ≡ true → ⊥)
@@ -196,12 +169,10 @@ module _ (p : Parts) where
 
   pub stay_then : (start b : Family) (first w after : Watches) → Falls p start b → length b.kept ≡ length p.groups
       → StayUnwatched start.kept first w → StayUnwatched b.kept w after → StayUnwatched start.kept first after
-  stay_then start b first w after falls one_each before then group out unwatched =
-      then group (λ is. out (falls.less group (record { exists = let lt = kept_below b.kept group is in omega arith; chosen = is })).chosen) (before group out unwatched)
+  stay_then start b first w after falls one_each before then group out unwatched = search (rules, arith, kept_below)
 
   pub unwatched_in : (xs ys : List ℕ) (more : List ℕ) (count : ℕ) (w : Watches) → ys ≡ xs ++ more → count ≤ length xs → FallenAreUnwatched xs count w → FallenAreUnwatched ys count w
-  unwatched_in xs ys more count w is within unwatched place lt =
-      subst (IsUnwatched w) (sym (ap (λ (zs : List ℕ). get_or zs place 0) is ∙ get_or_append_left xs more 0 place (omega arith))) (unwatched place lt)
+  unwatched_in xs ys more count w is within unwatched place lt = grind (arith, common_steps, get_or_append_left)
 
   -- ---- in the end
 
@@ -210,12 +181,7 @@ module _ (p : Parts) where
   rest_in_the_end family w watched unwatched loose operator exists = by (since_of w.since operator) refl
     where
       stands : (start place : ℕ) → since_of w.since operator ≡ Some start → IsWatchOf w.made operator start place → IsIn p (family_of family.kept) (watch_at w.made place).group
-      stands start place is of = elim (watched.groups place of.exists) [
-        | inl inside ↦ inside
-        | inr fell ↦ absurd (unwatched fell.0 fell.1 place of.exists
-            (sym (get_or_default family.fallen.items fell.0 0 (watch_at w.made place).group fell.1 ∙ fell.2))
-            start (ap (since_of w.since) of.its ∙ is) of.from)
-      ]
+      stands start place is of = search (rules, arith, get_or_default)
 
       by : (since : Option ℕ) → since_of w.since operator ≡ since → IsAtRest p family.kept operator
       by None is = loose refl operator exists is
@@ -224,23 +190,4 @@ module _ (p : Parts) where
   -- ---- at first
 
   pub none_watched : (family : Family) (w : Watches) → AreUnwatched (length p.groups) (length p.operators) w → family.fallen.items ≡ [] → AreWatched p family w
-  none_watched family w are none = record {
-    each_group = are.each_group;
-    each_operator = are.each_operator;
-    chained = record {
-      of_groups = λ group lt. subst (IsLastBelow w.made (length w.made) group) (sym (are.no_last group))
-          (λ place lt'. absurd (no_place place lt'));
-      of_watches = λ place lt. absurd (no_place place lt);
-    };
-    few = let len = ap length are.made in omega arith;
-    exist = subst (All (λ (x : Watch). x.operator < length p.operators)) (sym are.made) (All-nil (λ (x : Watch). x.operator < length p.operators));
-    fell = record {
-      exist = subst (All (λ (n : ℕ). n < length p.groups)) (sym none) (All-nil (λ (n : ℕ). n < length p.groups));
-      out = λ group within. absurd (let among = subst (λ (xs : List ℕ). Contains xs group) none within in omega (arith, among.1));
-    };
-    groups = λ place lt. absurd (no_place place lt);
-    rest = λ operator start is. absurd (let no = sym (are.loose operator) ∙ is in cc);
-  }
-    where
-      no_place : (place : ℕ) → place < length w.made → ⊥
-      no_place place lt = let len = ap length are.made in omega arith
+  none_watched family w are none = grind (arith, common_steps, All-nil)

@@ -32,11 +32,16 @@ pub record IsOfNone (groups : ℕ) (none : List Bool) : Type 0 where
   pub one_each : length none ≡ groups
   pub out : (place : ℕ) → IsFalse (family_of none place)
 
+-- all groups of the first list are in the second one
+abbrev pub IsPartOf : List Bool → List Bool → Type 0
+IsPartOf fewer more =
+    (place : ℕ) → IsTrue (family_of fewer place) → IsTrue (family_of more place)
+
 -- the list without these groups, and without new ones
 pub record IsWithout (groups : List ℕ) (before after : List Bool) : Type 0 where
   pub as_many : length after ≡ length before
   pub out : (group : ℕ) → Contains groups group → IsFalse (family_of after group)
-  pub less : (group : ℕ) → IsTrue (family_of after group) → IsTrue (family_of before group)
+  pub less : IsPartOf after before
 
 -- the basis has an entry for each group, and its groups are the supports
 pub record IsBasis (groups : ℕ) (family : Family) : Type 0 where
@@ -44,19 +49,9 @@ pub record IsBasis (groups : ℕ) (family : Family) : Type 0 where
   pub only : (place : ℕ) → IsTrue (family_of family.basis place) → Contains family.supports place
   pub low : All (λ (support : ℕ). support < groups) family.supports
 
--- all groups of the basis are in the family
-abbrev pub IsBasisKept : Family → Type 0
-IsBasisKept family =
-    (place : ℕ) → IsTrue (family_of family.basis place) → IsTrue (family_of family.kept place)
-
--- all groups of the first basis are in the second one
-abbrev pub BasisGrows : List Bool → List Bool → Type 0
-BasisGrows before after =
-    (place : ℕ) → IsTrue (family_of before place) → IsTrue (family_of after place)
-
 -- groups were added to the basis, and nothing else was changed
 pub record HasGrown (before after : Family) : Type 0 where
   pub kept : after.kept ≡ before.kept
   pub fallen : after.fallen ≡ before.fallen
   pub basis : (groups : ℕ) → IsBasis groups before → IsBasis groups after
-  pub grows : BasisGrows before.basis after.basis
+  pub grows : IsPartOf before.basis after.basis

@@ -66,10 +66,6 @@ pub record IsNotedFor (p : Parts) (kept : List Bool) (operator effect : ℕ) (ma
   pub are : AreKnown p kept (known_at p operator effect) marks.known
   pub from : IsNotedFrom p (known_at p operator effect) marks
 
--- the fact isn't a known fact of the effect
-abbrev pub IsUnknown : Operator → Effect → Fact → Type 0
-IsUnknown o e fact = Contains (known o e.conditions []) fact → ⊥
-
 -- the first of the facts, if any, is on the variable of the effect, or a value is recorded for its
 -- variable
 abbrev pub IsDecidedByFirst : Effect → List Fact → Notes → Type 0
@@ -135,11 +131,6 @@ abbrev pub IsSingleOn : EffectPlace → List Bool → ℕ → ℕ → Type 0
 IsSingleOn f kept place var = (other : ℕ) → variable_of f.task f.operator other ≡ var
     → IsApartAt f kept place other
 
--- the same for all effects on the variables of the first `count` facts
-abbrev pub IsSingleOnFirst : EffectPlace → List Bool → ℕ → List Fact → ℕ → Type 0
-IsSingleOnFirst f kept place facts count = (k : ℕ) (d : Fact) → k < count
-    → IsSingleOn f kept place (slice_index_or facts k d).var
-
 -- the fact directly before this index, if any, is on another variable than the fact at it
 abbrev pub BeginsRun : List Fact → ℕ → Type 0
 BeginsRun facts place = (before : ℕ) → before + 1 ≡ place → (d : Fact)
@@ -158,5 +149,6 @@ abbrev pub AreGoneAt : EffectPlace → List Bool → ℕ → Type 0
 AreGoneAt f kept place =
     AreGone (IsKept f.task kept) (operator_of f) (group_at f.task place) (effect_of f)
 
+-- the fact isn't a known fact of the effect
 abbrev pub IsUnknownAt : EffectPlace → Fact → Type 0
-IsUnknownAt f = IsUnknown (operator_of f) (effect_of f)
+IsUnknownAt f fact = Contains (known_at f.task f.operator f.effect) fact → ⊥

@@ -6,7 +6,7 @@ use Rattle.sas_groups.specs.Clashes.{sets}
 use Rattle.sas_groups.specs.Families.{IsIn}
 use Rattle.sas_groups.specs.Kept.{family_of}
 use Rattle.sas_mutex.specs.declared.family.Family.{Family}
-use Rattle.sas_mutex.specs.Basis.{BasisGrows}
+use Rattle.sas_mutex.specs.Basis.{IsPartOf}
 use Rattle.sas_mutex.specs.Effects.{KeepsAt, KeepsWithItself, IsUnconditional}
 use Rattle.sas_mutex.specs.Falling.{FamilyHasRoom, Falls, newly}
 use Rattle.sas_mutex.specs.Firing.{EffectPlace}
@@ -26,7 +26,7 @@ pub record Looked (p : Parts) (operator : ℕ) (Pairs : ℕ → ℕ → Type 0) 
     (alone : Bool) : Type 0 where
   pub falls : Falls p before after
   pub room : FamilyHasRoom p after
-  pub grows : BasisGrows before.basis after.basis
+  pub grows : IsPartOf before.basis after.basis
   pub keeps : newly before after ≡ []
       → ForPairs p operator after.kept Pairs (KeepsAt p after.kept operator)
   pub by_basis : IsTrue alone

@@ -67,15 +67,6 @@ abbrev pub IsUnwatched : Watches → ℕ → Type 0
 IsUnwatched w group = (place : ℕ) → place < length w.made → (watch_at w.made place).group ≡ group
     → IsOver w place
 
--- no watch of the group after index `at` is valid any more; for `None`, no watch of the group at
--- all
-abbrev pub IsUnwatchedBehind : Watches → ℕ → Option ℕ → Type 0
-IsUnwatchedBehind w group None = IsUnwatched w group
-IsUnwatchedBehind w group (Some at) = (at < length w.made)
-    × ((watch_at w.made at).group ≡ group)
-    × ((place : ℕ) → at < place → place < length w.made → (watch_at w.made place).group ≡ group
-    → IsOver w place)
-
 -- there are no watches, and all operators are loose
 pub record AreUnwatched (groups operators : ℕ) (w : Watches) : Type 0 where
   pub made : w.made ≡ []

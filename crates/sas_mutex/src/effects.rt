@@ -173,8 +173,8 @@ impl<'a, 'b, T: Grounded> FiringEffect<'a, 'b, T> {
         self.is_single(kept, group, marks) && self.removes_others(kept, group, marks)
     }
 
-    /// Returns true only if the effect preserves the group since the fact excludes all others, as noted. The group must be in the family. The
-    /// known facts must be recorded and must not clash.
+    /// Returns true only if the effect preserves the group since the fact excludes all others, as noted. The known facts must be recorded and
+    /// must not clash.
     #[inline(always)]
     pub(crate) fn keeps_by(
         &self,
@@ -184,7 +184,7 @@ impl<'a, 'b, T: Grounded> FiringEffect<'a, 'b, T> {
         marks: &mut Marks,
     ) -> bool
         requires notes { IsNotedAt self.now kept.now marks.old }
-        requires group { IsIn self.now.task (family_of kept.now) group }
+        requires group { group < length self.now.task.groups }
         requires excludes { Excludes self.now.task kept.now excluding.now }
         ensures notes { IsNotedAt self.now kept.now marks.new }
         ensures yes { IsTrue result → EffectKeepsGroup self.now kept.now group }
@@ -271,7 +271,7 @@ impl<'a, 'b, T: Grounded> FiringEffect<'a, 'b, T> {
     #[inline(always)]
     fn is_single(&self, kept: &[bool], group: u32, marks: &mut Marks) -> bool
         requires notes { IsNotedAt self.now kept.now marks.old }
-        requires group { IsIn self.now.task (family_of kept.now) group }
+        requires group { group < length self.now.task.groups }
         ensures notes { IsNotedAt self.now kept.now marks.new }
         ensures is { IsTrue result ↔ HasNoPartnerAt self.now kept.now group }
     {
@@ -294,7 +294,7 @@ impl<'a, 'b, T: Grounded> FiringEffect<'a, 'b, T> {
         marks: &Marks,
     ) -> bool
         requires notes { IsNotedAt self.now kept.now marks.now }
-        requires group { IsIn self.now.task (family_of kept.now) group }
+        requires group { group < length self.now.task.groups }
         requires plain { (operator_of self.now).effects ≡ plain_effects changes.now }
         ensures { IsTrue result ↔ HasNoPartnerAt self.now kept.now group }
     {
@@ -325,7 +325,7 @@ impl<'a, 'b, T: Grounded> FiringEffect<'a, 'b, T> {
     #[inline(always)]
     fn is_single_of_all(&self, kept: &[bool], group: u32, marks: &mut Marks) -> bool
         requires notes { IsNotedAt self.now kept.now marks.old }
-        requires group { IsIn self.now.task (family_of kept.now) group }
+        requires group { group < length self.now.task.groups }
         ensures notes { IsNotedAt self.now kept.now marks.new }
         ensures is { IsTrue result ↔ HasNoPartnerAt self.now kept.now group }
     {
@@ -342,7 +342,7 @@ impl<'a, 'b, T: Grounded> FiringEffect<'a, 'b, T> {
     #[inline(never)]
     fn is_single_by_facts(&self, kept: &[bool], group: u32, marks: &mut Marks) -> bool
         requires notes { IsNotedAt self.now kept.now marks.old }
-        requires group { IsIn self.now.task (family_of kept.now) group }
+        requires group { group < length self.now.task.groups }
         ensures notes { IsNotedAt self.now kept.now marks.new }
         ensures is { IsTrue result ↔ HasNoPartnerAt self.now kept.now group }
     {
@@ -360,7 +360,7 @@ impl<'a, 'b, T: Grounded> FiringEffect<'a, 'b, T> {
     /// Returns whether no effect on variable `var` that may fire together with this one sets another fact of the group on another variable.
     fn is_single_on(&self, kept: &[bool], group: u32, var: u32, marks: &mut Marks) -> bool
         requires notes { IsNotedAt self.now kept.now marks.old }
-        requires group { IsIn self.now.task (family_of kept.now) group }
+        requires group { group < length self.now.task.groups }
         ensures notes { IsNotedAt self.now kept.now marks.new }
         ensures yes { IsTrue result → IsSingleOn self.now kept.now group var }
         ensures no { IsFalse result → HasNoPartnerAt self.now kept.now group → ⊥ }
@@ -383,7 +383,7 @@ impl<'a, 'b, T: Grounded> FiringEffect<'a, 'b, T> {
     pub fn not_both(&self, kept: &[bool], other: u32, group: u32, marks: &mut Marks) -> bool
         requires notes { IsNotedAt self.now kept.now marks.old }
         requires other { other < length (operator_of self.now).effects }
-        requires group { IsIn self.now.task (family_of kept.now) group }
+        requires group { group < length self.now.task.groups }
         ensures notes { IsNotedAt self.now kept.now marks.new }
         ensures is { IsTrue result ↔ NotBothAt self.now kept.now other group }
     {

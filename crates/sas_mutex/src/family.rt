@@ -2,7 +2,7 @@
 ghost use Rattle.std.specs.Prelude.{◌≡◌, ◌≤◌, ◌+◌, ◌++◌, [], ◌∷◌, false, ℕ, ◌<◌, length, IsTrue, All, slice_set, vec_capacity};
 ghost use Rattle.sas_groups.specs.Kept.{family_of};
 ghost use Rattle.sas_mutex.specs.Falling.{count};
-ghost use Rattle.sas_mutex.specs.Basis.{AreNotedWith, IsBasis, IsBasisKept, HasGrown, IsOfNone, IsWithout};
+ghost use Rattle.sas_mutex.specs.Basis.{AreNotedWith, IsBasis, IsPartOf, HasGrown, IsOfNone, IsWithout};
 
 use sas_core::{Fact, Items};
 use sas_groups::MOST_GROUPS;
@@ -89,7 +89,8 @@ impl Family {
     /// Returns whether the basis is used and all its groups are in the family.
     #[inline(always)]
     pub fn has_basis(&self) -> bool
-        ensures { IsTrue result → (groups : ℕ) → IsBasis groups self.now → IsBasisKept self.now }
+        ensures { IsTrue result → (groups : ℕ) → IsBasis groups self.now
+            → IsPartOf self.now.basis self.now.kept }
     {
         let supports = self.supports.as_slice();
         !self.is_short && supports.iter().all(|support| self.has(*support))

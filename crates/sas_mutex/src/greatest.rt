@@ -28,7 +28,7 @@ pub fn find_greatest<T: Grounded>(
     requires room { FamilyHasRoom indexed.now family.old }
     requires clean { IsClean indexed.now marks.old }
     ensures greatest { IsGreatest indexed.now (family_of family.new.kept) }
-    ensures one_each { length family.new.kept ≡ length indexed.now.groups }
+    ensures room { FamilyHasRoom indexed.now family.new }
     ensures clean { IsClean indexed.now marks.new }
 {
     loop {

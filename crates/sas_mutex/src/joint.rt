@@ -13,10 +13,12 @@ ghost use Rattle.sas_mutex.specs.ByNotes.{IsNotedAt};
 ghost use Rattle.sas_groups.specs.Joint.{verdict_at, AreJointVerdicts, AreInvariants};
 ghost use Rattle.sas_mutex.specs.Judging.{AreFirstVerdicts, IsUndecided, IsVerdictSoFar, AreVerdictsSoFar};
 ghost use Rattle.sas_mutex.specs.Basis.{IsOfNone};
+ghost use Rattle.sas_mutex.specs.Falling.{FamilyHasRoom};
 
 use crate::effects::FiringEffect;
 use crate::family::{Family, MOST_EXCLUDING};
 use crate::greatest::find_greatest;
+use crate::looking::keeps_removed;
 use crate::marks::Marks;
 use crate::watches::Watches;
 use sas_core::{Grounded, Items};
@@ -64,7 +66,7 @@ fn judge_indexed<T: Grounded>(
     let mut marks = Marks::new(alloc, indexed)?;
     let mut watches = Watches::new(alloc, indexed.task.groups(), indexed.task.operators())?;
     find_greatest(indexed, &mut watches, &mut family, &mut marks);
-    find_breaking(indexed, &mut family.kept, verdicts, &mut marks);
+    find_breaking(indexed, &mut family, verdicts, &mut marks);
     drop(watches);
     drop(marks);
     drop(family);
@@ -129,27 +131,27 @@ fn some_exclusive(verdicts: &[Verdict]) -> bool
         .any(|verdict| *verdict == Verdict::Exclusive)
 }
 
-/// Finds, for each removed group, the first operator that doesn't preserve it, assuming the greatest family and the group itself. `kept`
+/// Finds, for each removed group, the first operator that doesn't preserve it, assuming the greatest family and the group itself. `family`
 /// must be the greatest family.
 fn find_breaking<T: Grounded>(
     indexed: &IndexedTask<'_, '_, T>,
-    kept: &mut Items<bool>,
+    family: &mut Family,
     verdicts: &mut Items<Verdict>,
     marks: &mut Marks,
 )
-    requires greatest { IsGreatest indexed.now (family_of kept.old) }
-    requires one_each { length kept.old ≡ length indexed.now.groups }
+    requires greatest { IsGreatest indexed.now (family_of family.old.kept) }
+    requires room { FamilyHasRoom indexed.now family.old }
     requires first { AreFirstVerdicts indexed.now verdicts.old }
     requires clean { IsClean indexed.now marks.old }
     ensures { AreJointVerdicts indexed.now verdicts.new }
 {
     let groups = indexed.task.groups();
     // Usually no group is left.
-    if !some_fell(groups, kept.as_slice(), verdicts.as_slice()) {
+    if !some_fell(groups, family.kept.as_slice(), verdicts.as_slice()) {
         return;
     }
     for operator in 0..indexed.task.operators() {
-        find_broken_by(indexed, operator, kept, verdicts, marks);
+        find_broken_by(indexed, operator, family, verdicts, marks);
     }
 }
 
@@ -172,22 +174,23 @@ fn some_fell(groups: u32, kept: &[bool], verdicts: &[Verdict]) -> bool
 fn find_broken_by<T: Grounded>(
     indexed: &IndexedTask<'_, '_, T>,
     operator: u32,
-    kept: &mut Items<bool>,
+    family: &mut Family,
     verdicts: &mut Items<Verdict>,
     marks: &mut Marks,
 )
     requires operator { operator < length indexed.now.operators }
-    requires greatest { IsGreatest indexed.now (family_of kept.old) }
-    requires one_each { length kept.old ≡ length indexed.now.groups }
-    requires so_far { AreVerdictsSoFar indexed.now kept.old operator 0 verdicts.old }
+    requires greatest { IsGreatest indexed.now (family_of family.old.kept) }
+    requires room { FamilyHasRoom indexed.now family.old }
+    requires so_far { AreVerdictsSoFar indexed.now family.old.kept operator 0 verdicts.old }
     requires clean { IsClean indexed.now marks.old }
-    ensures so_far { AreVerdictsSoFar indexed.now kept.old (operator + 1) 0 verdicts.new }
-    ensures kept { kept.new ≡ kept.old }
+    ensures so_far { AreVerdictsSoFar indexed.now family.old.kept (operator + 1) 0 verdicts.new }
+    ensures kept { family.new.kept ≡ family.old.kept }
+    ensures room { FamilyHasRoom indexed.now family.new }
     ensures clean { IsClean indexed.now marks.new }
 {
     for effect in 0..indexed.task.effects(operator) {
         let firing = FiringEffect::new(indexed, operator, effect);
-        find_broken_by_effect(&firing, kept, verdicts, marks);
+        find_broken_by_effect(&firing, family, verdicts, marks);
     }
 }
 
@@ -195,26 +198,27 @@ fn find_broken_by<T: Grounded>(
 /// are recorded once for all groups. If they clash, the effect never fires.
 fn find_broken_by_effect<T: Grounded>(
     firing: &FiringEffect<'_, '_, T>,
-    kept: &mut Items<bool>,
+    family: &mut Family,
     verdicts: &mut Items<Verdict>,
     marks: &mut Marks,
 )
-    requires greatest { IsGreatest firing.now.task (family_of kept.old) }
-    requires one_each { length kept.old ≡ length firing.now.task.groups }
+    requires greatest { IsGreatest firing.now.task (family_of family.old.kept) }
+    requires room { FamilyHasRoom firing.now.task family.old }
     requires so_far { let f = firing.now in
-        AreVerdictsSoFar f.task kept.old f.operator f.effect verdicts.old }
+        AreVerdictsSoFar f.task family.old.kept f.operator f.effect verdicts.old }
     requires clean { IsClean firing.now.task marks.old }
     ensures so_far { let f = firing.now in
-        AreVerdictsSoFar f.task kept.old f.operator (f.effect + 1) verdicts.new }
-    ensures kept { kept.new ≡ kept.old }
+        AreVerdictsSoFar f.task family.old.kept f.operator (f.effect + 1) verdicts.new }
+    ensures kept { family.new.kept ≡ family.old.kept }
+    ensures room { FamilyHasRoom firing.now.task family.new }
     ensures clean { IsClean firing.now.task marks.new }
 {
     let groups = firing.groups();
-    if !some_undecided(groups, kept.as_slice(), verdicts.as_slice()) {
+    if !some_undecided(groups, family.kept.as_slice(), verdicts.as_slice()) {
         return;
     }
-    if !firing.note(kept.as_slice(), marks) {
-        judge_groups(firing, groups, kept, verdicts, marks);
+    if !firing.note(family.kept.as_slice(), marks) {
+        judge_groups(firing, groups, family, verdicts, marks);
     }
     firing.forget(marks);
 }
@@ -247,26 +251,28 @@ fn is_undecided(group: u32, kept: &[bool], verdicts: &[Verdict]) -> bool
 fn judge_groups<T: Grounded>(
     firing: &FiringEffect<'_, '_, T>,
     groups: &[u32],
-    kept: &mut Items<bool>,
+    family: &mut Family,
     verdicts: &mut Items<Verdict>,
     marks: &mut Marks,
 )
     requires have { All (λ (place : ℕ). HasFact firing.now.task place
         (sets (effect_of firing.now))) groups.now }
-    requires greatest { IsGreatest firing.now.task (family_of kept.old) }
+    requires greatest { IsGreatest firing.now.task (family_of family.old.kept) }
+    requires room { FamilyHasRoom firing.now.task family.old }
     requires so_far { let f = firing.now in
-        AreVerdictsSoFar f.task kept.old f.operator f.effect verdicts.old }
-    requires notes { IsNotedAt firing.now kept.old marks.old }
+        AreVerdictsSoFar f.task family.old.kept f.operator f.effect verdicts.old }
+    requires notes { IsNotedAt firing.now family.old.kept marks.old }
     ensures so_far { let f = firing.now in
-        AreVerdictsSoFar f.task kept.old f.operator f.effect verdicts.new }
+        AreVerdictsSoFar f.task family.old.kept f.operator f.effect verdicts.new }
     ensures judged { let f = firing.now in
-        All (λ (place : ℕ). IsVerdictSoFar f.task kept.old f.operator (f.effect + 1) place
+        All (λ (place : ℕ). IsVerdictSoFar f.task family.old.kept f.operator (f.effect + 1) place
         (verdict_at verdicts.new place)) groups.now }
-    ensures kept { kept.new ≡ kept.old }
-    ensures notes { IsNotedAt firing.now kept.old marks.new }
+    ensures kept { family.new.kept ≡ family.old.kept }
+    ensures room { FamilyHasRoom firing.now.task family.new }
+    ensures notes { IsNotedAt firing.now family.old.kept marks.new }
 {
     for group in groups {
-        judge_group(firing, *group, kept, verdicts, marks);
+        judge_group(firing, *group, family, verdicts, marks);
     }
 }
 
@@ -275,27 +281,29 @@ fn judge_groups<T: Grounded>(
 fn judge_group<T: Grounded>(
     firing: &FiringEffect<'_, '_, T>,
     group: u32,
-    kept: &mut Items<bool>,
+    family: &mut Family,
     verdicts: &mut Items<Verdict>,
     marks: &mut Marks,
 )
     requires has { HasFact firing.now.task group (sets (effect_of firing.now)) }
-    requires greatest { IsGreatest firing.now.task (family_of kept.old) }
+    requires greatest { IsGreatest firing.now.task (family_of family.old.kept) }
+    requires room { FamilyHasRoom firing.now.task family.old }
     requires so_far { let f = firing.now in
-        AreVerdictsSoFar f.task kept.old f.operator f.effect verdicts.old }
-    requires notes { IsNotedAt firing.now kept.old marks.old }
+        AreVerdictsSoFar f.task family.old.kept f.operator f.effect verdicts.old }
+    requires notes { IsNotedAt firing.now family.old.kept marks.old }
     ensures so_far { let f = firing.now in
-        AreVerdictsSoFar f.task kept.old f.operator f.effect verdicts.new }
+        AreVerdictsSoFar f.task family.old.kept f.operator f.effect verdicts.new }
     ensures judged { let f = firing.now in
-        IsVerdictSoFar f.task kept.old f.operator (f.effect + 1) group
+        IsVerdictSoFar f.task family.old.kept f.operator (f.effect + 1) group
         (verdict_at verdicts.new group) }
     ensures others { (place : ℕ) → place ≢ group
         → verdict_at verdicts.new place ≡ verdict_at verdicts.old place }
-    ensures kept { kept.new ≡ kept.old }
-    ensures notes { IsNotedAt firing.now kept.old marks.new }
+    ensures kept { family.new.kept ≡ family.old.kept }
+    ensures room { FamilyHasRoom firing.now.task family.new }
+    ensures notes { IsNotedAt firing.now family.old.kept marks.new }
 {
-    if is_undecided(group, kept.as_slice(), verdicts.as_slice())
-        && !firing.keeps_with_itself(group, kept, marks)
+    if is_undecided(group, family.kept.as_slice(), verdicts.as_slice())
+        && !keeps_removed(firing, group, family, marks)
     {
         let operator = firing.operator;
         verdicts.set(group as usize, Verdict::Broken { operator });

@@ -223,7 +223,7 @@ fn keeps_by_excluding<T: Grounded>(
     family: &Family,
     marks: &mut Marks,
 ) -> bool
-    requires group { IsIn firing.now.task (family_of family.now.kept) group }
+    requires group { group < length firing.now.task.groups }
     requires room { FamilyHasRoom firing.now.task family.now }
     requires notes { IsNotedAt firing.now family.now.kept marks.old }
     ensures yes { IsTrue result → EffectKeepsGroup firing.now family.now.kept group }
@@ -259,10 +259,55 @@ fn keeps_by_more<T: Grounded>(
     if !family.is_short {
         return keeps_by_basis(firing, group, family, marks);
     }
+    note_excluding(firing, group, family, marks);
+    false
+}
+
+/// Notes the fact set apart if it excludes all facts of the group that aren't on the variable of the effect. The known facts must be
+/// recorded and must not clash.
+#[inline(always)]
+fn note_excluding<T: Grounded>(
+    firing: &FiringEffect<'_, '_, T>,
+    group: u32,
+    family: &mut Family,
+    marks: &Marks,
+)
+    requires group { group < length firing.now.task.groups }
+    requires room { FamilyHasRoom firing.now.task family.old }
+    requires notes { IsNotedAt firing.now family.old.kept marks.now }
+    ensures grown { HasGrown family.old family.new }
+    ensures room { FamilyHasRoom firing.now.task family.new }
+{
     if let Some(found) = firing.excluding(family.kept.as_slice(), group, marks) {
         family.note_excluding(found);
     }
-    false
+}
+
+/// Returns whether the effect preserves the group, which may be removed, assuming the family and the group itself. The known facts must be
+/// recorded and must not clash. If many groups were used in the test, a fact that excludes others is noted.
+pub fn keeps_removed<T: Grounded>(
+    firing: &FiringEffect<'_, '_, T>,
+    group: u32,
+    family: &mut Family,
+    marks: &mut Marks,
+) -> bool
+    requires group { group < length firing.now.task.groups }
+    requires room { FamilyHasRoom firing.now.task family.old }
+    requires notes { IsNotedAt firing.now family.old.kept marks.old }
+    ensures is { IsTrue result ↔ EffectKeepsGroupWithItself firing.now family.old.kept group }
+    ensures kept { family.new.kept ≡ family.old.kept }
+    ensures room { FamilyHasRoom firing.now.task family.new }
+    ensures notes { IsNotedAt firing.now family.old.kept marks.new }
+{
+    if keeps_by_excluding(firing, group, family, marks) {
+        return true;
+    }
+    marks.deciding.clear();
+    let keeps = firing.keeps_with_itself(group, &mut family.kept, marks);
+    if keeps && marks.deciding.groups().as_slice().is_none() {
+        note_excluding(firing, group, family, marks);
+    }
+    keeps
 }
 
 /// Returns true only if all groups of the basis are in the family and the effect preserves the group, assuming only these groups and the

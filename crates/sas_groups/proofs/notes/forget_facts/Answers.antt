@@ -1,7 +1,7 @@
 -- One more fact is removed; in the end all are.
-use Rattle.sas_groups.proofs.Imports.{length, get_or, subst, arith, Fact, Parts, each_more, common_steps, IsIndexOf, IsForgotten}
+use Rattle.sas_groups.proofs.Imports.{length, get_or, subst, arith, Fact, Parts, each_more, common_steps, IsIndexOf}
 use Rattle.sas_groups.proofs.Existing.{groups_below}
-use Rattle.sas_groups.proofs.NotesOfFacts.{noted_less, forgotten_now, forgotten_still, blank_in_the_end}
+use Rattle.sas_groups.proofs.NotesOfFacts.{IsForgotten, noted_less, forgotten_now, forgotten_still, blank_in_the_end}
 use Rattle.sas_groups.proofs.notes.forget_facts.Goals as goal
 
 pub forget-requires-clause-groups : goal.forget-requires-clause-groups

@@ -1,5 +1,6 @@
 -- Nothing is recorded for the facts so far.
-use Rattle.sas_groups.proofs.Imports.{ℕ, ◌<◌, get_or, Fact, AreFrom, IsForgotten}
+use Rattle.sas_groups.proofs.Imports.{ℕ, ◌<◌, get_or, Fact, AreFrom}
+use Rattle.sas_groups.proofs.NotesOfFacts.{IsForgotten}
 use Rattle.sas_groups.proofs.notes.forget_facts.Given as goal
 
 abbrev pub invariant-loop-fact : goal.invariant-loop-fact

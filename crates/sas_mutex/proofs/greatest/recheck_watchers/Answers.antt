@@ -1,7 +1,7 @@
 -- The operator of one more watch was checked again, or the watch wasn't valid any more.
-use Rattle.sas_mutex.proofs.Imports.{ℕ, List, sym, ◌∙◌, ap, subst, Watch, watch_at, since_of, IsLastBelow, IsUnwatchedBehind}
+use Rattle.sas_mutex.proofs.Imports.{ℕ, List, sym, ◌∙◌, ap, subst, Watch, watch_at, since_of, IsLastBelow}
 use Rattle.sas_mutex.proofs.FallingGroups.{falls_then}
-use Rattle.sas_mutex.proofs.Watched.{unwatched_behind, unwatched_if_over, over_now, stays_unwatched, stay_then}
+use Rattle.sas_mutex.proofs.Watched.{IsUnwatchedBehind, unwatched_behind, unwatched_if_over, over_now, stays_unwatched, stay_then}
 use Rattle.sas_mutex.proofs.greatest.recheck_watchers.Goals as goal
 
 pub loop-next-preserved-then-counts : goal.loop-next-preserved-then-counts

@@ -1,5 +1,6 @@
 -- After the next watch of the group, no watch of the group is valid any more.
-use Rattle.sas_mutex.proofs.Imports.{ℕ, ◌+◌, Option, Some, None, Falls, IsReady, IsUnwatchedBehind, StayUnwatched}
+use Rattle.sas_mutex.proofs.Imports.{ℕ, ◌+◌, Option, Some, None, Falls, IsReady, StayUnwatched}
+use Rattle.sas_mutex.proofs.Watched.{IsUnwatchedBehind}
 use Rattle.sas_mutex.proofs.greatest.recheck_watchers.Given as goal
 
 abbrev pub invariant-loop-next : goal.invariant-loop-next

@@ -8,7 +8,7 @@ use Rattle.sas_mutex.proofs.joint.find_broken_by_effect.Goals.{then-not-note, el
 pub some_undecided-requires-clause-kept : goal.some_undecided-requires-clause-kept
 some_undecided-requires-clause-kept g c k d lt =
     let below = ((c.groups-groups.ensures _).0 (Contains-get_or c.groups-groups.result.now k d lt)).exists in
-    let as_many = ap length c.as_slice.ensures ∙ c.requires.one_each in omega arith
+    let as_many = ap length c.as_slice.ensures ∙ c.requires.room.one_each in omega arith
 
 pub some_undecided-requires-clause-verdicts : goal.some_undecided-requires-clause-verdicts
 some_undecided-requires-clause-verdicts g c k d lt =
@@ -18,7 +18,7 @@ some_undecided-requires-clause-verdicts g c k d lt =
 pub returns-then-not-some_undecided-clause-so_far : goal.returns-then-not-some_undecided-clause-so_far
 returns-then-not-some_undecided-clause-so_far g c =
     let f = c.args.firing.now in
-    let kept = c.args.kept.now in
+    let kept = c.args.family.now.kept in
     let verdicts = c.args.verdicts.now in
     next_effect f.task kept f.operator f.effect verdicts
     (λ place has. decided_already f.task kept f.operator f.effect place verdicts has.exists
@@ -38,7 +38,7 @@ judge_groups-requires-clause-notes g c =
 pub returns-clause-so_far : goal.returns-clause-so_far
 returns-clause-so_far g c =
     let f = c.args.firing.now in
-    let kept = c.args.kept.now in
+    let kept = c.args.family.now.kept in
     elim c.if-not-note.branch [
       | then-not-note w ↦
           (let after = w.judge_groups.new.verdicts in
@@ -50,9 +50,15 @@ returns-clause-so_far g c =
           let never = subst (NeverFires f) c.as_slice-3.ensures (c.note.ensures.yes w.if-not-note.false) in
           rw w.verdicts-is (next_effect f.task kept f.operator f.effect verdicts
           (λ place has. so_far_by f.task kept f.operator f.effect f.operator (f.effect + 1) place (verdict_at verdicts place)
-          (λ out. one_effect_more f.task kept f.operator f.effect place (λ _. clash_never_fires f.task kept place has.exists c.requires.one_each f.operator f.effect never))
+          (λ out. one_effect_more f.task kept f.operator f.effect place (λ _. clash_never_fires f.task kept place has.exists c.requires.room.one_each f.operator f.effect never))
           (c.requires.so_far.are place has.exists)) c.requires.so_far))
     ]
 
 pub note-requires-clause-one_each : goal.note-requires-clause-one_each
-note-requires-clause-one_each g c = ap length c.as_slice-3.ensures ∙ c.requires.one_each
+note-requires-clause-one_each g c = ap length c.as_slice-3.ensures ∙ c.requires.room.one_each
+
+pub returns-clause-room : goal.returns-clause-room
+returns-clause-room g c = elim c.if-not-note.branch [
+  | then-not-note w ↦ rw w.family-is w.judge_groups.ensures.room
+  | else-not-note w ↦ rw w.family-is c.requires.room
+]

@@ -5,7 +5,7 @@ use Rattle.sas_mutex.proofs.joint.judge_groups.Goals as goal
 pub loop-group-preserved : goal.loop-group-preserved
 loop-group-preserved g c =
     let p = c.args.firing.now.task in
-    let kept = c.args.kept.now in
+    let kept = c.args.family.now.kept in
     let operator = c.args.firing.now.operator in
     let effect = c.args.firing.now.effect in
     let groups = c.args.groups.now in
@@ -23,11 +23,12 @@ loop-group-preserved g c =
           ])
           judged;
       kept = turn.kept ∙ inv.kept;
+      room = turn.room;
       notes = subst (λ (xs : List Bool). IsNotedAt c.args.firing.now xs c.judge_group.new.marks) inv.kept turn.notes;
     }
 
 pub returns-clause-judged : goal.returns-clause-judged
 returns-clause-judged g c =
     let p = c.args.firing.now.task in
-    All-from_get_or (λ (place : ℕ). IsVerdictSoFar p c.args.kept.now c.args.firing.now.operator (c.args.firing.now.effect + 1) place (verdict_at c.loop-group.verdicts place)) c.args.groups.now 0
+    All-from_get_or (λ (place : ℕ). IsVerdictSoFar p c.args.family.now.kept c.args.firing.now.operator (c.args.firing.now.effect + 1) place (verdict_at c.loop-group.verdicts place)) c.args.groups.now 0
     (λ k lt. c.loop-group.invariant.judged k (omega arith))

@@ -31,7 +31,7 @@ returns-clause-is g c = iff_yes (λ other lt has.
     let p = c.self.inside.task.now in
     let facts = c.facts_of-facts.result.now in
     let fact : Fact = sets (effect_at (operator_of c.args.self.now) other) in
-    let distinct = subst (λ (xs : List Fact). AreDistinct xs (group_at p c.args.group)) (sym c.facts_of-facts.ensures) (c.self.invariant.1.facts c.args.group group.exists) in
+    let distinct = subst (λ (xs : List Fact). AreDistinct xs (group_at p c.args.group)) (sym c.facts_of-facts.ensures) (c.self.invariant.1.facts c.args.group group) in
     let same = subst (λ (s : EffectPlace). AreDistinct facts (group_at s.task c.args.group)) c.self.view_is distinct in
     let among = (same.same fact).1 has in
     c.loop-place.invariant.single among.0 fact (let within = among.1 in let end = c.loop-place-test.false in omega arith) other

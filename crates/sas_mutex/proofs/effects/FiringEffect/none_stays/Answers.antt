@@ -1,5 +1,5 @@
 -- One more run can't remain, or a fact of the group is known.
-use Rattle.sas_mutex.proofs.Imports.{iff_not, ◌≡◌, [], drop, subst, arith, refl, get_or_default, drop_all, operator_at, effect_at, FactExists, known, WellRanged, group_fact_exists, one_note_shows, iff_yes, iff_no, iff_other, common_steps, EffectPlace, IsKept, IsUnknown, IsGoneAt}
+use Rattle.sas_mutex.proofs.Imports.{iff_not, ◌≡◌, [], drop, subst, arith, refl, get_or_default, drop_all, operator_at, effect_at, FactExists, known, WellRanged, group_fact_exists, one_note_shows, iff_yes, iff_no, iff_other, common_steps, EffectPlace, IsKept, IsUnknownAt, IsGoneAt}
 use Rattle.sas_mutex.proofs.GoneRuns.{such_none, such_all, next_within, next_on_one, next_too, such_more}
 use Rattle.sas_mutex.proofs.KnownFacts.{none_if_not_one}
 use Rattle.sas_mutex.proofs.FromNotes.{known_one_is_all}
@@ -39,7 +39,7 @@ run_is_gone-requires-clause-unknown g c =
     let o = operator_at p c.args.self.now.operator in
     let e = effect_at o c.args.self.now.effect in
     let place = c.args.group in
-    next_too c.as_slice-length-items.result.now c.loop-length.length-index c.loop-length-test.true c.loop-length.invariant (IsUnknown o e) c.split_at.result.0.now c.split_at.ensures.front
+    next_too c.as_slice-length-items.result.now c.loop-length.length-index c.loop-length-test.true c.loop-length.invariant (IsUnknownAt c.args.self.now) c.split_at.result.0.now c.split_at.ensures.front
     (λ f among in_known. none_if_not_one p (known o e.conditions []) place (IsKept p c.args.kept.now) (place, c.requires.group, refl)
     c.requires.notes.noted.are.apart c.noted.result (c.noted.ensures c.args.kept.now c.requires.notes) (c.only.ensures.none c.in_default.is)
     f (record { among = in_known; has = record { exists = c.requires.group.exists; among = among } }))
