@@ -1,9 +1,9 @@
 // The program: its arguments, its devices and how it ends.
-ghost use Rattle.std.specs.Prelude.{◌≡◌, false, All};
+ghost use Rattle.std.specs.Prelude.{◌≡◌, false, All, Some};
 ghost use Rattle.std.specs.Option.{option_copied};
 ghost use Rattle.std.specs.String.{string_bytes};
 ghost use Rattle.sas_requests.specs.Inputs.{IsLabel};
-ghost use Rattle.sas_tool.specs.Statuses.{error_line, exit_status};
+ghost use Rattle.sas_tool.specs.Statuses.{error_line, exit_status, input_of_line};
 
 use crate::arguments::{Job, Source, WordsFault, command};
 use crate::plan_files::{PlanFiles, are_label_texts, name_input_twice};
@@ -78,7 +78,11 @@ struct Ended<'s> {
 
 impl<'s> Ended<'s> {
     /// Returns the end of a run that can't open this input.
-    fn unopened(line: &'static str, source: &'s Option<Source>) -> Ended<'s> {
+    fn unopened(line: &'static str, source: &'s Option<Source>) -> Ended<'s>
+        ensures status { result.status ≡ 3 }
+        ensures line { option_copied result.line ≡ Some line.now }
+        ensures about { option_copied result.about ≡ source.now }
+    {
         Ended {
             status: FAULT,
             line: Some(line),
@@ -87,7 +91,11 @@ impl<'s> Ended<'s> {
     }
 
     /// Returns the end of a run that answered so, and read this input last.
-    fn of(answered: &Result<Status, ToolFault>, last: &'s Option<Source>) -> Ended<'s> {
+    fn of(answered: &Result<Status, ToolFault>, last: &'s Option<Source>) -> Ended<'s>
+        ensures status { result.status ≡ exit_status answered.now }
+        ensures line { option_copied result.line ≡ error_line answered.now }
+        ensures about { option_copied result.about ≡ input_of_line answered.now last.now }
+    {
         let (status, line) = ending(answered);
         let about = match answered {
             Err(ToolFault::Read | ToolFault::TooLong) => last.as_ref(),
