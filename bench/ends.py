@@ -18,8 +18,8 @@ from cases import Case, files_of
 from count import answer_word, counted
 from make import case_input
 
-# `print` removes the CRs at the end, and `steps` appends a line and its LF one after the other
-MOST = {"check": 1.25, "show": 1.25, "plan": 1.2, "steps": 1.6, "print": 2.6}
+# `print` removes the CRs of the sections at the end
+MOST = {"check": 1.2, "show": 1.2, "plan": 1.15, "steps": 1.22, "print": 1.33}
 SIZES = [("gripper", 2), ("blocks", 2)]
 REQUESTS = ["check", "show", "print", "plan", "steps"]
 STEPS = 20000

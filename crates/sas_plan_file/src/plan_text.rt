@@ -45,7 +45,7 @@ impl PlanText {
         Ok(())
     }
 
-    /// Appends the line that consists of the first `count` bytes. If LF follows them, it is appended with them, which is faster.
+    /// Appends the line that consists of the first `count` bytes. It is appended with the byte after it, which is LF, or a CR that becomes LF.
     fn keep_first(&mut self, bytes: &[u8], count: usize) -> Result<(), Kind>
         requires { count < length bytes.now }
         ensures ok { OnOk result (self.new.text.items
@@ -53,10 +53,14 @@ impl PlanText {
         ensures closed { self.new.closed ≡ self.old.closed }
         ensures err { IfErr result (λ k. k ≡ Kind.Memory) }
     {
-        if bytes[count] != b'\n' {
-            return self.keep(&bytes[..count]);
+        // The append stands twice, since a test after it would cost lines with LF a few instructions each.
+        if bytes[count] == b'\n' {
+            self.text.extend_from_slice(&bytes[..count + 1])?;
+            return Ok(());
         }
         self.text.extend_from_slice(&bytes[..count + 1])?;
+        let last = self.text.len() - 1;
+        self.text[last] = b'\n';
         Ok(())
     }
 }
