@@ -33,7 +33,7 @@ module _ (t : Parts) (s : List ℕ) (w : Work) (k : ℕ) (ranged : WellRanged t)
   pub fires : Fired t w.layer s (rule_at t k)
   fires = fired_there t w.layer s k no_effect ranged layered run.state run.forced on.exists (record { on = on.on; can = on.can; hold = hold; new = changes })
 
-  -- by these writes
+  -- what these writes do
   pub fires_by : (s' : List ℕ) (w' : Work) → w'.sources ≡ set w.sources (rule_at t k).var k
       → s' ≡ set s (rule_at t k).var (rule_at t k).new → w'.stack.items ≡ w.stack.items ++ (rule_at t k).var ∷ []
       → w'.layer ≡ w.layer → w'.counters ≡ w.counters → vec_capacity w.stack ≤ vec_capacity w'.stack → FiresRule t k s w s' w'

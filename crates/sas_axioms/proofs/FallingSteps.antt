@@ -14,6 +14,7 @@ noted_taken p layer rule s0 s a a' is takes noted m other le on = elim (noted m 
   ]
 ]
 
+-- and the update has come as far as before
 pub updated_taken : (p : Parts) (layer rule : ℕ) (s0 s : List ℕ) (w : Work) (a a' : Agenda) → IsRuleOn p layer rule → RemovesFromAgenda layer rule w.agenda a → a'.noted ≡ a.noted
     → IsUpdatedTo p (layer + 1) s0 s w → IsUpdatedTo p (layer + 1) s0 s (with_agenda w a')
 updated_taken p layer rule s0 s w a a' is takes same to = record {

@@ -81,8 +81,9 @@ pub record IsOnTrack (p : Parts) (layer : ℕ) (s : List ℕ) (w : Work) : Type 
   pub from : NoLowerLayer layer w.agenda
   pub ready : All (λ rule. IsRuleOn p layer rule) w.agenda.ready.items
 
--- On this layer and higher ones, s has the derived values of the settled state s0, the rules that
--- hold in exactly one of s0 and s are noted, and sources hold in s0.
+-- On this layer and higher ones, s has the derived values of the settled state s0, whose sources
+-- hold in s0, and the rules that hold in exactly one of s0 and s are noted. On each layer, variables
+-- that differ from their defaults have sources.
 pub record IsUpdatedTo (p : Parts) (layer : ℕ) (s0 s : List ℕ) (w : Work) : Type 0 where
   pub settled : IsSettled p s0
   pub same : SameFrom p layer s0 s
@@ -90,7 +91,7 @@ pub record IsUpdatedTo (p : Parts) (layer : ℕ) (s0 s : List ℕ) (w : Work) : 
   pub have : (m : ℕ) → HaveSources p m s w.sources
   pub held : (m : ℕ) → layer ≤ m → SourcesHold p m w.sources s s0
 
--- the task is layered, and the layers below `layer` are settled in s
+-- The task is layered. Layers below `layer` are settled in s, and the others are as in s0.
 pub record IsBetween (p : Parts) (s0 : List ℕ) (layer : ℕ) (s : List ℕ) (w : Work) : Type 0 where
   pub layered : IsLayered p
   pub track : IsOnTrack p layer s w
@@ -119,7 +120,7 @@ pub record IsRising (p : Parts) (s0 s : List ℕ) (w : Work) : Type 0 where
   pub fired : (rule : ℕ) → IsRuleOn p w.layer rule → IsHolding p s rule
       → IsTrue (differs p s (rule_at p rule).var) ⊎ IsAwaited w.agenda w.layer rule
 
--- all of this has been done: none of the rules of the current layer is noted or ready
+-- none of the rules of the current layer is noted or ready any more
 pub record HasRisen (p : Parts) (s0 s : List ℕ) (w : Work) : Type 0 where
   pub rising : IsRising p s0 s w
   pub behind : AreBehind w.layer w.agenda

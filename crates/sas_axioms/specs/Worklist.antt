@@ -51,13 +51,14 @@ pub record WorkHasRoom (p : Parts) (w : Work) : Type 0 where
   pub variables : length p.variables ≤ vec_capacity w.stack
   pub sources : length w.sources ≡ length p.variables
 
--- the rules of the current layer are being fired
+-- rules of the current layer are being fired
 pub record IsFiring (p : Parts) (s stack : List ℕ) (w : Work) : Type 0 where
   pub room : WorkHasRoom p w
   pub running : IsRunning p w.layer s stack
   pub given : AreGiven p w.layer s w.sources
 
--- and the conditions on the variables on the stack are still to be counted
+-- Rules of the current layer are being fired. Those without open conditions have fired, and the
+-- conditions on the variables on the stack are still to be counted.
 pub record IsAtWork (p : Parts) (s stack : List ℕ) (w : Work) : Type 0 where
   pub firing : IsFiring p s stack w
   pub counts : AreCountedBy p (value_seen p s stack) w.counters
