@@ -1,5 +1,5 @@
 -- Operators, by their numbers, go through in at most one way. What they were chosen for.
-use Rattle.sas_run.proofs.Imports.{◌≡◌, ℕ, zero, suc, ◌+◌, ◌<◌, List, [], ◌∷◌, ◌++◌, length, take, get_or, refl, sym, ◌∙◌, ap, subst, inl, inr, arith, cases_eq, take-append_seam, get_or-append_seam, get_or_append_left, length-append, All, All-nil, All-cons, Operator, Parts, operator_at, IsLayered, Step, IsInitial, step_is_one, IsChosen, LeadFrom, LeadsTo, Choice, Found, OperatorsLead, GoThrough, GoesThrough, Makes}
+use Rattle.sas_run.proofs.Imports.{◌≡◌, ℕ, zero, suc, ◌<◌, List, [], ◌∷◌, ◌++◌, length, take, get_or, refl, sym, ◌∙◌, ap, subst, inl, inr, arith, cases_eq, take-append_seam, get_or-append_seam, get_or_append_left, length-append, All, All-nil, All-cons, Operator, Parts, operator_at, IsLayered, Step, IsInitial, step_is_one, IsChosen, LeadFrom, LeadsTo, Choice, Found, OperatorsLead, GoThrough, GoesThrough, Makes}
 use Rattle.std.proofs.lemmas.List.{take-append-le}
 use Rattle.sas_run.proofs.Determined.{initial_is_one}
 

@@ -75,7 +75,7 @@ pub use Rattle.sas_run.specs.NumberFaults.{IsStuck, IsMissed, IsFaultByNumbers}
 pub use Rattle.sas_run.specs.OtherSensesLaws.{ValidIsUsuallyValid, ValidInFastDownward, EndsInFastDownward}
 pub use Rattle.sas_run.specs.PlainSteps.{AreMade, IsPlainStep, OldHolds}
 pub use Rattle.sas_run.specs.Plans.{IsApplicable, NoneApplicable, IsChosen, LeadFrom, LeadsTo, IsValid, cost_of_all}
-pub use Rattle.sas_run.specs.Running.{IsChoice, StepFailsBy, StepFails, IsFinalVerdict, MakesStep, Steps, IsApplied, IsFirstConflict, IsFirstMissedFact, IsFirstChosen, IsStepFault}
+pub use Rattle.sas_run.specs.Running.{IsChoice, StepFailsBy, StepFails, IsFinalVerdict, MakesStep, Steps, IsApplied, IsFirstConflict, IsFirstMissedFact, IsFirstChosen, IsLater, IsLaterIfAny, IsStepFault}
 pub use Rattle.sas_run.specs.Runs.{Run, steps_before, RunEndsWith, IsEnding, state_at, last_state, StepsSucceed}
 unfoldable pub use Rattle.sas_run.specs.Shapes.{shape_of}
 pub use Rattle.sas_run.specs.StepNames.{AreStepNames, step_names, AreStepsOf, Numbers, HaveNumbers}

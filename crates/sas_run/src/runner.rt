@@ -186,17 +186,15 @@ pub fn first_applicable<T: Grounded>(
     requires state { IsState task.now.variables state.now }
     ensures { IsFirstChosen task.now state.now first result }
 {
-    let mut next = Some(first);
-    while let Some(operator) = next {
-        if is_applicable(task, state, operator) {
-            return Some(operator);
-        }
-        next = next_in(nexts, operator);
+    if is_applicable(task, state, first) {
+        return Some(first);
     }
-    None
+    later_applicable(task, nexts, state, first)
 }
 
-/// Returns the first applicable operator among the later ones of the same name. `nexts` has, for each of them, the next one.
+/// Returns the first applicable operator among the later ones of the same name. `nexts` has, for each of them, the next one. It isn't
+/// inlined, since most steps need only the first operator of their name.
+#[inline(never)]
 pub fn later_applicable<T: Grounded>(
     task: &Layered<T>,
     nexts: &[Option<u32>],
@@ -208,6 +206,12 @@ pub fn later_applicable<T: Grounded>(
     requires state { IsState task.now.variables state.now }
     ensures { IsLaterIfAny task.now state.now operator result }
 {
-    let next = next_in(nexts, operator)?;
-    first_applicable(task, nexts, state, next)
+    let mut next = next_in(nexts, operator);
+    while let Some(later) = next {
+        if is_applicable(task, state, later) {
+            return Some(later);
+        }
+        next = next_in(nexts, later);
+    }
+    None
 }

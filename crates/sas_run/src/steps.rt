@@ -25,6 +25,7 @@ pub enum StepFault {
 }
 
 /// Returns the operator's first precondition that doesn't hold, or `None` if it is applicable.
+#[inline(always)]
 pub fn missed_precondition<T: Grounded>(
     layered: &Layered<T>,
     operator: u32,

@@ -1,14 +1,9 @@
--- One more operator isn't applicable.
-use Rattle.sas_run.proofs.Imports.{◌≡◌, get_or, None, Some, sym, ◌∙◌, true≢false}
-use Rattle.sas_run.proofs.NamedAlike.{SearchedTo, search_goes_on}
+-- If the first one isn't applicable, a later one is chosen.
+use Rattle.sas_run.proofs.Imports.{sym, ◌∙◌, true≢false}
+use Rattle.sas_run.proofs.NamedAlike.{chosen_later}
 use Rattle.sas_run.proofs.runner.first_applicable.Goals as goal
 
-pub loop-next-preserved : goal.loop-next-preserved
-loop-next-preserved g c =
-    let p = c.args.task.now in
-    let s = c.args.state.now in
-    let operator = c.in-Some.operator in
-    let searched : SearchedTo p s c.args.first (Some operator) = rw c.in-Some.is at c.loop-next.invariant in
-    let is : c.next_in-next.result ≡ get_or c.args.nexts.now operator None = c.next_in-next.ensures in
-    search_goes_on p s c.args.first operator c.args.nexts.now c.next_in-next.result c.requires.chain searched is
-    (λ holds. true≢false (sym (c.is_applicable.ensures.1 holds) ∙ c.if-is_applicable.false))
+pub returns : goal.returns
+returns g c =
+    chosen_later c.args.task.now c.args.state.now c.args.first c.later_applicable.result
+    (λ holds. true≢false (sym (c.is_applicable.ensures.1 holds) ∙ c.if-is_applicable.false)) c.later_applicable.ensures
