@@ -1,11 +1,11 @@
 -- Operators and rules begin at their lines: the heights of all that stands before them are summed up.
-use Rattle.sas_task_file.proofs.Imports.{◌≡◌, ℕ, zero, suc, ◌+◌, ◌<◌, List, [], ◌∷◌, ◌++◌, length, codes, refl, sym, ap, ◌∙◌, append_assoc, length-append, arith, Fact, Variable, Effect, Operator, Parts, flat_map, TaskLine, word, name, number, signed, fact, effect, head, single_line, between, counted, version_lines, metric_lines, variable_lines, group_lines, state_lines, goal_lines, operator_lines, rule_lines, task_layout}
+use Rattle.sas_task_file.proofs.Imports.{◌≡◌, ℕ, zero, suc, ◌+◌, ◌<◌, List, [], ◌∷◌, ◌++◌, length, codes, refl, sym, ap, ◌∙◌, append_assoc, length-append, arith, Fact, Variable, Effect, Operator, Parts, flat_map, TaskLine, word, name, number, signed, fact, effect, head, single_line, between, counted, version_lines, metric_lines, variable_lines, group_lines, state_lines, goal_lines, operator_lines, rule_lines}
 use Rattle.std.proofs.Common.{take, drop, get_or}
 use Rattle.std.proofs.lemmas.List.Sums.{sum_by-cons}
 use Rattle.std.specs.List.{sum_by}
 use Rattle.sas_core.specs.Grounded.{operator_at, rule_at}
-use Rattle.sas_core.specs.LineNumbers.{variable_height, group_height, operator_height, rule_height, operator_line, rule_line}
-use Rattle.sas_task_file.specs.Beginnings.{BeginAt, OperatorsBegin, RulesBegin}
+use Rattle.sas_core.specs.LineNumbers.{variable_height, group_height, operator_height, rule_height}
+use Rattle.sas_task_file.specs.Beginnings.{OperatorsBegin, RulesBegin}
 
 -- ---- how many lines there are
 

@@ -1,5 +1,5 @@
 -- The blocks of a task file are stretches: a variable, a mutex group, an operator, a rule.
-use Rattle.sas_task_file.proofs.Imports.{◌≡◌, ℕ, suc, ◌+◌, ◌-◌, List, [], ◌∷◌, ◌++◌, length, refl, sym, ap, ◌∙◌, append_assoc, codes, Option, Fact, Variable, Effect, Operator, AllByRecursion, Change, Place, Tracker, SoFar, Due, FixedWord, TaskState, table_node, state_after, before, TaskLine, word, name, number, signed, fact, effect, head, word_slot, name_slot, number_slot, signed_slot, fact_slot, effect_slot, head_slot, task_slot, slot_of_due, fixed_word_bytes, any_number, positive_number, single_line, between, counted, variable_lines, group_lines, operator_lines, rule_lines, test_of_due, name_in, number_in, signed_in, fact_in, effect_in, head_in, behind_variable, behind_group, behind_operator, behind_rule}
+use Rattle.sas_task_file.proofs.Imports.{◌≡◌, ℕ, suc, ◌-◌, List, [], ◌∷◌, ◌++◌, length, refl, ap, ◌∙◌, append_assoc, codes, Fact, Variable, Effect, Operator, AllByRecursion, Change, Place, Tracker, SoFar, Due, FixedWord, TaskState, table_node, state_after, before, TaskLine, word, name, number, signed, fact, effect, head, word_slot, name_slot, number_slot, signed_slot, fact_slot, effect_slot, head_slot, task_slot, slot_of_due, fixed_word_bytes, any_number, positive_number, single_line, between, counted, variable_lines, group_lines, operator_lines, rule_lines, test_of_due, name_in, number_in, signed_in, fact_in, effect_in, head_in, behind_variable, behind_group, behind_operator, behind_rule}
 use Rattle.sas_task_file.specs.declared.places.Place.TheVariants as place
 use Rattle.sas_task_file.specs.declared.marks.Due.TheVariants as due
 use Rattle.sas_task_file.specs.declared.marks.FixedWord.TheVariants as fixed

@@ -1,6 +1,6 @@
 -- The counts of a task are those of a tracker over its lines. After the same lines of a task, one
 -- count applies, or none.
-use Rattle.sas_task_file.proofs.Imports.{ranges_of, ◌≡◌, ℕ, suc, ◌+◌, ◌-◌, List, [], ◌∷◌, ◌++◌, length, map, refl, sym, ap, ◌∙◌, append_assoc, append-nil, map-append, arith, codes, length-map, Option, Some, None, slice_get, flat_map, Variable, Parts, WellRanged, IsBegun, cut_at, TaskLine, word, number, fact, single_line, version_lines, metric_lines, variable_lines, group_lines, operator_lines, rule_lines, task_layout, task_line_bytes, task_format, Tracker, tracker_start, track_line, track, row_in, number_in, Counts, ListCount, after_count, counts_start, counts_after, count_at, before_items, list_counts, section_counts, variable_counts, group_counts, operator_counts, rule_counts, task_counts, IsCounted, OneCount, SomeCount}
+use Rattle.sas_task_file.proofs.Imports.{ranges_of, ◌≡◌, ℕ, suc, ◌+◌, ◌-◌, List, [], ◌∷◌, ◌++◌, length, map, refl, sym, ap, ◌∙◌, append_assoc, append-nil, map-append, arith, codes, length-map, Option, Some, None, slice_get, flat_map, Variable, Parts, WellRanged, cut_at, TaskLine, word, number, fact, single_line, version_lines, metric_lines, variable_lines, group_lines, operator_lines, rule_lines, task_layout, task_line_bytes, Tracker, tracker_start, track_line, track, row_in, number_in, Counts, ListCount, after_count, counts_start, counts_after, count_at, list_counts, section_counts, variable_counts, group_counts, operator_counts, rule_counts, task_counts, IsCounted, OneCount, SomeCount}
 use Rattle.sas_task_file.specs.declared.places.Place.TheVariants as place
 use Rattle.sas_task_file.proofs.TaskSections.{InRanges, state_paired}
 use Rattle.sas_task_file.proofs.TrackedSections.{variables_scan, groups_scan, operators_scan, rules_scan}

@@ -1,7 +1,6 @@
 -- The counts of lines along a tracker: part by part, they are those of a task.
-use Rattle.sas_task_file.proofs.Imports.{◌≡◌, ℕ, suc, ◌+◌, ◌-◌, List, [], ◌∷◌, ◌++◌, length, map, refl, sym, ap, subst, ◌∙◌, append_assoc, append-nil, arith, codes, length-append, length-map, Option, Some, None, flat_map, Fact, Variable, Operator, Effect, Place, Move, TaskLine, word, name, number, signed, fact, effect, head, single_line, variable_lines, group_lines, operator_lines, rule_lines, Tracker, track_line, track, row_in, number_in, Counts, ListCount, after_count, counts_after, count_at, Counted, in_order, uncounted, before_items, list_counts, section_counts, variable_counts, group_counts, operator_counts, rule_counts}
+use Rattle.sas_task_file.proofs.Imports.{◌≡◌, ℕ, suc, ◌+◌, ◌-◌, List, [], ◌∷◌, ◌++◌, length, map, refl, sym, ap, subst, ◌∙◌, append_assoc, append-nil, arith, codes, length-append, length-map, Option, Some, None, flat_map, Fact, Variable, Operator, Effect, Place, TaskLine, word, name, number, signed, fact, effect, head, single_line, variable_lines, group_lines, operator_lines, rule_lines, Tracker, track_line, track, row_in, number_in, Counts, ListCount, after_count, counts_after, count_at, Counted, in_order, before_items, list_counts, section_counts, variable_counts, group_counts, operator_counts, rule_counts}
 use Rattle.sas_task_file.specs.declared.places.Place.TheVariants as place
-use Rattle.sas_task_file.specs.declared.places.Move.TheVariants as moves
 use Rattle.sas_task_file.proofs.Tracking.{track-append}
 
 -- the counts of lines after a tracker, of which the first is line k

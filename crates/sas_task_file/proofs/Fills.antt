@@ -1,12 +1,11 @@
 -- From any state that lines lead to, fillings lead to the end.
-use Rattle.std.proofs.lemmas.Grind.{common_steps}
-use Rattle.sas_task_file.proofs.Imports.{◌≡◌, ℕ, zero, suc, ◌+◌, ◌*◌, ◌<◌, Bool, true, List, [], ◌∷◌, ◌++◌, length, length-append, refl, sym, ap, subst, ◌∙◌, arith, IsTrue, Option, Some, None, nat_lt, AllByRecursion, IsNumber, Parts, Place, Due, Tracker, SoFar, TaskLine, TaskSlot, task_slot, slot_of_due, is_from, number_in, value_in, row_at, row_in, after_move, test_of_due, TaskState, table_start, state_after, ended, node_of_due, number_filling, filling, last_slot, AreFillings}
+use Rattle.sas_task_file.proofs.Imports.{◌≡◌, ℕ, zero, suc, ◌+◌, ◌*◌, ◌<◌, Bool, true, List, [], ◌∷◌, ◌++◌, length, length-append, refl, sym, ap, subst, ◌∙◌, arith, IsTrue, Option, Some, None, AllByRecursion, IsNumber, Parts, Place, Due, Tracker, TaskLine, TaskSlot, task_slot, slot_of_due, is_from, number_in, value_in, row_at, row_in, after_move, test_of_due, TaskState, table_start, state_after, node_of_due, number_filling, filling, last_slot, AreFillings}
 use Rattle.sas_task_file.specs.declared.places.Place.TheVariants as place
 use Rattle.sas_task_file.specs.declared.marks.Due.TheVariants as due
 use Rattle.sas_task_file.proofs.Stretches.{Ends, LeadsOn, Allowed}
 use Rattle.sas_task_file.proofs.TaskEnds.{IsOver, nothing_if_over}
-use Rattle.sas_task_file.proofs.TableLines.{due_node, table_line, of_table_line, IsDueLine}
-use Rattle.sas_task_file.proofs.TaskSections.{less, is_less, between_of}
+use Rattle.sas_task_file.proofs.TableLines.{table_line, of_table_line, IsDueLine}
+use Rattle.sas_task_file.proofs.TaskSections.{less, between_of}
 
 abbrev tracker_with : Place → ℕ → ℕ → Tracker → Tracker
 tracker_with p left more t = record t { place = p; left = left; more = more }

@@ -1,5 +1,5 @@
 -- The first wrong number in a list of numbers.
-use Rattle.sas_task_file.proofs.Imports.{◌≡◌, ℕ, zero, suc, ◌+◌, ◌*◌, Bool, true, false, List, [], ◌∷◌, ◌++◌, length, Option, Some, None, refl, sym, ap, ◌∙◌, arith, none-some, flat_map, if◌then◌else◌, drop, slice_get, nat_tests, Fact, Variable, Effect, range_of, WrongWord, TaskLine, effect, TaskSlot, task_slot, Bounded, below, first_wrong, fact_bounds, change_bounds, line_bounds, HasWrong, FirstWrong, ranges_of, range_in, Spells}
+use Rattle.sas_task_file.proofs.Imports.{◌≡◌, ℕ, zero, suc, ◌+◌, ◌*◌, Bool, true, false, List, [], ◌∷◌, ◌++◌, length, Option, Some, None, refl, sym, ap, ◌∙◌, arith, none-some, flat_map, if◌then◌else◌, drop, slice_get, nat_tests, Fact, Effect, WrongWord, TaskLine, effect, TaskSlot, task_slot, Bounded, below, first_wrong, fact_bounds, change_bounds, line_bounds, HasWrong, FirstWrong, Spells}
 use Rattle.sas_task_file.proofs.WrongWords.{may_stand, wrong_at}
 use Rattle.sas_task_file.proofs.TaskGrammar.{task_grammar}
 

@@ -1,10 +1,10 @@
 -- If a fact, a head or an effect is expected, each line of its shape with allowed numbers continues
 -- a task.
-use Rattle.sas_task_file.proofs.Imports.{◌≡◌, ℕ, zero, suc, List, [], ◌∷◌, ◌++◌, map, map-append, refl, sym, ap, subst, ◌∙◌, Option, Some, None, IsTrue, nat_lt, slice_index, flat_map, list_all, Fact, Parts, WellRanged, IsBegun, after_append, after_ends, and_from, Due, TaskLine, fact, effect, head, task_slot, slot_of_due, task_line_bytes, task_layout, task_format, TaskLineFits, range_in, value_in, fact_in_ranges, change_in_ranges, ranges_of, test_of_due, TaskState, table_node, table_start, state_after, row_in, Tracker, track, tracker_start, mark_in, Bounded, fact_bounds, change_bounds, line_bounds}
+use Rattle.sas_task_file.proofs.Imports.{◌≡◌, ℕ, zero, suc, List, [], ◌∷◌, ◌++◌, map, map-append, refl, sym, ap, subst, ◌∙◌, Option, Some, None, IsTrue, nat_lt, slice_index, flat_map, list_all, Fact, Parts, WellRanged, IsBegun, after_append, after_ends, and_from, Due, TaskLine, fact, effect, head, task_slot, slot_of_due, task_line_bytes, task_layout, task_format, TaskLineFits, range_in, value_in, fact_in_ranges, change_in_ranges, ranges_of, test_of_due, TaskState, table_node, table_start, state_after, row_in, Tracker, track, tracker_start, Bounded, fact_bounds, change_bounds, line_bounds}
 use Rattle.sas_task_file.specs.declared.marks.Due.TheVariants as due
-use Rattle.sas_task_file.proofs.DueBehind.{belongs_behind, ranges_behind, speaks_behind_variables}
+use Rattle.sas_task_file.proofs.DueBehind.{ranges_behind, speaks_behind_variables}
 use Rattle.sas_task_file.proofs.Stretches.{Ends, LeadsOn}
-use Rattle.sas_task_file.proofs.TableLines.{table_line, not_over, of_table_line, tracked, TableLine}
+use Rattle.sas_task_file.proofs.TableLines.{table_line, not_over, of_table_line, tracked}
 use Rattle.sas_task_file.proofs.TaskFilling.{split}
 use Rattle.sas_task_file.proofs.TaskGrammar.{task_grammar}
 use Rattle.sas_task_file.proofs.WrongWords.{AllStand, HasBounds}

@@ -1,7 +1,6 @@
 -- Stretches of a task file. From a state, lines lead through a stretch exactly if they are those of
 -- a good value. The task is composed of stretches.
-use Rattle.sas_task_file.proofs.Imports.{◌≡◌, ℕ, zero, suc, ◌-◌, List, [], ◌∷◌, ◌++◌, length, refl, sym, ap, subst, ◌∙◌, append_assoc, append-nil, arith, flat_map, flat_map-cons, AllByRecursion, Parts, IsAllowed, OneLine, After, LeadsToEnd, before, ended, after_append, Due, FixedWord, TaskLine, number, single_line, counted, between, word, task_slot, slot_of_due, fixed_word_bytes, task_format, TaskLineFits, test_of_due, TaskState, table_node, state_after}
-use Rattle.sas_task_file.specs.declared.marks.Due.TheVariants as due
+use Rattle.sas_task_file.proofs.Imports.{◌≡◌, ℕ, zero, suc, ◌-◌, List, [], ◌∷◌, ◌++◌, length, refl, sym, ap, subst, ◌∙◌, append_assoc, append-nil, arith, flat_map, flat_map-cons, AllByRecursion, Parts, IsAllowed, OneLine, After, LeadsToEnd, before, ended, after_append, Due, TaskLine, number, single_line, counted, task_slot, slot_of_due, task_format, TaskLineFits, test_of_due, TaskState, table_node, state_after}
 
 -- the lines lead from the state to the end with these parts
 abbrev pub Ends : TaskState → List TaskLine → Parts → Type 0

@@ -1,6 +1,6 @@
 -- Lines that begin a task can be completed by fillings, in exactly one way.
 use Rattle.std.proofs.lemmas.Grind.{common_steps}
-use Rattle.sas_task_file.proofs.Imports.{◌≡◌, List, [], ◌∷◌, ◌++◌, sym, ap, subst, ◌∙◌, arith, refl, Option, None, Some, codes, decimal, decimal_digit, Parts, cut_at, ends_split, after_ends, same_path, one_ended, ended_stops, TaskLine, TaskSlot, task_slot, task_line_bytes, task_layout, task_format, TaskLineFits, TaskState, table_node, table_start, state_after, filling, FillingsInBytes, last_slot, AreFillings, Completion, TaskIsFilled, OneCompletion}
+use Rattle.sas_task_file.proofs.Imports.{◌≡◌, List, [], ◌∷◌, ◌++◌, sym, ap, subst, ◌∙◌, arith, Option, None, Some, codes, decimal, decimal_digit, Parts, cut_at, ends_split, after_ends, same_path, one_ended, ended_stops, TaskLine, TaskSlot, task_slot, task_line_bytes, task_layout, task_format, TaskLineFits, TaskState, table_node, table_start, state_after, filling, FillingsInBytes, last_slot, AreFillings, TaskIsFilled, OneCompletion}
 use Rattle.sas_task_file.proofs.Stretches.{Ends, LeadsOn}
 use Rattle.sas_task_file.proofs.TableLines.{of_table_line}
 use Rattle.sas_task_file.proofs.Fills.{fill, led, start_led}

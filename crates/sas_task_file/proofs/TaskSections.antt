@@ -1,5 +1,5 @@
 -- The sections of task files: stretches of the table of places.
-use Rattle.sas_task_file.proofs.Imports.{◌≡◌, ◌≤◌, ℕ, zero, suc, ◌+◌, ◌-◌, ◌<◌, Bool, true, false, List, [], ◌∷◌, ◌++◌, length, length-append, length-map, get_or-append-add, refl, sym, ap, subst, ◌∙◌, append_assoc, append-nil, arith, IsTrue, rules, Some, None, Option, nat_lt, ◌==◌, slice_index, slice_index_or, if◌then◌else◌, list_all, flat_map, AllByRecursion, ltb-true, Fact, Variable, Effect, Operator, Parts, IsName, IsNumber, IsSigned, range_of, HasValue, MayHaveValue, FactExists, IsState, Listed, VariableFits, EffectFits, OperatorFits, WellRanged, and_from, and_parts, Place, Due, TaskState, table_node, table_start, one_allocator, one_ended, after_ends, TaskLine, TaskSlot, name, signed, head, number, fact, effect, any_number, positive_number, FactNumbers, HeadNumbers, EffectNumbers, single_line, counted, version_lines, metric_lines, variable_lines, group_lines, state_lines, goal_lines, operator_lines, rule_lines, task_layout, task_format, TaskLineFits, is_from, number_in, fact_in, ranges_of, value_in, fact_in_ranges, change_in_ranges, effect_in_ranges, no_parts, SoFar}
+use Rattle.sas_task_file.proofs.Imports.{◌≡◌, ◌≤◌, ℕ, zero, suc, ◌+◌, ◌-◌, ◌<◌, Bool, true, false, List, [], ◌∷◌, ◌++◌, length, length-append, length-map, get_or-append-add, refl, sym, ap, subst, ◌∙◌, append_assoc, append-nil, arith, IsTrue, rules, Some, None, Option, nat_lt, ◌==◌, slice_index, slice_index_or, if◌then◌else◌, list_all, flat_map, AllByRecursion, ltb-true, Fact, Variable, Effect, Operator, Parts, IsName, IsNumber, IsSigned, range_of, HasValue, MayHaveValue, FactExists, IsState, Listed, VariableFits, EffectFits, OperatorFits, WellRanged, and_from, and_parts, Place, Due, TaskState, table_node, table_start, one_allocator, one_ended, after_ends, TaskLine, TaskSlot, name, number, fact, effect, any_number, positive_number, FactNumbers, HeadNumbers, EffectNumbers, single_line, counted, version_lines, metric_lines, variable_lines, group_lines, state_lines, goal_lines, operator_lines, rule_lines, task_layout, task_format, TaskLineFits, is_from, number_in, fact_in, ranges_of, value_in, fact_in_ranges, change_in_ranges, effect_in_ranges, no_parts, SoFar}
 use Rattle.sas_task_file.specs.declared.places.Place.TheVariants as place
 use Rattle.sas_task_file.specs.declared.marks.Due.TheVariants as due
 use Rattle.sas_task_file.specs.declared.marks.FixedWord.TheVariants as fixed

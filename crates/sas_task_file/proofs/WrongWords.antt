@@ -1,5 +1,5 @@
 -- The numbers of a line: if none is wrong, all are allowed. The ranges of the variables decide.
-use Rattle.sas_task_file.proofs.Imports.{ranges_of, ◌≡◌, ℕ, zero, suc, ◌+◌, ◌-◌, Bool, true, false, IsTrue, List, [], ◌∷◌, refl, ap, subst, sym, Some, None, nat_lt, if◌then◌else◌, slice_index, option_map_or, AllByRecursion, none-some, Variable, range_of, WrongWord, TaskLine, fact, effect, head, TaskSlot, task_slot, Bounded, first_wrong, line_bounds, fact_slot, effect_slot, head_slot}
+use Rattle.sas_task_file.proofs.Imports.{◌≡◌, ℕ, ◌+◌, ◌-◌, Bool, true, false, IsTrue, List, [], ◌∷◌, refl, ap, subst, sym, Some, None, nat_lt, if◌then◌else◌, option_map_or, AllByRecursion, none-some, WrongWord, TaskLine, fact, effect, head, TaskSlot, task_slot, Bounded, first_wrong, line_bounds, fact_slot, effect_slot, head_slot}
 
 -- whether the number is allowed
 abbrev pub may_stand : Bounded → Bool

@@ -9,7 +9,7 @@ use Rattle.sas_core.specs.declared.parts.Effect.{Effect}
 use Rattle.sas_core.specs.declared.parts.Parts.{Parts}
 use Rattle.sas_reader.specs.Format.{IsBegun}
 use Rattle.sas_task_file.specs.declared.counts.ListCount.{ListCount}
-use Rattle.sas_task_file.specs.TaskFormat.{TaskLine, word, name, number, signed, single_line, version_lines, metric_lines, task_format}
+use Rattle.sas_task_file.specs.TaskFormat.{word, name, number, signed, single_line, version_lines, metric_lines, task_format}
 
 -- the counts of some lines, given the number of the first of them
 abbrev pub Counted : Type 0

@@ -1,5 +1,5 @@
 -- Whole sections at the beginning of some bytes: a variable, a mutex group, an operator, a rule.
-use Rattle.std.specs.Prelude.{◌≡◌, ◌<◌, ℕ, List, length, map, IsTrue}
+use Rattle.std.specs.Prelude.{◌<◌, ℕ, List, length, map, IsTrue}
 use Rattle.std.specs.List.{AllByRecursion, list_all}
 use Rattle.sas_core.specs.declared.parts.Fact.{Fact}
 use Rattle.sas_core.specs.declared.parts.Variable.{Variable}

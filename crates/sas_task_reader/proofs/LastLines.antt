@@ -1,6 +1,6 @@
 -- The last line of a task: the machine knows which one it is, and so whether only a line end is
 -- missing.
-use Rattle.sas_task_reader.proofs.Imports.{◌≡◌, ◌≢◌, ◌↔◌, ℕ, zero, suc, ◌+◌, ◌≤◌, List, [], ◌∷◌, ◌++◌, length, map, take, refl, sym, ap, subst, ◌∙◌, arith, inl, inr, ◌⊎◌, IsTrue, Option, Some, None, IsSomeAnd, IfSome, IfNone, codes, take_all, length-take, map-append, decimal_digit, Parts, WellRanged, Kind, Excerpt, kept_bytes, IsFoundOf, without_return, return_length, lines_of, AreAllLines, EndsUnended, LeadsToEnd, ended, cut_at, ends_split, after_ends, same_path, TaskLine, word, number, task_slot, task_line_bytes, task_layout, task_texts, task_format, TaskLineFits, slot_of_due, number_in, Place, Tracker, row_at, row_in, after_move, TaskJudge, TaskMachine, TaskState, SoFar, state_after, state_of, table_node, table_start, LedBy, IsLastLine}
+use Rattle.sas_task_reader.proofs.Imports.{◌≡◌, ◌↔◌, ℕ, zero, suc, ◌≤◌, List, [], ◌∷◌, ◌++◌, length, map, refl, sym, ap, subst, ◌∙◌, arith, inl, inr, ◌⊎◌, Option, Some, None, IsSomeAnd, IfSome, IfNone, codes, take_all, length-take, map-append, decimal_digit, Parts, Kind, Excerpt, kept_bytes, IsFoundOf, without_return, return_length, AreAllLines, EndsUnended, LeadsToEnd, ended, cut_at, ends_split, after_ends, same_path, TaskLine, word, number, task_slot, task_line_bytes, task_layout, task_format, TaskLineFits, slot_of_due, number_in, Place, Tracker, row_at, after_move, TaskMachine, TaskState, SoFar, state_after, state_of, table_node, table_start, LedBy, IsLastLine}
 use Rattle.sas_reader.specs.declared.fault.Kind.TheVariants as kinds
 use Rattle.sas_task_file.specs.declared.places.Place.TheVariants as at
 use Rattle.sas_task_file.proofs.TaskEnds.{IsOver, over_if_ended}

@@ -1,6 +1,6 @@
 -- The judge notes the numbers of items as the table of places says, whether a line or a whole
 -- section is accepted.
-use Rattle.sas_task_reader.proofs.Imports.{◌≡◌, ℕ, zero, suc, ◌+◌, ◌-◌, ◌<◌, List, [], ◌∷◌, ◌++◌, length, refl, sym, ap, subst, ◌∙◌, arith, Option, Some, TaskLine, number_in, variable_lines, group_lines, operator_lines, rule_lines, Variable, Fact, Operator, Effect, Place, Move, Tracker, tracker_start, track, track_line, row_at, row_in, after_move, TaskJudge, row_of, past_section, Counts, ListCount, counts_start, after_count, counts_after, count_at, counts_behind, count_of, HasNoted, after-append, Block, variable_told, group_told, operator_told, rule_told}
+use Rattle.sas_task_reader.proofs.Imports.{◌≡◌, ℕ, zero, suc, ◌+◌, ◌-◌, ◌<◌, List, [], ◌∷◌, ◌++◌, length, refl, sym, ap, subst, ◌∙◌, arith, Option, Some, TaskLine, number_in, variable_lines, group_lines, operator_lines, rule_lines, Variable, Fact, Operator, Effect, Place, Move, Tracker, tracker_start, track, track_line, row_at, row_in, after_move, TaskJudge, row_of, Counts, ListCount, counts_start, after_count, counts_after, count_at, counts_behind, HasNoted, after-append, Block, variable_told, group_told, operator_told, rule_told}
 use Rattle.sas_task_file.specs.declared.places.Place.TheVariants as at
 use Rattle.sas_task_file.specs.declared.places.Move.TheVariants as moves
 

@@ -1,5 +1,5 @@
 -- A task file is refused for the reason that its machine knows.
-use Rattle.sas_task_reader.proofs.Imports.{◌≡◌, ◌≢◌, ℕ, List, Option, None, sym, subst, ◌∙◌, Parts, Kind, Node, ended, before, Rejects, behind_line, behind_text, at_end, Mark, WrongWord, table_node, TaskLine, TaskSlot, word_slot, name_slot, number_slot, signed_slot, fact_slot, effect_slot, head_slot, HasShape, NumbersKind, no_shape, no_value, TaskKind, task_format, TaskLineFits, StandsBehind, task_behavior, TaskState, node_of_due, Due, row_in, slot_of_due, IsTaskReason, shape_of_value, SoFar, FirstWrong, TaskMachine, mark_of, due_slot, WrongWordIn, state_of, ◌↔◌, IsTrue, IfSome, IfNone, IsSomeAnd, ListCount, Excerpt, IsFoundOf, kept_bytes, without_return, EndsUnended, LedBy, count_of, IsLastLine, IsCounted, HasReason, TaskRefusal}
+use Rattle.sas_task_reader.proofs.Imports.{◌≡◌, ◌≢◌, ℕ, List, Option, None, sym, subst, ◌∙◌, Parts, Kind, Node, ended, before, Rejects, behind_line, behind_text, at_end, Mark, WrongWord, table_node, TaskLine, TaskSlot, word_slot, name_slot, number_slot, signed_slot, fact_slot, effect_slot, head_slot, HasShape, NumbersKind, no_shape, no_value, TaskKind, task_format, TaskLineFits, StandsBehind, task_behavior, TaskState, node_of_due, Due, row_in, slot_of_due, IsTaskReason, shape_of_value, SoFar, FirstWrong, TaskMachine, mark_of, due_slot, WrongWordIn, state_of, ◌↔◌, IsTrue, IfSome, IfNone, IsSomeAnd, Excerpt, IsFoundOf, kept_bytes, without_return, EndsUnended, LedBy, count_of, IsLastLine, IsCounted, HasReason, TaskRefusal}
 use Rattle.sas_task_reader.proofs.LastLines.{unended}
 use Rattle.sas_task_reader.proofs.RefusedLines.{count_there, task_reason, trailing_reason, led_still, ended_still, shape_still, wrong_still}
 use Rattle.sas_reader.specs.declared.fault.Kind.TheVariants as kinds

@@ -1,5 +1,5 @@
 -- The lines of a variable, a mutex group, an operator or a rule lead through this part of a task.
-use Rattle.sas_task_reader.proofs.Imports.{◌≡◌, ℕ, zero, suc, ◌<◌, ◌-◌, Bool, List, [], ◌∷◌, ◌++◌, length, refl, sym, ap, subst, ◌∙◌, append_assoc, arith, IsTrue, codes, AllByRecursion, flat_map, list_all, and_parts, IsName, Fact, Variable, Operator, Effect, TaskLine, word, name, number, signed, fact, effect, head, single_line, variable_lines, group_lines, operator_lines, rule_lines, TaskLineFits, task_format, Due, Place, Tracker, SoFar, TaskState, table_node, After, HasNames, OperatorInRanges, fact_in_ranges, effect_in_ranges, change_in_ranges, behind_variable, behind_group, behind_operator, behind_rule, past_section, past_variable}
+use Rattle.sas_task_reader.proofs.Imports.{◌≡◌, ℕ, zero, suc, ◌<◌, ◌-◌, Bool, List, [], ◌∷◌, ◌++◌, length, refl, sym, ap, subst, ◌∙◌, append_assoc, arith, IsTrue, codes, AllByRecursion, flat_map, list_all, and_parts, IsName, Fact, Variable, Operator, Effect, TaskLine, word, name, number, fact, effect, head, single_line, variable_lines, group_lines, operator_lines, rule_lines, TaskLineFits, Due, Place, Tracker, SoFar, TaskState, HasNames, OperatorInRanges, fact_in_ranges, effect_in_ranges, change_in_ranges, behind_variable, behind_group, behind_operator, behind_rule, past_section, past_variable}
 use Rattle.sas_task_file.specs.declared.places.Place.TheVariants as at
 use Rattle.sas_task_file.specs.declared.marks.Due.TheVariants as due
 use Rattle.sas_task_file.proofs.Stretches.{LeadsOn, Allowed, one_less}

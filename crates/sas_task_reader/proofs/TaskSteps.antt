@@ -1,5 +1,5 @@
 -- One more line of a task moves the machine.
-use Rattle.sas_task_reader.proofs.Imports.{◌≡◌, ℕ, ◌+◌, List, [], ◌∷◌, ◌++◌, sym, ap, ◌∙◌, Ok, FrontOf, LinesAccepted, one_more, TaskLine, task_line_bytes, task_format, TaskLineFits, SoFar, Event, LineValues, after, map-append, after_append, TaskJudge, table_node, table_start, state_of, row_of, JudgesLine, NotesLine, TaskMachine, LedBy, HasNoted, TaskState, Tracker, tracker_start, track, track_line, number_in, after_count, Move, length, length-map, arith}
+use Rattle.sas_task_reader.proofs.Imports.{◌≡◌, ℕ, ◌+◌, List, [], ◌∷◌, ◌++◌, sym, ap, ◌∙◌, Ok, FrontOf, LinesAccepted, one_more, TaskLine, task_line_bytes, task_format, TaskLineFits, SoFar, Event, LineValues, after, map-append, after_append, TaskJudge, table_node, table_start, state_of, row_of, JudgesLine, NotesLine, TaskMachine, LedBy, HasNoted, TaskState, tracker_start, track, track_line, number_in, after_count, Move, length, length-map, arith}
 use Rattle.sas_task_file.specs.declared.places.Move.TheVariants as by
 use Rattle.sas_task_file.proofs.TableLines.{tracked, of_table_line}
 use Rattle.sas_task_reader.proofs.Noting.{noted_on}

@@ -1,4 +1,4 @@
-use Rattle.sas_task_reader.proofs.Imports.{◌≡◌, List, ℕ, ap, ◌∙◌, text, without_returns, task_behavior, table_node, task_format, TaskLineFits, table_start, reads_explained, refuses_explained, fault_in, found_in, HasReason, lines_of}
+use Rattle.sas_task_reader.proofs.Imports.{List, ℕ, ap, ◌∙◌, text, without_returns, task_behavior, table_node, task_format, TaskLineFits, table_start, reads_explained, refuses_explained, fault_in, found_in, HasReason, lines_of}
 use Rattle.sas_task_file.proofs.TaskGrammar.{task_grammar}
 use Rattle.sas_task_reader.proofs.StoredText.{Stores, text_plain}
 use Rattle.sas_task_reader.proofs.TaskStanding.{machine_follows, reads_so_far}
