@@ -1,7 +1,6 @@
 -- Steps of Fast Downward's search: they are unique, exist where the preconditions hold, and are those of `Step` where effects agree.
-use Rattle.sas_meaning.proofs.Imports.{◌≡◌, ℕ, ◌<◌, List, length, get_or, slice_index, refl, sym, ◌∙◌, subst, inl, inr, arith, holds_at, All, Contains, All-contains, Effect, Operator, OperatorFits, EffectFits, Parts, no_effect, effect_at, HasValue, IsState, WellRanged, IsBasic, IsLayered, AllHold, SameBasic, Settles, preconditions, Fires, Agree, Step, Reachable, Initial, Next, FiresLast, FastDownwardStep, FastDownwardReachable, Start, Onward, written, StepExists, FastDownwardStepExists, FastDownwardStepIsOne, StepIsFastDownwards, FastDownwardStepIsStep, FastDownwardReaches, FastDownwardReachesNoMore, FastDownwardWrites}
+use Rattle.sas_meaning.proofs.Imports.{◌≡◌, ℕ, ◌<◌, List, length, get_or, slice_index, refl, sym, ◌∙◌, subst, inl, inr, arith, holds_at, All, Contains, All-contains, Effect, Operator, OperatorFits, EffectFits, Parts, no_effect, effect_at, HasValue, IsState, WellRanged, IsBasic, IsLayered, AllHold, SameBasic, Settles, preconditions, Fires, Reachable, Initial, Next, FiresLast, FastDownwardStep, FastDownwardReachable, Start, Onward, written, StepExists, FastDownwardStepExists, FastDownwardStepIsOne, StepIsFastDownwards, FastDownwardStepIsStep, FastDownwardReaches, FastDownwardReachesNoMore, FastDownwardWrites}
 use Rattle.sas_meaning.proofs.Exists.{settled_exists}
-use Rattle.sas_meaning.proofs.Facts.{Untouched}
 use Rattle.sas_meaning.proofs.Forced.{fact_within}
 use Rattle.sas_meaning.proofs.Unique.{settled_is_one}
 use Rattle.sas_meaning.proofs.Writing.{LastOn, last_or_none, written_kept, written_last, written_state}

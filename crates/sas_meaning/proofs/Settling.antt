@@ -1,5 +1,5 @@
 -- From a layer to all layers.
-use Rattle.sas_meaning.proofs.Imports.{◌≡◌, ◌≢◌, ℕ, suc, ◌+◌, ◌<◌, ◌≤◌, ◌==◌, Bool, true, not, cond, List, length, get_or, sym, ◌∙◌, ap, subst, inl, inr, arith, cases_eq, cases_lt, Effect, Parts, IsOnLayer, default_of, IsLayered, new_value_of, value_with, IsClosed, differs, IsSettledAt, IsSettled, SameBasic, OnlyForced, HasFired, SameOff, AtDefault, Occurs}
+use Rattle.sas_meaning.proofs.Imports.{◌≡◌, ◌≢◌, ℕ, suc, ◌<◌, ◌≤◌, ◌==◌, Bool, true, not, cond, List, length, get_or, sym, ◌∙◌, ap, inl, inr, arith, cases_lt, Effect, Parts, IsOnLayer, default_of, IsLayered, new_value_of, value_with, IsClosed, differs, IsSettledAt, IsSettled, SameBasic, OnlyForced, HasFired, SameOff, AtDefault, Occurs}
 use Rattle.sas_meaning.proofs.Layers.{AgreeBelow, agree_sym, closed_agrees, layer_decides, given_on, given_off}
 use Rattle.sas_meaning.proofs.Forced.{closed_when_fired, differs_not}
 
@@ -66,17 +66,6 @@ module _ (t : Parts) (layer : ℕ) (s s' : List ℕ) (layered : IsLayered t) (of
   pub settled_off : (m : ℕ) → m < layer → IsSettledAt t m s → IsSettledAt t m s'
   settled_off m lt a = settled_agrees t m s s' layered
       (record { basic = basic_off; derived = λ v n lt' on. other_layer n v (omega arith) on }) a
-
--- the layers below the next one are settled
-pub settled_below_next : (t : Parts) (from layer : ℕ) (s s' : List ℕ) → IsLayered t → SameOff t layer s s' → ((m : ℕ) → m < from → IsSettledAt t m s)
-    → ((m : ℕ) → from ≤ m → Occurs t m → layer ≤ m) → IsSettledAt t layer s' → (m : ℕ) → m < layer + 1 → IsSettledAt t m s'
-settled_below_next t from layer s s' layered off below next here m lt = elim (cases_eq m layer) [
-  | inl e ↦ subst (λ n. IsSettledAt t n s') (sym e) here
-  | inr ne ↦ elim (cases_lt m from) [
-    | inl lt' ↦ settled_off t layer s s' layered off m (omega arith) (below m lt')
-    | inr ge ↦ settled_where_empty t m s' (λ occurs. let le : layer ≤ m = next m ge occurs in omega arith)
-  ]
-]
 
 pub all_settled : (t : Parts) (from : ℕ) (s : List ℕ) → ((m : ℕ) → m < from → IsSettledAt t m s) → ((m : ℕ) → from ≤ m → Occurs t m → ⊥) → IsSettled t s
 all_settled t from s below none m = elim (cases_lt m from) [ inl lt ↦ below m lt | inr ge ↦ settled_where_empty t m s (none m ge) ]
