@@ -33,14 +33,14 @@ module _ (all : List Judged) (best : BestPlan) (is : IsBest all best) where
       (All-weaker (CostsMore best.cost) (CostsEnough best.cost) (λ j more. λ c e. omega (arith, more c e)) is.front is.dearer)
       (All-cons (CostsEnough best.cost) is.judged is.behind (λ c e. omega (arith, some_cost best.cost c is.judged.cost is.its e)) is.no_cheaper))
 
-not_before : (all : List Judged) (a b : BestPlan) → IsBest all a → IsBest all b → a.number < b.number → ⊥
-not_before all a b x y less =
-    let more = more_before all b y a.number less a.cost (its_cost all a x) in
-    let enough = none_less all a x b.number unjudged (within all b y) b.cost (its_cost all b y) in
-    omega (arith, more, enough)
-
-same_best : (a b : BestPlan) → a.cost ≡ b.cost → a.number ≡ b.number → a ≡ b
-same_best a b e f = ap (λ (c : ℕ). let it : BestPlan = record { cost = c; number = a.number } in it) e ∙ ap (λ (n : ℕ). let it : BestPlan = record { cost = b.cost; number = n } in it) f
+no_later : (all : List Judged) (a b : BestPlan) → IsBest all a → IsBest all b → b.number ≤ a.number
+no_later all a b x y = elim (cases_lt a.number b.number) [
+  | inl less ↦
+      (let more = more_before all b y a.number less a.cost (its_cost all a x) in
+      let enough = none_less all a x b.number unjudged (within all b y) b.cost (its_cost all b y) in
+      omega (arith, more, enough))
+  | inr from ↦ from
+]
 
 no_best : (all : List Judged) (best : BestPlan) → All HasNoCost all → IsBest all best → ⊥
 no_best all best none is = none-some best.cost (sym (none best.number unjudged (within all best is)) ∙ its_cost all best is)
@@ -49,15 +49,11 @@ pub one_best : (all : List Judged) (x y : Option BestPlan) → HasBest all x →
 one_best all None None x y = refl
 one_best all None (Some b) x y = absurd (no_best all b x y)
 one_best all (Some a) None x y = absurd (no_best all a y x)
-one_best all (Some a) (Some b) x y = elim (cases_lt a.number b.number) [
-  | inl less ↦ absurd (not_before all a b x y less)
-  | inr from ↦ elim (cases_lt b.number a.number) [
-    | inl less ↦ absurd (not_before all b a y x less)
-    | inr back ↦
-        (let number : a.number ≡ b.number = omega arith in
-        ap Some (same_best a b (some_cost a.cost b.cost (get_or all a.number unjudged).cost (its_cost all a x) (rw number (its_cost all b y))) number))
-  ]
-]
+one_best all (Some a) (Some b) x y =
+    let number : a.number ≡ b.number = omega (arith, no_later all a b x y, no_later all b a y x) in
+    let cost = some_cost a.cost b.cost (get_or all a.number unjudged).cost (its_cost all a x) (rw number (its_cost all b y)) in
+    ap (λ (c : ℕ). let it : Option BestPlan = Some (record { cost = c; number = a.number }) in it) cost
+    ∙ ap (λ (n : ℕ). let it : Option BestPlan = Some (record { cost = b.cost; number = n }) in it) number
 
 -- its place is that of a plan
 pub best_place : (labels : List (List ℕ)) (all : List Judged) (best : Option BestPlan) → length all ≡ length labels → HasBest all best → IsPlace labels best
@@ -83,11 +79,14 @@ stays all j best enough is = record {
 is_last : (all : List Judged) (j : Judged) (cost : ℕ) → j.cost ≡ Some cost → All (CostsMore cost) all → IsBest (all ++ j ∷ []) (record { cost = cost; number = length all })
 is_last all j cost its more = record { front = all; judged = j; behind = []; whole = refl; number = refl; its = its; dearer = more; no_cheaper = All-nil (CostsEnough cost) }
 
-pub best_next : (all : List Judged) (j : Judged) (cost : Option ℕ) (best : Option BestPlan) → j.cost ≡ cost → HasBest all best → HasBest (all ++ j ∷ []) (better (length all) cost best)
-best_next all j None None e h = All-push HasNoCost all j h e
-best_next all j None (Some best) e h = stays all j best (λ c is. absurd (none-some c (sym e ∙ is))) h
-best_next all j (Some cost) None e h = is_last all j cost e (All-weaker HasNoCost (CostsMore cost) (λ i none. λ c is. absurd (none-some c (sym none ∙ is))) all h)
-best_next all j (Some cost) (Some best) e h = by (nat_lt cost best.cost) refl
+-- one that isn't valid, and one that is
+pub best_stays : (all : List Judged) (j : Judged) (best : Option BestPlan) → j.cost ≡ None → HasBest all best → HasBest (all ++ j ∷ []) best
+best_stays all j None e h = All-push HasNoCost all j h e
+best_stays all j (Some best) e h = stays all j best (λ c is. absurd (none-some c (sym e ∙ is))) h
+
+pub best_next : (all : List Judged) (j : Judged) (cost : ℕ) (best : Option BestPlan) → j.cost ≡ Some cost → HasBest all best → HasBest (all ++ j ∷ []) (better (length all) cost best)
+best_next all j cost None e h = is_last all j cost e (All-weaker HasNoCost (CostsMore cost) (λ i none. λ c is. absurd (none-some c (sym none ∙ is))) all h)
+best_next all j cost (Some best) e h = by (nat_lt cost best.cost) refl
   where
     by : (lower : Bool) → nat_lt cost best.cost ≡ lower → HasBest (all ++ j ∷ []) (if lower then Some (record { cost = cost; number = length all }) else Some best)
     by true lower =

@@ -1,5 +1,5 @@
 -- Laws of what is printed of many plans.
-use Rattle.sas_requests.proofs.Imports.{◌≡◌, ℕ, ◌<◌, List, [], ◌∷◌, ◌++◌, length, codes, refl, sym, ap, subst, ◌∙◌, arith, inl, inr, Option, Some, None, Result, Ok, Err, zip, flat_map, map, All, AllZip, none-some, All-nil, All-cons, All-contains, Contains-append_right, Contains-append_left, Contains-push, Parts, PlanParts, WellRanged, IsLayered, Fault, ReadsAs, Judged, HasCost, IsJudged, PlansOut, JudgeOut, plans_answer, summary_of, Tallies, labelled, EachIsThatOfPlan, IsOneLong, RefusesAsPlan, most_bytes, plan_format, plan_laws_hold, task_format, Status, Yes, No, Output, VerdictAnswer, one_verdict_answer, some_verdict_answer, Plan, Out, VerdictOut, plain_refusal, IsAnswerOrRefusal, HasOneOutput, refusal_line, word_of, worded}
+use Rattle.sas_requests.proofs.Imports.{◌≡◌, ℕ, ◌<◌, List, [], ◌∷◌, ◌++◌, length, codes, refl, sym, ap, subst, ◌∙◌, inl, inr, Option, Some, None, Result, Ok, Err, zip, flat_map, map, All, AllZip, none-some, All-nil, All-cons, All-contains, Contains-append_right, Contains-append_left, Contains-push, Parts, PlanParts, WellRanged, IsLayered, Fault, ReadsAs, Judged, HasCost, IsJudged, PlansOut, JudgeOut, plans_answer, summary_of, Tallies, labelled, EachIsThatOfPlan, IsOneLong, RefusesAsPlan, most_bytes, plan_format, plan_laws_hold, task_format, Status, Yes, No, Output, VerdictAnswer, one_verdict_answer, some_verdict_answer, Plan, Out, VerdictOut, plain_refusal, IsAnswerOrRefusal, HasOneOutput, refusal_line, word_of, worded}
 use Rattle.std.proofs.Common.{Contains}
 use Rattle.sas_requests.proofs.PlanOutputs.{plain_refuses, not_refused, verdict_output, layered_output}
 use Rattle.sas_requests.proofs.Tallying.{one_tally, some_tally}

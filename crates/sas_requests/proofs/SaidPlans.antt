@@ -1,5 +1,5 @@
 -- What is said of one plan after another.
-use Rattle.sas_requests.proofs.Imports.{◌≡◌, ◌≢◌, ℕ, ◌+◌, ◌<◌, ◌≤◌, ◌⊎◌, List, [], ◌∷◌, ◌++◌, length, get_or, codes, refl, sym, ap, subst, ◌∙◌, arith, inl, inr, Option, Some, None, Result, Ok, Err, IfErr, zip, flat_map, if◌then◌else◌, list_all, get_or-append, get_or-append_seam, cases_lt, length_push, count_by, count_by-le-length, Contains-get_or, Consumes-nil, Parts, Status, Yes, No, NotOpened, JudgeFault, Tool, Tally, Judged, IsJudged, PlansOut, is_valid, labelled, plans_answer, summary_of, tally_with, AreReported, HoldsOf, IsPlace, IsUnsaid, Judges, JudgesPlans, unjudged, WasRead, EndsAt, OpensInTurn, ToolFault, Ends, Output, IsWrite, tool_result, judge_result, VerdictAnswer, plan_format, VerdictOut}
+use Rattle.sas_requests.proofs.Imports.{◌≡◌, ◌≢◌, ℕ, ◌+◌, ◌<◌, ◌≤◌, ◌⊎◌, List, [], ◌∷◌, ◌++◌, length, get_or, codes, refl, sym, ap, subst, ◌∙◌, arith, inl, inr, Option, Some, None, Result, Err, IfErr, zip, flat_map, if◌then◌else◌, list_all, get_or-append, get_or-append_seam, cases_lt, length_push, count_by-le-length, Contains-get_or, Consumes-nil, Parts, Status, Yes, No, NotOpened, JudgeFault, Tool, Tally, Judged, IsJudged, PlansOut, is_valid, labelled, plans_answer, summary_of, tally_with, AreReported, HoldsOf, IsPlace, IsUnsaid, Judges, JudgesPlans, unjudged, WasRead, EndsAt, OpensInTurn, ToolFault, Ends, IsWrite, tool_result, judge_result, VerdictAnswer, plan_format, VerdictOut}
 use Rattle.sas_requests.specs.declared.inputs.InputFault.TheVariants.{Read, TooLong}
 use Rattle.sas_requests.proofs.BestPlans.{best_place}
 use Rattle.sas_requests.proofs.Endings.{ends_as}

@@ -1,6 +1,6 @@
 -- One plan more in a tally; and what a tally says of all plans.
 use Rattle.sas_requests.proofs.Imports.{◌≡◌, ◌≢◌, ℕ, ◌+◌, Bool, true, false, cond, List, [], ◌∷◌, ◌++◌, length, refl, sym, ap, ◌∙◌, arith, Option, Some, None, count_by, is_some, if◌then◌else◌, list_all, All-nil, append-nil, append_assoc, sum_by-cons, sum_by_push, count_by-le-length, Yes, No, BestPlan, Tally, Judged, is_valid, Tallies, tally_with}
-use Rattle.sas_requests.proofs.BestPlans.{one_best, best_next}
+use Rattle.sas_requests.proofs.BestPlans.{one_best, best_stays, best_next}
 
 -- 1 for a plan that is valid
 abbrev one_if_valid : Judged → ℕ
@@ -13,11 +13,8 @@ count_behind all j cost e =
     sum_by_push one_if_valid all j ∙ ap (λ (c : Option ℕ). count_by is_valid all + cond (is_some c) 1 0) e
 
 pub tally_next : (all : List Judged) (j : Judged) (cost : Option ℕ) (tally : Tally) → j.cost ≡ cost → Tallies all tally → Tallies (all ++ j ∷ []) (tally_with (length all) cost tally)
-tally_next all j None tally e h = record { valid = omega (arith, h.valid, count_behind all j None e); best = best_next all j None tally.best e h.best }
-tally_next all j (Some cost) tally e h = record {
-  valid = omega (arith, h.valid, count_behind all j (Some cost) e);
-  best = best_next all j (Some cost) tally.best e h.best;
-}
+tally_next all j None tally e h = record { valid = omega (arith, h.valid, count_behind all j None e); best = best_stays all j tally.best e h.best }
+tally_next all j (Some cost) tally e h = record { valid = omega (arith, h.valid, count_behind all j (Some cost) e); best = best_next all j cost tally.best e h.best }
 
 -- ---- one tally
 

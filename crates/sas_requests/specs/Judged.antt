@@ -47,7 +47,7 @@ pub record IsBest (all : List Judged) (best : BestPlan) : Type 0 where
   pub dearer : All (λ (j : Judged). (c : ℕ) → j.cost ≡ Some c → best.cost < c) front
   pub no_cheaper : All (λ (j : Judged). (c : ℕ) → j.cost ≡ Some c → best.cost ≤ c) behind
 
--- there is none where no plan is valid
+-- the best of the plans; there is none where no plan is valid
 abbrev pub HasBest : List Judged → Option BestPlan → Type 0
 HasBest all None = All (λ (j : Judged). j.cost ≡ None) all
 HasBest all (Some best) = IsBest all best

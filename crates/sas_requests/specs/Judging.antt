@@ -68,17 +68,16 @@ abbrev pub is_lower : ℕ → Option BestPlan → Bool
 is_lower cost None = true
 is_lower cost (Some best) = nat_lt cost best.cost
 
--- the best plan, with one more that has this number, and this cost if it is valid
-abbrev pub better : ℕ → Option ℕ → Option BestPlan → Option BestPlan
-better number None best = best
-better number (Some cost) best =
+-- the best plan, with one more that is valid, and has this number and this cost
+abbrev pub better : ℕ → ℕ → Option BestPlan → Option BestPlan
+better number cost best =
     if is_lower cost best then Some (record { cost = cost; number = number }) else best
 
 -- the tally of one plan more, which has this number, and this cost if it is valid
 abbrev pub tally_with : ℕ → Option ℕ → Tally → Tally
 tally_with number None tally = tally
 tally_with number (Some cost) tally =
-    record { valid = tally.valid + 1; best = better number (Some cost) tally.best }
+    record { valid = tally.valid + 1; best = better number cost tally.best }
 
 -- this text is what is printed of so many first plans, and this their tally
 pub record AreReported (p : Parts) (known : ℕ → Option (List ℕ)) (labels : List (List ℕ))
