@@ -4,7 +4,7 @@ pub use Rattle.std.proofs.KnownBytes.{Consumes-nil}
 pub use Rattle.std.proofs.Math.ListN.{get_or-map, get_or-append}
 pub use Rattle.std.proofs.Math.Nat.{mul-le-mul_left, le-min, min-le_left}
 pub use Rattle.std.proofs.Math.Seq.{drop-append_seam, get_or-append_seam}
-pub use Rattle.std.proofs.lemmas.Bool.{false≢true, and_from, ne_eqb, ltb-true, cases_lt, lt-ltb}
+pub use Rattle.std.proofs.lemmas.Bool.{false≢true, and_from, ne_eqb, ltb-true, ltb-false, cases_lt, lt-ltb}
 pub use Rattle.std.proofs.lemmas.Fmt.{length-decimal-le}
 pub use Rattle.std.proofs.lemmas.Grind.{elements, common_steps, flat_map-append}
 pub use Rattle.std.proofs.lemmas.List.{append_cancel_left, take-append-drop, take_all, map-append, length-map, append_cancel_right, length_push}
@@ -142,8 +142,8 @@ pub use Rattle.sas_requests.specs.Headline.{Solves, Headline}
 pub use Rattle.sas_requests.specs.Invariants.{HasInvariant, Invariants}
 pub use Rattle.sas_requests.specs.InTurn.{IsRightlyLong, OpensFirst, OpensInTurn, EndsAt, IsOpened, IsOpenedBut}
 pub use Rattle.sas_requests.specs.Inputs.{HaveBytes, tool_result, judge_result, IsLabel, WasRead, WereRead, tool_fault}
-pub use Rattle.sas_requests.specs.Judged.{Judged, HasCost, IsJudged, PlansOut, JudgeOut, is_valid, is_lower, better, best_from, tally_of, labelled, summary_of, plans_answer}
-pub use Rattle.sas_requests.specs.Judging.{HoldsOf, judged_of, cost_if, Judges, IsUnsaid, unjudged, tally_with, AreReported, IsPlace, JudgesPlans}
+pub use Rattle.sas_requests.specs.Judged.{Judged, HasCost, IsJudged, PlansOut, JudgeOut, is_valid, IsBest, HasBest, Tallies, labelled, summary_of, plans_answer}
+pub use Rattle.sas_requests.specs.Judging.{HoldsOf, judged_of, cost_if, Judges, IsUnsaid, unjudged, is_lower, better, tally_with, AreReported, IsPlace, JudgesPlans}
 pub use Rattle.sas_requests.specs.Output.{word_of, refusal, refusal_line, IsAnswerOrRefusal, UnlayeredAnswer, VerdictOut, PlanOutBy, FileOut, TaskOut, HasOneOutput, ShowAnswer, PrintAnswer, LayeredOut, OutOf, plain_refusal, IsLayeredText, IsLong, AreInputs, reads_task, Out, ShortOutput, PlanOut}
 pub use Rattle.sas_requests.specs.PlansHeadline.{line_of, PlansHeadline, labelled_valid}
 pub use Rattle.sas_requests.specs.PlansLaws.{EachIsThatOfPlan, IsOneLong, RefusesAsPlan}

@@ -1,7 +1,8 @@
 -- Laws of what is printed of many plans.
-use Rattle.sas_requests.proofs.Imports.{◌≡◌, ℕ, ◌<◌, List, [], ◌∷◌, ◌++◌, length, codes, refl, sym, ap, subst, ◌∙◌, arith, inl, inr, Option, Some, None, Result, Ok, Err, zip, flat_map, map, All, AllZip, none-some, All-nil, All-cons, All-contains, Contains-append_right, Contains-append_left, Contains-push, Parts, PlanParts, WellRanged, IsLayered, Fault, ReadsAs, Judged, HasCost, IsJudged, PlansOut, JudgeOut, plans_answer, summary_of, tally_of, labelled, EachIsThatOfPlan, IsOneLong, RefusesAsPlan, most_bytes, plan_format, plan_laws_hold, task_format, Status, Yes, No, Output, VerdictAnswer, one_verdict_answer, some_verdict_answer, Plan, Out, VerdictOut, plain_refusal, IsAnswerOrRefusal, HasOneOutput, refusal_line, word_of, worded}
+use Rattle.sas_requests.proofs.Imports.{◌≡◌, ℕ, ◌<◌, List, [], ◌∷◌, ◌++◌, length, codes, refl, sym, ap, subst, ◌∙◌, inl, inr, Option, Some, None, Result, Ok, Err, zip, flat_map, map, All, AllZip, none-some, All-nil, All-cons, All-contains, Contains-append_right, Contains-append_left, Contains-push, Parts, PlanParts, WellRanged, IsLayered, Fault, ReadsAs, Judged, HasCost, IsJudged, PlansOut, JudgeOut, plans_answer, summary_of, Tallies, labelled, EachIsThatOfPlan, IsOneLong, RefusesAsPlan, most_bytes, plan_format, plan_laws_hold, task_format, Status, Yes, No, Output, VerdictAnswer, one_verdict_answer, some_verdict_answer, Plan, Out, VerdictOut, plain_refusal, IsAnswerOrRefusal, HasOneOutput, refusal_line, word_of, worded}
 use Rattle.std.proofs.Common.{Contains}
 use Rattle.sas_requests.proofs.PlanOutputs.{plain_refuses, not_refused, verdict_output, layered_output}
+use Rattle.sas_requests.proofs.Tallying.{one_tally, some_tally}
 
 -- ---- one thing is said of a plan
 
@@ -56,10 +57,12 @@ module _ (p : Parts) (ranged : WellRanged p) (layered : IsLayered p) where
 
   one_plans_output : (labels cs : List (List ℕ)) (o q : Option Output) → PlansOut p labels cs o → PlansOut p labels cs q → o ≡ q
   one_plans_output labels cs None None a b = refl
-  one_plans_output labels cs None (Some q) (c, has, long) (all, each, is) = absurd (All-contains IsShort cs c (each_said cs all each) has long)
-  one_plans_output labels cs (Some o) None (all, each, is) (c, has, long) = absurd (All-contains IsShort cs c (each_said cs all each) has long)
-  one_plans_output labels cs (Some o) (Some q) (xs, each, is) (ys, each_other, is_other) =
-      ap Some (is ∙ ap (plans_answer labels) (one_list cs xs ys each each_other) ∙ sym is_other)
+  one_plans_output labels cs None (Some q) (c, has, long) (all, each, tally, tallies, is) = absurd (All-contains IsShort cs c (each_said cs all each) has long)
+  one_plans_output labels cs (Some o) None (all, each, tally, tallies, is) (c, has, long) = absurd (All-contains IsShort cs c (each_said cs all each) has long)
+  one_plans_output labels cs (Some o) (Some q) (xs, each, s, h, is) (ys, each_other, t, g, is_other) =
+      let same : xs ≡ ys = one_list cs xs ys each each_other in
+      ap Some (is ∙ ap (λ (all : List Judged). plans_answer labels all s) same
+      ∙ ap (plans_answer labels ys) (one_tally ys s t (subst (λ (all : List Judged). Tallies all s) same h) g) ∙ sym is_other)
 
   -- nothing is said of some plans, and none of them is too long
   abbrev NoneSaid : List (List ℕ) → Type 0
@@ -81,7 +84,7 @@ module _ (p : Parts) (ranged : WellRanged p) (layered : IsLayered p) where
   plans_output : (labels cs : List (List ℕ)) → HasOneOutput (PlansOut p labels cs) ((c : List ℕ) × Contains cs c × (most_bytes < length c))
   plans_output labels cs = record {
     one = one_plans_output labels cs;
-    some = λ none. some_list cs (λ all are. none (Some (plans_answer labels all)) (all, are, refl)) (λ c has long. none None (c, has, long));
+    some = λ none. some_list cs (λ all are. let tally = some_tally all in none (Some (plans_answer labels all tally.0)) (all, are, tally.0, tally.1, refl)) (λ c has long. none None (c, has, long));
     long = λ (c, has, long). (c, has, (verdict c).long long);
   }
 
@@ -112,11 +115,11 @@ each_plain p layered b reads (c ∷ cs) (j ∷ all) h = (inr (p, reads, layered,
 
 pub each_is_that_of_plan : EachIsThatOfPlan
 each_is_that_of_plan labels b cs o layered (inl refused) = absurd (not_refused plain_refusal b (Some o) refused layered)
-each_is_that_of_plan labels b cs o _ (inr (p, reads, layered, (all, each, is))) = (
+each_is_that_of_plan labels b cs o _ (inr (p, reads, layered, (all, each, tally, tallies, is))) = (
   outputs all,
   each_plain p layered b reads cs all each,
-  summary_of labels (tally_of all),
-  ap (λ (x : Output). x.text) is ∙ ap (λ (x : List ℕ). x ++ summary_of labels (tally_of all)) (plain_texts labels all),
+  summary_of labels tally,
+  ap (λ (x : Output). x.text) is ∙ ap (λ (x : List ℕ). x ++ summary_of labels tally) (plain_texts labels all),
 )
 
 -- a task is refused as by `plan`

@@ -4,6 +4,7 @@ pub mod FileReasonLines
 pub mod Outputs
 pub mod PlanOutputs
 pub mod Headlines
+mod BestPlans
 pub mod Endings
 pub mod Lengths
 pub mod PlainLines

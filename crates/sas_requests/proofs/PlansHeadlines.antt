@@ -1,5 +1,5 @@
 -- What is printed of many plans says which of them solve the task.
-use Rattle.sas_requests.proofs.Imports.{◌≡◌, ℕ, zero, suc, ◌<◌, Bool, true, false, List, [], ◌∷◌, ◌++◌, length, get_or, codes, decimal, append_assoc, refl, sym, ap, subst, ◌∙◌, arith, inl, inr, Option, Some, Result, Ok, Err, IfOk, ◌↔◌, All, zip, is_some, if◌then◌else◌, list_all, Appends, append_cancel_left, append_cancel_right, All-get_or, All-from_get_or, AllPass-from_list_all, list_all-from_AllPass, Parts, IsLayered, IsLabel, HaveBytes, JudgeFault, tool_result, Judged, HasCost, IsJudged, JudgeOut, is_valid, labelled, plans_answer, summary_of, tally_of, unjudged, AllZip, AllZip-long, min, le-min, min-le_left, ◌≤◌, length-zip, get_or-zip, PlansHeadline, line_of, labelled_valid, lines, lines-one, ReadsAs, most_bytes, plain, task_format, Status, Yes, No, Ends, Output, VerdictAnswer, valid_line, Solves, Headline, IsLayeredText, plain_refusal}
+use Rattle.sas_requests.proofs.Imports.{◌≡◌, ℕ, zero, suc, ◌<◌, Bool, true, false, List, [], ◌∷◌, ◌++◌, length, get_or, codes, decimal, append_assoc, refl, sym, ap, subst, ◌∙◌, arith, inl, inr, Option, Some, Result, Ok, Err, IfOk, ◌↔◌, All, zip, is_some, if◌then◌else◌, list_all, Appends, append_cancel_left, append_cancel_right, All-get_or, All-from_get_or, AllPass-from_list_all, list_all-from_AllPass, Parts, IsLayered, IsLabel, HaveBytes, JudgeFault, tool_result, Judged, HasCost, IsJudged, JudgeOut, is_valid, labelled, plans_answer, summary_of, Tally, unjudged, AllZip, AllZip-long, min, le-min, min-le_left, ◌≤◌, length-zip, get_or-zip, PlansHeadline, line_of, labelled_valid, lines, lines-one, ReadsAs, most_bytes, plain, task_format, Status, Yes, No, Ends, Output, VerdictAnswer, valid_line, Solves, Headline, IsLayeredText, plain_refusal}
 use Rattle.sas_requests.proofs.Headlines.{reports_valid, headline_of, sent_same}
 use Rattle.sas_requests.proofs.PlanOutputs.{plain_refuses, not_refused}
 use Rattle.sas_requests.proofs.SideBySide.{zip_at}
@@ -27,7 +27,7 @@ module _ (p : Parts) (layered : IsLayered p) (labels : List (List ℕ)) (b : Lis
     is_line = labelled_line label j.output.text is_label (verdict_line p c j.output out);
   }
 
-  module _ (o : Output) (all : List Judged) (each : AllZip (IsJudged p) cs all) (is : o ≡ plans_answer labels all) where
+  module _ (o : Output) (all : List Judged) (each : AllZip (IsJudged p) cs all) (tally : Tally) (is : o ≡ plans_answer labels all tally) where
     all_long : length all ≡ length labels
     all_long = AllZip-long (IsJudged p) cs all each ∙ many
 
@@ -43,7 +43,7 @@ module _ (p : Parts) (layered : IsLayered p) (labels : List (List ℕ)) (b : Lis
         let both : length labels ≤ min (length labels) (length all) = le-min (omega arith) (omega (arith, all_long)) in
         let long = length-zip labels all in
         ap (λ (x : Output). line_of x.text k) is
-        ∙ line_at labelled ([], unjudged) (zip labels all) (summary_of labels (tally_of all)) k
+        ∙ line_at labelled ([], unjudged) (zip labels all) (summary_of labels tally) k
         (λ i within.
         let below : i < length labels = omega (arith, within, long, min-le_left (length labels) (length all)) in
         subst (λ (x : List ℕ × Judged). IsLine (labelled x)) (sym (pair_at i below)) (reported_at i below).is_line)
@@ -127,7 +127,7 @@ module _ (labels : List (List ℕ)) (are_labels : All IsLabel labels) (old new :
   headline_of_output : (b : List ℕ) (cs : List (List ℕ)) (o : Output) (before : List ℕ) (status : Status) → length cs ≡ length labels → old ≡ Some before → status ≡ o.status → Appends old new o.text → JudgeOut labels b cs (Some o) → PlansHeadline labels b cs (Appends old new) status
   headline_of_output b cs o before status many known_before is sent (inl refused) =
       headline_refused labels b cs o (inl refused) (task_refused b o refused) (not_refused plain_refusal b (Some o) refused) old new before status known_before is sent
-  headline_of_output b cs o before status many known_before is sent (inr (p, reads, layered, (all, each, answer))) = headline_layered p layered labels b cs reads many are_labels o all each answer old new before status known_before is sent
+  headline_of_output b cs o before status many known_before is sent (inr (p, reads, layered, (all, each, tally, tallies, answer))) = headline_layered p layered labels b cs reads many are_labels o all each tally answer old new before status known_before is sent
 
   pub plans_headline : (r : Result Status JudgeFault) → ((b : List ℕ) (cs : List (List ℕ)) → task ≡ Some b → HaveBytes known (length labels) cs → Ends (JudgeOut labels b cs) (Appends old new) (tool_result r))
       → IfOk r (λ status. (b before : List ℕ) (cs : List (List ℕ)) → task ≡ Some b → HaveBytes known (length labels) cs → old ≡ Some before → PlansHeadline labels b cs (Appends old new) status)

@@ -1,13 +1,14 @@
 -- What is said of one plan after another.
-use Rattle.sas_requests.proofs.Imports.{◌≡◌, ◌≢◌, ℕ, ◌+◌, ◌<◌, ◌≤◌, ◌⊎◌, List, [], ◌∷◌, ◌++◌, length, get_or, codes, refl, sym, ap, subst, ◌∙◌, arith, inl, inr, Option, Some, None, Result, Ok, Err, IfErr, zip, flat_map, if◌then◌else◌, list_all, get_or-append, get_or-append_seam, cases_lt, length_push, count_by, count_by-le-length, Contains-get_or, Consumes-nil, Parts, Status, Yes, No, NotOpened, JudgeFault, Tool, Tally, Judged, IsJudged, PlansOut, is_valid, labelled, plans_answer, summary_of, tally_of, tally_with, AreReported, HoldsOf, IsPlace, IsUnsaid, Judges, JudgesPlans, unjudged, WasRead, EndsAt, OpensInTurn, ToolFault, Ends, Output, IsWrite, tool_result, judge_result, VerdictAnswer, plan_format, VerdictOut}
+use Rattle.sas_requests.proofs.Imports.{◌≡◌, ◌≢◌, ℕ, ◌+◌, ◌<◌, ◌≤◌, ◌⊎◌, List, [], ◌∷◌, ◌++◌, length, get_or, codes, refl, sym, ap, subst, ◌∙◌, arith, inl, inr, Option, Some, None, Result, Err, IfErr, zip, flat_map, if◌then◌else◌, list_all, get_or-append, get_or-append_seam, cases_lt, length_push, count_by-le-length, Contains-get_or, Consumes-nil, Parts, Status, Yes, No, NotOpened, JudgeFault, Tool, Tally, Judged, IsJudged, PlansOut, is_valid, labelled, plans_answer, summary_of, tally_with, AreReported, HoldsOf, IsPlace, IsUnsaid, Judges, JudgesPlans, unjudged, WasRead, EndsAt, OpensInTurn, ToolFault, Ends, IsWrite, tool_result, judge_result, VerdictAnswer, plan_format, VerdictOut}
 use Rattle.sas_requests.specs.declared.inputs.InputFault.TheVariants.{Read, TooLong}
+use Rattle.sas_requests.proofs.BestPlans.{best_place}
 use Rattle.sas_requests.proofs.Endings.{ends_as}
 use Rattle.sas_requests.proofs.Outputs.{long_file, plan_worded, same_output}
 use Rattle.std.proofs.lemmas.Bool.Decides.{eqb_tells}
 use Rattle.sas_requests.specs.declared.inputs.JudgeFault.TheVariants.{Plan}
 use Rattle.sas_requests.specs.Inputs.{tool_fault as fault_of}
 use Rattle.sas_requests.proofs.SideBySide.{all_zip, choose, labelled_next}
-use Rattle.sas_requests.proofs.Tallying.{place_from, status_yes, status_no, tally_next}
+use Rattle.sas_requests.proofs.Tallying.{status_yes, status_no, tally_next}
 use Rattle.sas_requests.proofs.Turns.{tool_same, tool_long, tool_unread}
 
 -- ---- one plan
@@ -44,7 +45,7 @@ module _ (p : Parts) (known : ℕ → Option (List ℕ)) (labels : List (List �
   module _ (count : ℕ) (text : List ℕ) (tally : Tally) (r : AreReported p known labels count text tally) where
     -- no more are valid than there are
     pub valid_few : tally.valid ≤ count
-    valid_few = let valid = ap (λ (t : Tally). t.valid) r.counts in omega (arith, valid, r.many, count_by-le-length is_valid r.all)
+    valid_few = omega (arith, r.counts.valid, r.many, count_by-le-length is_valid r.all)
 
     pub reported_more : (after : List ℕ) (more : Tally) (j : Judged) (cost : Option ℕ) → count < length labels → HoldsOf (known count) (λ c. IsJudged p c j) → after ≡ text ++ labelled (get_or labels count [], j)
         → j.cost ≡ cost → more ≡ tally_with count cost tally → AreReported p known labels (count + 1) after more
@@ -56,33 +57,31 @@ module _ (p : Parts) (known : ℕ → Option (List ℕ)) (labels : List (List �
           is ∙ ap (λ (x : List ℕ). x ++ labelled (get_or labels count [], j)) r.whole
           ∙ ap (λ (k : ℕ). flat_map labelled (zip labels r.all) ++ labelled (get_or labels k [], j)) (sym r.many)
           ∙ sym (labelled_next labels r.all j (omega (arith, r.many)));
-      counts = add ∙ ap (λ (t : Tally). tally_with count cost t) r.counts ∙ ap (λ (k : ℕ). tally_with k cost (tally_of r.all)) (sym r.many) ∙ tally_next r.all j cost e;
+      counts = rw (add, ← r.many) (tally_next r.all j cost tally e r.counts);
     }
 
   -- ---- all plans
 
   module _ (text : List ℕ) (tally : Tally) (reports : AreReported p known labels (length labels) text tally) where
     pub placed : IsPlace labels tally.best
-    placed = rw reports.counts (place_from labels reports.all 0 None (omega (arith, reports.many)) tt)
+    placed = best_place labels reports.all tally.best reports.many reports.counts.best
 
     -- the whole text goes out, with the status by how many are valid
     module _ (status : Status) (whole : List ℕ) (is : whole ≡ text ++ summary_of labels tally) (by : ((tally.valid ≡ length labels) × (status ≡ Yes)) ⊎ ((tally.valid ≢ length labels) × (status ≡ No)))
         (Sent : List ℕ → Type 0) (r : Result Status ToolFault) (write : IfErr r IsWrite) (ends : Ends (λ o. o ≡ Some (record { text = whole; status = status })) Sent r) where
       status_is : status ≡ (if list_all is_valid reports.all then Yes else No)
-      status_is =
-          let valid : count_by is_valid reports.all ≡ tally.valid = sym (ap (λ (t : Tally). t.valid) reports.counts) in
-          elim by [
-            | inl x ↦ x.1 ∙ status_yes reports.all (length labels) reports.many (valid ∙ x.0)
-            | inr x ↦ x.1 ∙ status_no reports.all (length labels) reports.many (λ e. x.0 (sym valid ∙ e))
-          ]
+      status_is = elim by [
+        | inl x ↦ x.1 ∙ status_yes reports.all (length labels) reports.many (sym reports.counts.valid ∙ x.0)
+        | inr x ↦ x.1 ∙ status_no reports.all (length labels) reports.many (λ e. x.0 (reports.counts.valid ∙ e))
+      ]
 
-      text_is : whole ≡ flat_map labelled (zip labels reports.all) ++ summary_of labels (tally_of reports.all)
-      text_is = is ∙ ap (λ (x : List ℕ). x ++ summary_of labels tally) reports.whole ∙ ap (λ (t : Tally). flat_map labelled (zip labels reports.all) ++ summary_of labels t) reports.counts
+      text_is : whole ≡ flat_map labelled (zip labels reports.all) ++ summary_of labels tally
+      text_is = is ∙ ap (λ (x : List ℕ). x ++ summary_of labels tally) reports.whole
 
       sent_for : (cs : List (List ℕ)) → length cs ≡ length labels → ((k : ℕ) → k < length labels → IsJudged p (get_or cs k []) (get_or reports.all k unjudged)) → Ends (PlansOut p labels cs) Sent (tool_result (judge_result r))
       sent_for cs many each =
           let each_is = all_zip (IsJudged p) unjudged cs reports.all (many ∙ sym reports.many) (λ k less. each k (omega (arith, less, reports.many))) in
-          rw (tool_same r) (ends_as (record { text = whole; status = status }) Sent (PlansOut p labels cs) r (reports.all, each_is, same_output _ (plans_answer labels reports.all) text_is status_is) ends)
+          rw (tool_same r) (ends_as (record { text = whole; status = status }) Sent (PlansOut p labels cs) r (reports.all, each_is, tally, reports.counts, same_output _ (plans_answer labels reports.all tally) text_is status_is) ends)
 
       pub reported : JudgesPlans p known labels Sent (judge_result r)
       reported = record {

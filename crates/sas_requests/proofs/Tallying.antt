@@ -1,5 +1,6 @@
 -- One plan more in a tally; and what a tally says of all plans.
-use Rattle.sas_requests.proofs.Imports.{◌≡◌, ◌≢◌, ℕ, ◌+◌, ◌<◌, ◌≤◌, Bool, true, false, cond, List, [], ◌∷◌, ◌++◌, length, refl, sym, ap, ◌∙◌, arith, Option, Some, None, count_by, is_some, if◌then◌else◌, list_all, sum_by-cons, sum_by_push, count_by-le-length, Yes, No, BestPlan, Tally, Judged, is_valid, is_lower, better, best_from, tally_of, tally_with, IsPlace}
+use Rattle.sas_requests.proofs.Imports.{◌≡◌, ◌≢◌, ℕ, ◌+◌, Bool, true, false, cond, List, [], ◌∷◌, ◌++◌, length, refl, sym, ap, ◌∙◌, arith, Option, Some, None, count_by, is_some, if◌then◌else◌, list_all, All-nil, append-nil, append_assoc, sum_by-cons, sum_by_push, count_by-le-length, Yes, No, BestPlan, Tally, Judged, is_valid, Tallies, tally_with}
+use Rattle.sas_requests.proofs.BestPlans.{one_best, best_stays, best_next}
 
 -- 1 for a plan that is valid
 abbrev one_if_valid : Judged → ℕ
@@ -11,39 +12,24 @@ count_behind : (all : List Judged) (j : Judged) (cost : Option ℕ) → j.cost �
 count_behind all j cost e =
     sum_by_push one_if_valid all j ∙ ap (λ (c : Option ℕ). count_by is_valid all + cond (is_some c) 1 0) e
 
-best_next : (all : List Judged) (j : Judged) (number : ℕ) (best : Option BestPlan) → best_from number best (all ++ j ∷ []) ≡ better (number + length all) j.cost (best_from number best all)
-best_next [] j number best = let same : number ≡ number + 0 = omega arith in ap (λ (k : ℕ). better k j.cost best) same
-best_next (i ∷ all) j number best =
-    let next = better number i.cost best in
-    let same : number + 1 + length all ≡ number + length (i ∷ all) = omega arith in
-    best_next all j (number + 1) next ∙ ap (λ (k : ℕ). better k j.cost (best_from (number + 1) next all)) same
+pub tally_next : (all : List Judged) (j : Judged) (cost : Option ℕ) (tally : Tally) → j.cost ≡ cost → Tallies all tally → Tallies (all ++ j ∷ []) (tally_with (length all) cost tally)
+tally_next all j None tally e h = record { valid = omega (arith, h.valid, count_behind all j None e); best = best_stays all j tally.best e h.best }
+tally_next all j (Some cost) tally e h = record { valid = omega (arith, h.valid, count_behind all j (Some cost) e); best = best_next all j cost tally.best e h.best }
 
-best_behind : (all : List Judged) (j : Judged) (cost : Option ℕ) → j.cost ≡ cost → better (length all) cost (best_from 0 None all) ≡ best_from 0 None (all ++ j ∷ [])
-best_behind all j cost e =
-    let none : 0 + length all ≡ length all = omega arith in
-    sym (best_next all j 0 None ∙ ap (λ (k : ℕ). better k j.cost (best_from 0 None all)) none ∙ ap (λ (c : Option ℕ). better (length all) c (best_from 0 None all)) e)
+-- ---- one tally
 
-same_tally : (a b : ℕ) (x y : Option BestPlan) (t : Tally) → a ≡ b → x ≡ y → t ≡ record { valid = a; best = x } → t ≡ record { valid = b; best = y }
-same_tally a b x y t e f is = rw (is, e, f) refl
+pub one_tally : (all : List Judged) (s t : Tally) → Tallies all s → Tallies all t → s ≡ t
+one_tally all s t h g =
+    ap (λ (n : ℕ). let it : Tally = record { valid = n; best = s.best } in it) (h.valid ∙ sym g.valid)
+    ∙ ap (λ (b : Option BestPlan). let it : Tally = record { valid = t.valid; best = b } in it) (one_best all s.best t.best h.best g.best)
 
-pub tally_next : (all : List Judged) (j : Judged) (cost : Option ℕ) → j.cost ≡ cost → tally_with (length all) cost (tally_of all) ≡ tally_of (all ++ j ∷ [])
-tally_next all j None e = same_tally _ _ _ _ _ (omega (arith, count_behind all j None e)) (best_behind all j None e) refl
-tally_next all j (Some cost) e = same_tally _ _ _ _ _ (omega (arith, count_behind all j (Some cost) e)) (best_behind all j (Some cost) e) refl
+tally_on : (front all : List Judged) (tally : Tally) → Tallies front tally → (t : Tally) × Tallies (front ++ all) t
+tally_on front [] tally h = (tally, rw (append-nil front) h)
+tally_on front (j ∷ all) tally h =
+    rw (← append_assoc front (j ∷ []) all) (tally_on (front ++ j ∷ []) all (tally_with (length front) j.cost tally) (tally_next front j j.cost tally refl h))
 
--- ---- the place of the best is that of a plan
-
-place_better : (labels : List (List ℕ)) (number : ℕ) (cost : Option ℕ) (best : Option BestPlan) → number < length labels → IsPlace labels best → IsPlace labels (better number cost best)
-place_better labels number None best less h = h
-place_better labels number (Some cost) best less h = by (is_lower cost best)
-  where
-    by : (lower : Bool) → IsPlace labels (if lower then Some (record { cost = cost; number = number }) else best)
-    by true = less
-    by false = h
-
-pub place_from : (labels : List (List ℕ)) (all : List Judged) (number : ℕ) (best : Option BestPlan) → number + length all ≤ length labels → IsPlace labels best → IsPlace labels (best_from number best all)
-place_from labels [] number best fits h = h
-place_from labels (j ∷ all) number best fits h =
-    place_from labels all (number + 1) (better number j.cost best) (omega (arith, fits)) (place_better labels number j.cost best (omega (arith, fits)) h)
+pub some_tally : (all : List Judged) → (t : Tally) × Tallies all t
+some_tally all = tally_on [] all (record { valid = 0; best = None }) (record { valid = refl; best = All-nil (λ (j : Judged). j.cost ≡ None) })
 
 -- ---- all plans are valid, or one isn't
 

@@ -1,7 +1,7 @@
 -- What `plans` prints: of each of many plans the line that `plan` prints of it, with a label in
 -- front, and how many of them are valid.
-use Rattle.std.specs.Prelude.{◌≡◌, ℕ, ◌+◌, nat_lt, Bool, true, is_some, if◌then◌else◌, List, [], ◌∷◌, ◌++◌}
-use Rattle.std.specs.Prelude.{length, slice_index_or, flat_map, count_by, zip, Contains, codes, decimal, Option, Some, None}
+use Rattle.std.specs.Prelude.{◌≡◌, ℕ, ◌<◌, ◌≤◌, Bool, is_some, if◌then◌else◌, List, [], ◌∷◌, ◌++◌, length}
+use Rattle.std.specs.Prelude.{All, slice_index_or, flat_map, count_by, zip, Contains, codes, decimal, Option, Some, None}
 use Rattle.std.specs.List.{AllZip, list_all}
 use Rattle.sas_core.specs.declared.parts.Parts.{Parts}
 use Rattle.sas_core.specs.PlanParts.{PlanParts}
@@ -36,25 +36,26 @@ is_valid judged = is_some judged.cost
 
 -- ---- the best of the valid plans
 
--- whether the cost is lower than that of the best plan so far, or there is none
-abbrev pub is_lower : ℕ → Option BestPlan → Bool
-is_lower cost None = true
-is_lower cost (Some best) = nat_lt cost best.cost
+-- the first of the valid plans that cost least: those before it cost more
+pub record IsBest (all : List Judged) (best : BestPlan) : Type 0 where
+  pub front : List Judged
+  pub judged : Judged
+  pub behind : List Judged
+  pub whole : all ≡ front ++ judged ∷ behind
+  pub number : length front ≡ best.number
+  pub its : judged.cost ≡ Some best.cost
+  pub dearer : All (λ (j : Judged). (c : ℕ) → j.cost ≡ Some c → best.cost < c) front
+  pub no_cheaper : All (λ (j : Judged). (c : ℕ) → j.cost ≡ Some c → best.cost ≤ c) behind
 
--- the best plan, with one more that has this number, and this cost if it is valid
-abbrev pub better : ℕ → Option ℕ → Option BestPlan → Option BestPlan
-better number None best = best
-better number (Some cost) best =
-    if is_lower cost best then Some (record { cost = cost; number = number }) else best
+-- the best of the plans; there is none where no plan is valid
+abbrev pub HasBest : List Judged → Option BestPlan → Type 0
+HasBest all None = All (λ (j : Judged). j.cost ≡ None) all
+HasBest all (Some best) = IsBest all best
 
--- the best plan, with more that have the numbers from this one on
-abbrev pub best_from : ℕ → Option BestPlan → List Judged → Option BestPlan
-best_from number best [] = best
-best_from number best (judged ∷ all) = best_from (number + 1) (better number judged.cost best) all
-
--- how many are valid, and the first of these that cost least
-abbrev pub tally_of : List Judged → Tally
-tally_of all = record { valid = count_by is_valid all; best = best_from 0 None all }
+-- how many of the plans are valid, and the best of these
+pub record Tallies (all : List Judged) (tally : Tally) : Type 0 where
+  pub valid : tally.valid ≡ count_by is_valid all
+  pub best : HasBest all tally.best
 
 -- ---- what is printed
 
@@ -74,10 +75,10 @@ summary_of labels tally =
     decimal (length labels) ++ codes " plans, " ++ decimal tally.valid ++ codes " valid"
     ++ best_words labels tally.best ++ codes "\n"
 
--- the answer about plans with these labels, by what is said of each
-abbrev pub plans_answer : List (List ℕ) → List Judged → Output
-plans_answer labels all = record {
-  text = flat_map labelled (zip labels all) ++ summary_of labels (tally_of all);
+-- the answer about plans with these labels, by what is said of each, and their tally
+abbrev pub plans_answer : List (List ℕ) → List Judged → Tally → Output
+plans_answer labels all tally = record {
+  text = flat_map labelled (zip labels all) ++ summary_of labels tally;
   status = if list_all is_valid all then Yes else No;
 }
 
@@ -88,7 +89,8 @@ plans_answer labels all = record {
 abbrev pub PlansOut : Parts → List (List ℕ) → List (List ℕ) → Option Output → Type 0
 PlansOut p labels cs (Some output) = (all : List Judged)
     × AllZip (IsJudged p) cs all
-    × (output ≡ plans_answer labels all)
+    × (tally : Tally) × Tallies all tally
+    × (output ≡ plans_answer labels all tally)
 PlansOut p labels cs None = (c : List ℕ) × Contains cs c × VerdictOut VerdictAnswer p c None
 
 -- and for the bytes b of the task; only the plans of a layered task are judged

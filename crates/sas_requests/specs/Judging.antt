@@ -1,5 +1,5 @@
 -- What the private steps of a run over many plans promise.
-use Rattle.std.specs.Prelude.{◌≡◌, ◌≢◌, ℕ, ◌+◌, ◌<◌, List, [], ◌++◌, length}
+use Rattle.std.specs.Prelude.{◌≡◌, ◌≢◌, ℕ, ◌+◌, ◌<◌, nat_lt, Bool, true, if◌then◌else◌, List, [], length}
 use Rattle.std.specs.Prelude.{slice_index_or, flat_map, zip, ⊤, Option, Some, None, Result, Ok, Err, IfErr, IsErrOf}
 use Rattle.sas_core.specs.declared.parts.Parts.{Parts}
 use Rattle.sas_answers.specs.declared.ending.Status.{Status}
@@ -17,7 +17,7 @@ use Rattle.sas_requests.specs.declared.tally.Tally.{Tally}
 use Rattle.sas_requests.specs.declared.verdicts.PlanReport.{PlanReport}
 use Rattle.sas_requests.specs.Inputs.{HaveBytes, WasRead, WereRead, tool_result}
 use Rattle.sas_requests.specs.InTurn.{IsRightlyLong}
-use Rattle.sas_requests.specs.Judged.{Judged, IsJudged, PlansOut, better, labelled, tally_of}
+use Rattle.sas_requests.specs.Judged.{Judged, IsJudged, PlansOut, Tallies, labelled}
 
 -- ---- one plan
 
@@ -63,11 +63,21 @@ IsBehindOpening number (judge_fault.Tool why) = (why ≢ fault.Read) × (why ≢
 abbrev pub unjudged : Judged
 unjudged = record { output = record { text = []; status = No }; cost = None }
 
+-- whether the cost is lower than that of the best plan so far, or there is none
+abbrev pub is_lower : ℕ → Option BestPlan → Bool
+is_lower cost None = true
+is_lower cost (Some best) = nat_lt cost best.cost
+
+-- the best plan, with one more that is valid, and has this number and this cost
+abbrev pub better : ℕ → ℕ → Option BestPlan → Option BestPlan
+better number cost best =
+    if is_lower cost best then Some (record { cost = cost; number = number }) else best
+
 -- the tally of one plan more, which has this number, and this cost if it is valid
 abbrev pub tally_with : ℕ → Option ℕ → Tally → Tally
 tally_with number None tally = tally
 tally_with number (Some cost) tally =
-    record { valid = tally.valid + 1; best = better number (Some cost) tally.best }
+    record { valid = tally.valid + 1; best = better number cost tally.best }
 
 -- this text is what is printed of so many first plans, and this their tally
 pub record AreReported (p : Parts) (known : ℕ → Option (List ℕ)) (labels : List (List ℕ))
@@ -77,7 +87,7 @@ pub record AreReported (p : Parts) (known : ℕ → Option (List ℕ)) (labels :
   pub each : (number : ℕ) → number < count
       → HoldsOf (known number) (λ c. IsJudged p c (slice_index_or all number unjudged))
   pub whole : text ≡ flat_map labelled (zip labels all)
-  pub counts : tally ≡ tally_of all
+  pub counts : Tallies all tally
 
 -- the place of the best is that of a plan
 abbrev pub IsPlace : List (List ℕ) → Option BestPlan → Type 0

@@ -1,7 +1,7 @@
 // How many of the plans so far are valid, and the best of these.
 ghost use Rattle.std.specs.Prelude.{◌≡◌, ◌<◌, []};
-ghost use Rattle.sas_requests.specs.Judged.{is_lower, tally_of};
-ghost use Rattle.sas_requests.specs.Judging.{tally_with};
+ghost use Rattle.sas_requests.specs.Judged.{Tallies};
+ghost use Rattle.sas_requests.specs.Judging.{is_lower, tally_with};
 
 /// A valid plan that costs least: its cost, and its number.
 #[derive(Clone, Copy, Debug)]
@@ -20,7 +20,7 @@ pub struct Tally {
 impl Tally {
     /// Returns the tally of no plans.
     pub fn new() -> Tally
-        ensures { result ≡ tally_of [] }
+        ensures { Tallies [] result }
     {
         Tally {
             valid: 0,
