@@ -3,10 +3,8 @@
 #![tactic(auto)]
 
 mod flat_so_far;
-mod flat_task;
 mod fronts;
 mod keeper;
-mod outline;
 mod task;
 mod task_judge;
 mod task_machine;
@@ -15,11 +13,9 @@ mod task_reader;
 mod task_refusal;
 mod task_text;
 
-pub use flat_task::read_flat_task;
 pub use keeper::{Keeper, KeptVariable};
-pub use outline::read_outline;
 pub use sas_task_file::Place;
-pub use task::{read_task, read_task_text};
+pub use task::{read_flat_task, read_outline, read_task, read_task_text};
 pub use task_judge::{Section, TaskJudge};
 pub use task_machine::TaskMachine;
 pub use task_reader::TaskReader;

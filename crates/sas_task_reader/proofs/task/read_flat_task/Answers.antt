@@ -1,7 +1,7 @@
 use Rattle.sas_task_reader.proofs.Imports.{sym, ap, subst, ◌∙◌, Parts, WellRanged, ValueOf, SoFar, reader_behavior, reads_explained, refuses_explained, table_node, task_format, TaskLineFits, table_start, fault_in, found_in, HasReason}
 use Rattle.sas_task_file.proofs.TaskGrammar.{task_grammar}
 use Rattle.sas_task_reader.proofs.TaskStanding.{reader_follows, read_task_parts, well_ranged}
-use Rattle.sas_task_reader.proofs.flat_task.read_flat_task.Goals as goal
+use Rattle.sas_task_reader.proofs.task.read_flat_task.Goals as goal
 
 pub into_task-requires : goal.into_task-requires
 into_task-requires g c =

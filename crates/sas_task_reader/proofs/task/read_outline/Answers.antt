@@ -2,7 +2,7 @@ use Rattle.sas_task_reader.proofs.Imports.{◌≡◌, List, ℕ, ap, ◌∙◌, 
 use Rattle.sas_task_file.proofs.TaskGrammar.{task_grammar}
 use Rattle.sas_task_reader.proofs.Outlines.{outline_is}
 use Rattle.sas_task_reader.proofs.TaskStanding.{machine_follows, reads_so_far}
-use Rattle.sas_task_reader.proofs.outline.read_outline.Goals as goal
+use Rattle.sas_task_reader.proofs.task.read_outline.Goals as goal
 
 -- what the machine stores
 abbrev Keeps : List (List ℕ) → SoFar → OutlineSoFar → Type 0
