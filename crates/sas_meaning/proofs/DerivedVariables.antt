@@ -1,19 +1,14 @@
 -- Which variables are derived.
-use Rattle.sas_meaning.proofs.Imports.{◌≡◌, ◌≢◌, ℕ, ◌+◌, ◌<◌, ◌≤◌, true, false, None, List, [], ◌∷◌, ◌++◌, length, refl, sym, subst, inl, inr, arith, All, Contains, cases_eq, All-nil, All-push, Contains-append_left, Contains-push, Parts, IsDerived, layer_of, IsBasic, AreDerived}
+use Rattle.sas_meaning.proofs.Imports.{common_steps, ◌≢◌, ℕ, ◌+◌, ◌<◌, ◌≤◌, List, [], ◌∷◌, ◌++◌, length, sym, subst, inl, inr, arith, All, Contains, cases_eq, All-nil, All-push, Contains-append_left, Contains-push, Parts, IsDerived, IsBasic, AreDerived}
 use Rattle.sas_meaning.proofs.Layers.{layer_cases, on_layer_within}
 
 -- a derived variable isn't basic
 pub not_basic : (p : Parts) (v w : ℕ) → IsDerived p.variables v → IsBasic p w → w ≢ v
-not_basic p v w derived basic e =
-    let none : layer_of p.variables v ≡ None = subst (λ x. layer_of p.variables x ≡ None) e basic in
-    let f : false ≡ true = rw none at derived in absurd cc
+not_basic p v w derived basic e = grind (arith, common_steps)
 
 -- it exists
 pub derived_within : (p : Parts) (v : ℕ) → IsDerived p.variables v → v < length p.variables
-derived_within p v derived = elim (layer_cases p v) [
-  | inl basic ↦ absurd (not_basic p v v derived basic refl)
-  | inr on ↦ on_layer_within p on.0 v on.1
-]
+derived_within p v derived = grind (arith, common_steps, layer_cases, not_basic, on_layer_within)
 
 -- those of the variables below `k`
 pub record DerivedUpTo (p : Parts) (k : ℕ) (variables : List ℕ) : Type 0 where
@@ -33,16 +28,7 @@ derived_more p k variables derived up = record {
 }
 
 pub derived_skip : (p : Parts) (k : ℕ) (variables : List ℕ) → (IsDerived p.variables k → ⊥) → DerivedUpTo p k variables → DerivedUpTo p (k + 1) variables
-derived_skip p k variables not up = record {
-  only = up.only;
-  each = λ v lt is. elim (cases_eq v k) [
-    | inl e ↦ absurd (not (subst (λ x. IsDerived p.variables x) e is))
-    | inr ne ↦ up.each v (omega arith) is
-  ];
-}
+derived_skip p k variables not up = grind (arith, common_steps, cases_eq)
 
 pub derived_all : (p : Parts) (k : ℕ) (variables : List ℕ) → length p.variables ≤ k → DerivedUpTo p k variables → AreDerived p variables
-derived_all p k variables past up = record {
-  only = up.only;
-  each = λ v is. up.each v (let lt = derived_within p v is in omega arith) is;
-}
+derived_all p k variables past up = grind (arith, common_steps, derived_within)

@@ -1,5 +1,5 @@
 -- For all values of the basic variables there is a settled state.
-use Rattle.sas_meaning.proofs.Imports.{◌≡◌, ℕ, zero, suc, ◌+◌, ◌<◌, ◌≤◌, ◌⊎◌, List, [], ◌∷◌, length, get_or, set, Option, None, Some, refl, sym, ◌∙◌, subst, inl, inr, arith, cases_eq, get_or-set_same, get_or-set_other, get_or_default, slice_get, option_and_then, Effect, Variable, Parts, no_effect, IsState, WellRanged, SettledExists, InitialExists, IsBasic, IsOnLayer, default_of, IsLayered, IsSettledAt, SameBasic, OnlyForced, HasFired, Changes, SameOff, AtDefault, equal_places}
+use Rattle.sas_meaning.proofs.Imports.{rules, ◌≡◌, ℕ, zero, suc, ◌+◌, ◌<◌, ◌≤◌, ◌⊎◌, List, [], ◌∷◌, length, get_or, set, Option, None, Some, refl, sym, ◌∙◌, subst, inl, inr, arith, cases_eq, get_or-set_same, get_or-set_other, get_or_default, slice_get, option_and_then, Effect, Variable, Parts, no_effect, IsState, WellRanged, SettledExists, InitialExists, IsBasic, IsOnLayer, default_of, IsLayered, IsSettledAt, SameBasic, OnlyForced, HasFired, Changes, SameOff, AtDefault, equal_places}
 use Rattle.sas_meaning.proofs.Layers.{layer_decides, layer_cases, on_layer_within}
 use Rattle.sas_meaning.proofs.Forced.{Fired, fired_there, state_set}
 use Rattle.sas_meaning.proofs.Facts.{hold_or_not}
@@ -86,10 +86,7 @@ module _ (t : Parts) (ranged : WellRanged t) (layered : IsLayered t) where
         result = set c.result n (default_of t n);
         state = state_set t c.result n (default_of t n) c.state (ranged.init.in_range n (omega arith));
         basic = λ v b. c.basic v b ∙ sym (get_or-set_other c.result n v (default_of t n) 0 (λ e. let f = subst (λ x. IsBasic t x) e b in absurd cc));
-        at = λ v m lt on. elim (cases_eq v n) [
-          | inl e ↦ subst (λ x. get_or (set c.result n (default_of t n)) x 0 ≡ default_of t x) (sym e) (get_or-set_same c.result n (default_of t n) 0 (let l = c.state.one_each in omega arith))
-          | inr ne ↦ get_or-set_other c.result n v (default_of t n) 0 ne ∙ c.at v m (omega arith) on
-        ];
+        at = search (rules, arith, cases_eq, get_or-set_same, get_or-set_other);
       }
 
       one : Cleared s n → Cleared s (suc n)
@@ -99,10 +96,7 @@ module _ (t : Parts) (ranged : WellRanged t) (layered : IsLayered t) where
           result = c.result;
           state = c.state;
           basic = c.basic;
-          at = λ v m lt on. elim (cases_eq v n) [
-            | inl e ↦ (let f = subst (λ x. IsOnLayer t m x) e on in absurd cc)
-            | inr ne ↦ c.at v m (omega arith) on
-          ];
+          at = search (rules, arith, cases_eq);
         }
       ]
 

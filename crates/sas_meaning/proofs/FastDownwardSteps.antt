@@ -1,5 +1,5 @@
 -- Steps of Fast Downward's search: they are unique, exist where the preconditions hold, and are those of `Step` where effects agree.
-use Rattle.sas_meaning.proofs.Imports.{◌≡◌, ℕ, ◌<◌, List, length, get_or, slice_index, refl, sym, ◌∙◌, subst, inl, inr, arith, holds_at, All, Contains, All-contains, Effect, Operator, OperatorFits, EffectFits, Parts, no_effect, effect_at, HasValue, IsState, WellRanged, IsBasic, IsLayered, AllHold, SameBasic, Settles, preconditions, Fires, Reachable, Initial, Next, FiresLast, FastDownwardStep, FastDownwardReachable, Start, Onward, written, StepExists, FastDownwardStepExists, FastDownwardStepIsOne, StepIsFastDownwards, FastDownwardStepIsStep, FastDownwardReaches, FastDownwardReachesNoMore, FastDownwardWrites}
+use Rattle.sas_meaning.proofs.Imports.{common_steps, rules, ◌≡◌, ℕ, ◌<◌, List, length, get_or, slice_index, refl, sym, ◌∙◌, inl, inr, arith, holds_at, All, Contains, All-contains, Effect, Operator, Parts, no_effect, effect_at, HasValue, IsState, WellRanged, IsBasic, IsLayered, AllHold, SameBasic, Settles, preconditions, Fires, Reachable, Initial, Next, FiresLast, FastDownwardStep, FastDownwardReachable, Start, Onward, written, StepExists, FastDownwardStepExists, FastDownwardStepIsOne, StepIsFastDownwards, FastDownwardStepIsStep, FastDownwardReaches, FastDownwardReachesNoMore, FastDownwardWrites}
 use Rattle.sas_meaning.proofs.Exists.{settled_exists}
 use Rattle.sas_meaning.proofs.Forced.{fact_within}
 use Rattle.sas_meaning.proofs.Unique.{settled_is_one}
@@ -10,10 +10,7 @@ Fits p e = HasValue p.variables e.var e.new
 
 -- the effects of an operator of a task set values of its variables
 fit : (p : Parts) (o : Operator) → WellRanged p → Contains p.operators o → All (Fits p) o.effects
-fit p o ranged (k, lt, is) j d within = (holds_at (EffectFits p.variables) d o.effects fits.effects.each j within).new
-  where
-    fits : OperatorFits p.variables o
-    fits = subst (OperatorFits p.variables) is (holds_at (OperatorFits p.variables) o p.operators ranged.operators.each k lt)
+fit p o ranged (k, lt, is) j d within = grind (arith, common_steps, holds_at, within)
 
 -- they set basic variables
 on_basic : (p : Parts) (o : Operator) → IsLayered p → Contains p.operators o → All (λ (e : Effect). IsBasic p e.var) o.effects
@@ -26,9 +23,7 @@ module _ (p : Parts) (s : List ℕ) (o : Operator) where
 
   -- its value
   set_to : (s' : List ℕ) → FastDownwardStep p s o s' → (v : ℕ) → IsBasic p v → (w : LastOn s o.effects v) → get_or s' v 0 ≡ (get_or o.effects w.place no_effect).new
-  set_to s' step v basic w =
-      subst (λ x. get_or s' x 0 ≡ (get_or o.effects w.place no_effect).new) w.on
-      (step.set w.place (subst (IsBasic p) (sym w.on) basic) (fires_last v w))
+  set_to s' step v basic w = search (rules, arith, fires_last)
 
   -- the same value in two next states
   same_value : (a b : List ℕ) → FastDownwardStep p s o a → FastDownwardStep p s o b → SameBasic p a b
@@ -39,11 +34,7 @@ module _ (p : Parts) (s : List ℕ) (o : Operator) where
 
   module _ (effects_fit : All (Fits p) o.effects) (state : IsState p.variables s) where
     within : (v : ℕ) → LastOn s o.effects v → v < length s
-    within v w =
-        let lt = fact_within p (get_or o.effects w.place no_effect).var (get_or o.effects w.place no_effect).new (effects_fit w.place no_effect w.exists) in
-        let same = w.on in
-        let one_each = state.one_each in
-        omega arith
+    within v w = grind (arith, common_steps, fact_within)
 
     settles : (s' : List ℕ) → FastDownwardStep p s o s' → Settles p (written s o.effects s) s'
     settles s' step = record { state = step.state; basic = basic; settled = step.settled }
@@ -83,13 +74,7 @@ is_one_there p s o a b layered to_a to_b =
     (record { state = to_b.state; basic = same_value p s o a b to_a to_b; settled = to_b.settled })
 
 pub step_there : StepIsFastDownwards
-step_there p s o s' step = record {
-  applicable = step.applicable;
-  state = step.state;
-  settled = step.settled;
-  set = λ effect basic last. step.set effect no_effect last.exists last.fires;
-  kept = step.kept;
-}
+step_there p s o s' step = grind (arith, common_steps)
 
 pub step_here : FastDownwardStepIsStep
 step_here p s o s' layered among agree step = record {

@@ -1,5 +1,5 @@
 -- When one rule fires, all variables that differ from their default are still forced.
-use Rattle.sas_meaning.proofs.Imports.{◌≡◌, ◌≢◌, ℕ, zero, suc, ◌<◌, Bool, true, cond, List, [], ◌∷◌, length, get_or, set, sym, ◌∙◌, ap, subst, inl, inr, arith, cases_eq, eqb_tells, get_or-set_same, get_or-set_other, length-set, slice_get, option_map_or, Fact, Variable, Effect, Parts, rule_at, range_of, HasValue, FactExists, IsState, WellRanged, EffectFits, holds_at, rule_fits, AllHold, IsOnLayer, default_of, CanFire, LooksDown, IsLayered, new_value_of, value_with, IsClosed, differs, OnlyForced, HasFired, Changes, SameOff, equal_places}
+use Rattle.sas_meaning.proofs.Imports.{common_steps, rules, ◌≡◌, ◌≢◌, ℕ, zero, suc, ◌<◌, Bool, true, cond, List, [], ◌∷◌, length, get_or, set, sym, ◌∙◌, ap, subst, inl, inr, arith, cases_eq, eqb_tells, get_or-set_same, get_or-set_other, length-set, slice_get, option_map_or, Fact, Variable, Effect, Parts, rule_at, range_of, HasValue, IsState, WellRanged, EffectFits, holds_at, rule_fits, AllHold, IsOnLayer, default_of, CanFire, LooksDown, IsLayered, new_value_of, value_with, IsClosed, differs, OnlyForced, HasFired, Changes, SameOff, equal_places}
 use Rattle.sas_meaning.proofs.Layers.{AgreeBelow, agree_sym, closed_agrees, layer_decides, given_on, given_off}
 use Rattle.sas_meaning.proofs.Rules.{new_value_is}
 use Rattle.sas_meaning.proofs.Unique.{differs_decides}
@@ -16,10 +16,7 @@ differs_same t s s' v same d = rw same at d
 
 -- states that are the same off the layer agree below it
 pub agree_off : (t : Parts) (layer : ℕ) (s s' : List ℕ) → SameOff t layer s s' → AgreeBelow t layer s s'
-agree_off t layer s s' same = record {
-  basic = λ v b. same v (λ on. let e = b in let f = on in cc);
-  derived = λ v m lt on. same v (λ on'. let e = on in let f = on' in let g : m ≡ layer = cc in omega arith);
-}
+agree_off t layer s s' same = grind (arith, common_steps)
 
 module _ (t : Parts) (layer : ℕ) (layered : IsLayered t) (k : ℕ) (d : Effect) (lt : k < length t.rules) where
   -- a condition that holds where all is forced holds under each closed set
@@ -51,10 +48,7 @@ module _ (t : Parts) (layer : ℕ) (layered : IsLayered t) (k : ℕ) (d : Effect
 
         new : (v : ℕ) → IsOnLayer t layer v → differs t (set s (get_or t.rules k d).var (get_or t.rules k d).new) v ≡ true
             → get_or (set s (get_or t.rules k d).var (get_or t.rules k d).new) v 0 ≡ new_value_of t v
-        new v on' df = elim (cases_eq v (get_or t.rules k d).var) [
-          | inl e ↦ ap (λ x. get_or (set s (get_or t.rules k d).var (get_or t.rules k d).new) x 0) e ∙ (get_or-set_same s (get_or t.rules k d).var (get_or t.rules k d).new 0 within ∙ (sym (new_value_is t k d layered lt fire) ∙ ap (new_value_of t) (sym e)))
-          | inr ne ↦ other v ne ∙ forced.new v on' (still v ne df)
-        ]
+        new v on' df = grind (arith, common_steps, cases_eq, get_or-set_same, new_value_is, other, still)
 
         least : (set' : ℕ → Bool) → IsClosed t layer (set s (get_or t.rules k d).var (get_or t.rules k d).new) set'
             → (v : ℕ) → IsOnLayer t layer v → differs t (set s (get_or t.rules k d).var (get_or t.rules k d).new) v ≡ true → set' v ≡ true
@@ -64,44 +58,23 @@ module _ (t : Parts) (layer : ℕ) (layered : IsLayered t) (k : ℕ) (d : Effect
         ]
           where
             closed : IsClosed t layer s set'
-            closed = closed_agrees t layer (set s (get_or t.rules k d).var (get_or t.rules k d).new) s set' layered
-                (agree_sym t layer s (set s (get_or t.rules k d).var (get_or t.rules k d).new) (agree_off t layer s (set s (get_or t.rules k d).var (get_or t.rules k d).new) (fired_off on))) closed'
+            closed = search (rules, arith, closed_agrees, agree_sym, agree_off, fired_off)
 
 -- where every rule has fired, the variables that differ are a closed set
 pub closed_when_fired : (t : Parts) (layer : ℕ) (s : List ℕ) → OnlyForced t layer s → ((k : ℕ) (d : Effect) → k < length t.rules → HasFired t layer s (get_or t.rules k d))
     → IsClosed t layer s (differs t s)
-closed_when_fired t layer s forced done k d lt on fire hold =
-    differs_true t s (get_or t.rules k d).var (λ e. fire (sym (done k d lt on fire (λ j f lt'. sym (is_value (get_or (get_or t.rules k d).conditions j f).var) ∙ hold j f lt')) ∙ e))
-  where
-    is_value : (v : ℕ) → value_with t layer s (differs t s) v ≡ get_or s v 0
-    is_value v = elim (layer_decides t layer v) [
-      | inr w ↦ given_off t layer s (differs t s) v w.0
-      | inl w ↦ given_on t layer s (differs t s) v w.0 ∙ elim (differs_decides t s v) [
-        | inl p ↦ ap (λ b. cond b (new_value_of t v) (default_of t v)) p.1 ∙ sym p.0
-        | inr p ↦ ap (λ b. cond b (new_value_of t v) (default_of t v)) p.1 ∙ sym (forced.new v w.0 p.1)
-      ]
-    ]
+closed_when_fired t layer s forced done k d lt on fire hold = grind (arith, common_steps, differs_true, layer_decides, given_off, given_on, differs_decides, cond)
 
 -- a write of another value to an equal place leaves fewer
 pub fewer_equal : (xs ys : List ℕ) (k a : ℕ) → k < length xs → k < length ys → get_or xs k 0 ≡ get_or ys k 0 → a ≢ get_or ys k 0
     → equal_places (set xs k a) ys < equal_places xs ys
 fewer_equal [] ys k a lt lt' e ne = absurd (omega arith)
 fewer_equal (x ∷ xs) [] k a lt lt' e ne = absurd (omega arith)
-fewer_equal (x ∷ xs) (y ∷ ys) zero a lt lt' e ne = elim (eqb_tells x y) [
-  | inl p ↦ elim (eqb_tells a y) [ inl q ↦ absurd (ne q.1) | inr q ↦ rw (p.0, q.0) (omega arith) ]
-  | inr p ↦ absurd (p.1 e)
-]
+fewer_equal (x ∷ xs) (y ∷ ys) zero a lt lt' e ne = grind (arith, common_steps, eqb_tells)
 fewer_equal (x ∷ xs) (y ∷ ys) (suc k) a lt lt' e ne = let ih = fewer_equal xs ys k a (omega arith) (omega arith) e ne in omega arith
 
 pub state_set : (t : Parts) (s : List ℕ) (v a : ℕ) → IsState t.variables s → a < range_of t.variables v → IsState t.variables (set s v a)
-state_set t s v a state fits = record {
-  one_each = length-set s v a ∙ state.one_each;
-  in_range = λ w lt. elim (cases_eq w v) [
-    | inl e ↦ subst (λ x. get_or (set s v a) x 0 < range_of t.variables x) (sym e)
-        (rw (get_or-set_same s v a 0 (let h : v < length t.variables = subst (λ x. x < length t.variables) e lt in let l = state.one_each in omega arith)) fits)
-    | inr ne ↦ rw (get_or-set_other s v w a 0 ne) (state.in_range w lt)
-  ];
-}
+state_set t s v a state fits = grind (arith, common_steps, length-set, cases_eq, get_or-set_same, get_or-set_other)
 
 -- a fact that exists is on a variable that exists
 pub fact_within : (t : Parts) (v x : ℕ) → x < range_of t.variables v → v < length t.variables
@@ -119,9 +92,7 @@ rule_new t ranged k d lt = (holds_at (EffectFits t.variables) d t.rules ranged.r
 -- a rule's condition is on a variable of the task
 pub condition_within : (t : Parts) (k j : ℕ) (c : Fact) → WellRanged t → k < length t.rules → j < length (rule_at t k).conditions
     → (get_or (rule_at t k).conditions j c).var < length t.variables
-condition_within t k j c ranged lt lt' =
-    fact_within t (get_or (rule_at t k).conditions j c).var (get_or (rule_at t k).conditions j c).value
-    (holds_at (FactExists t.variables) c (rule_at t k).conditions (rule_fits t ranged k lt).conditions.each j lt')
+condition_within t k j c ranged lt lt' = grind (arith, common_steps, fact_within, holds_at, rule_fits)
 
 -- what one rule of the task changes
 pub record Fired (t : Parts) (layer : ℕ) (s : List ℕ) (rule : Effect) : Type 0 where

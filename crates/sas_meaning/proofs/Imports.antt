@@ -1,6 +1,7 @@
 -- What the proofs use of other crates, and of the definitions of this one.
 pub use Rattle.std.proofs.Common.{◌≡◌, ◌≢◌, ℕ, ◌+◌, ◌<◌, ◌≤◌, true, false, None, List, [], ◌∷◌, ◌++◌, length, refl, sym, subst, inl, inr, arith, zero, suc, ◌⊎◌, get_or, set, Option, Some, ◌∙◌, ◌==◌, Bool, take, slice_index, slice_index_or, slice_set, ap, cond, eqb-true, eq-eqb, below_more, ◌↔◌, nat_lt, nat_le, if◌then◌else◌, flat_map, not, ltb-true, lt-ltb, leb-true, le-leb, drop, add-one, ◌&&◌, ◌||◌, get_or-take, rules, Result, Ok, Err, ◌-◌}
 pub use Rattle.std.proofs.Math.Seq.{drop-cons, take-suc}
+pub use Rattle.std.proofs.lemmas.Grind.{common_steps}
 pub use Rattle.std.proofs.lemmas.Bool.{cases_eq, false_from_ne_true, cases_Bool, cases_lt}
 pub use Rattle.std.proofs.lemmas.Bool.Decides.{eqb_tells}
 pub use Rattle.std.proofs.lemmas.Grind.{same_number_lists, elements}

@@ -1,7 +1,7 @@
 -- All layer checks pass if and only if the task is layered: each check is equivalent to its rule.
-use Rattle.sas_meaning.proofs.Imports.{◌≡◌, ℕ, zero, suc, ◌+◌, ◌<◌, ◌≤◌, ◌==◌, ◌↔◌, Bool, true, false, nat_lt, nat_le, if◌then◌else◌, List, [], ◌∷◌, ◌++◌, length, take, flat_map, get_or, ◌⊎◌, inl, inr, not, Option, Some, None, refl, sym, ap, ◌∙◌, subst, arith, eqb-true, eq-eqb, ltb-true, lt-ltb, leb-true, le-leb, get_or_default, cases_lt, enumerate_from, option_map_or, is_some, Effect, Operator, LayerFault, EffectOnDerived, RuleOnBasic, OldValue, TwoValues, LayerOrder, IsBasic, default_of, CanFire, can_fire, LooksDown, IsLayeredRule, IsLayered, numbered_checks, effect_layer_checks, operator_layer_checks, agrees_with, looks_down, firing_checks, rule_layer_checks, layer_checks, LayerChecksAreTheRules, Parts, Pass, by_test, split_row, join_row, and_then, Check, first_fault, check, rule_at, layer_of, IsDerived}
+use Rattle.sas_meaning.proofs.Imports.{common_steps, rules, ◌≡◌, ℕ, zero, suc, ◌+◌, ◌<◌, ◌≤◌, ◌==◌, ◌↔◌, Bool, true, false, nat_lt, nat_le, if◌then◌else◌, List, [], ◌∷◌, length, flat_map, get_or, ◌⊎◌, inl, inr, not, Option, Some, None, refl, sym, ap, ◌∙◌, subst, arith, eqb-true, eq-eqb, ltb-true, lt-ltb, leb-true, le-leb, get_or_default, cases_lt, enumerate_from, option_map_or, is_some, Effect, Operator, LayerFault, LayerOrder, IsBasic, default_of, CanFire, LooksDown, IsLayeredRule, IsLayered, numbered_checks, effect_layer_checks, operator_layer_checks, looks_down, firing_checks, rule_layer_checks, layer_checks, LayerChecksAreTheRules, Parts, Pass, by_test, split_row, join_row, and_then, Check, first_fault, check, rule_at, IsDerived}
 use Rattle.std.proofs.Common.{All}
-use Rattle.sas_meaning.proofs.RuleTests.{fires, agrees_with_earlier}
+use Rattle.sas_meaning.proofs.RuleTests.{agrees_with_earlier}
 
 -- checks that are made only where a test says so
 where_so : (so : Bool) (row : List (Check LayerFault)) (C P : Type 0) → (so ≡ true) ↔ C → Pass row ↔ P → Pass (if so then row else []) ↔ (C → P)
@@ -19,8 +19,7 @@ module _ {A : Type 0} (checks_of : ℕ → A → List (Check LayerFault)) where
 
   each_from : (n : ℕ) (item : A) (items : List A) → Pass (checks_of n item) → Each (n + 1) items → (place : ℕ) (d : A) → place < length (item ∷ items) → Pass (checks_of (n + place) (get_or (item ∷ items) place d))
   each_from n item items first rest zero d below = moved n (n + 0) item (omega arith) first
-  each_from n item items first rest (suc place) d below =
-      moved (n + 1 + place) (n + suc place) (get_or items place d) (omega arith) (rest place d (omega arith))
+  each_from n item items first rest (suc place) d below = grind (arith, common_steps, moved)
 
   passes_each : (n : ℕ) (items : List A) → Pass (flat_map (λ (place, item). checks_of place item) (enumerate_from n items)) → Each n items
   passes_each n [] pass = λ place d below. absurd (omega arith)
@@ -37,17 +36,11 @@ module _ {A : Type 0} (checks_of : ℕ → A → List (Check LayerFault)) where
 
   -- the checks of all items pass exactly where those of the item at each place do
   numbered_pass : (items : List A) → Pass (numbered_checks checks_of items) ↔ ((place : ℕ) (d : A) → place < length items → Pass (checks_of place (get_or items place d)))
-  numbered_pass items = (
-    λ pass place d below. moved (0 + place) place (get_or items place d) (omega arith) (passes_each 0 items pass place d below),
-    λ each. each_passes 0 items (λ place d below. moved place (0 + place) (get_or items place d) (omega arith) (each place d below)),
-  )
+  numbered_pass items = grind (arith, common_steps, moved, passes_each, each_passes)
 
   -- where the checks of an item say the same at each place
   all_follow : (Follows : A → Type 0) (items : List A) → ((place : ℕ) (item : A) → Pass (checks_of place item) ↔ Follows item) → Pass (numbered_checks checks_of items) ↔ All Follows items
-  all_follow Follows items same = (
-    λ pass place d below. (same place (get_or items place d)).0 ((numbered_pass items).0 pass place d below),
-    λ all. (numbered_pass items).1 (λ place d below. (same place (get_or items place d)).1 (all place d below)),
-  )
+  all_follow Follows items same = grind (arith, common_steps, numbered_pass)
 
 -- ---- operators
 
@@ -56,12 +49,10 @@ no_layer None = (λ test. refl, λ none. refl)
 no_layer (Some n) = (λ test. absurd (cc), λ none. absurd (cc))
 
 effect_follows : (p : Parts) (operator effect : ℕ) (e : Effect) → Pass (effect_layer_checks p operator effect e) ↔ IsBasic p e.var
-effect_follows p operator effect e =
-    by_test (not (is_some (layer_of p.variables e.var))) (EffectOnDerived operator effect) (IsBasic p e.var) (no_layer (layer_of p.variables e.var))
+effect_follows p operator effect e = grind (arith, common_steps, by_test, not, is_some, no_layer)
 
 operator_follows : (p : Parts) (operator : ℕ) (o : Operator) → Pass (operator_layer_checks p operator o) ↔ All (λ (e : Effect). IsBasic p e.var) o.effects
-operator_follows p operator o =
-    all_follow (effect_layer_checks p operator) (λ (e : Effect). IsBasic p e.var) o.effects (effect_follows p operator)
+operator_follows p operator o = search (rules, arith, all_follow, effect_follows)
 
 -- ---- rules
 
@@ -77,14 +68,8 @@ module _ (here its value default : ℕ) where
   IsDown = (its ≤ here) × (value ≡ default → its < here)
 
   is_down : (same : Bool) → (value == default) ≡ same → ((if same then nat_lt its here else nat_le its here) ≡ true) ↔ IsDown
-  is_down true same = (
-    λ test. let below = ltb-true its here test in (omega arith, λ _. below),
-    λ down. lt-ltb its here (down.1 (eqb-true value default same)),
-  )
-  is_down false differ = (
-    λ test. (leb-true its here test, λ same. let yes : (value == default) ≡ true = eq-eqb value default same in absurd (cc)),
-    λ down. le-leb its here down.0,
-  )
+  is_down true same = grind (arith, common_steps, ltb-true, lt-ltb, eqb-true)
+  is_down false differ = grind (arith, common_steps, leb-true, eq-eqb, le-leb)
 
 down_is : (here its : Option ℕ) (value default : ℕ) → (option_map_or (λ here. option_map_or (λ its. if value == default then nat_lt its here else nat_le its here) its true) here true ≡ true) ↔ ((h i : ℕ) → here ≡ Some h → its ≡ Some i → (i ≤ h) × (value ≡ default → i < h))
 down_is None its value default = (λ test h i here_is its_is. absurd (cc), λ each. refl)
@@ -100,8 +85,7 @@ down_is (Some here) (Some its) value default = (
 
 module _ (p : Parts) where
   conditions_follow : (place : ℕ) (rule : Effect) → Pass (numbered_checks (λ condition c. check (looks_down p rule.var c) (LayerOrder place condition)) rule.conditions) ↔ All (LooksDown p rule.var) rule.conditions
-  conditions_follow place rule =
-      all_follow (λ condition c. check (looks_down p rule.var c) (LayerOrder place condition)) (LooksDown p rule.var) rule.conditions (λ condition c. by_test (looks_down p rule.var c) (LayerOrder place condition) (LooksDown p rule.var c) (down_is (layer_of p.variables rule.var) (layer_of p.variables c.var) c.value (default_of p c.var)))
+  conditions_follow place rule = search (rules, arith, all_follow, by_test, down_is)
 
   -- what the checks of a rule that can fire say of it
   abbrev Firing : ℕ → Effect → Type 0
@@ -109,19 +93,10 @@ module _ (p : Parts) where
       (((value : ℕ) → rule.old ≡ Some value → value ≡ default_of p rule.var) × ((k : ℕ) → k < place → CanFire p (rule_at p k) → (rule_at p k).var ≡ rule.var → (rule_at p k).new ≡ rule.new)) × All (LooksDown p rule.var) rule.conditions
 
   firing_follows : (place : ℕ) (rule : Effect) → place ≤ length p.rules → Pass (firing_checks p place rule) ↔ Firing place rule
-  firing_follows place rule within =
-      let test_of_old = option_map_or (λ old. old == default_of p rule.var) rule.old true in
-      let old = by_test test_of_old (OldValue place) _ (old_is rule.old (default_of p rule.var)) in
-      let test_of_others = agrees_with p (take place p.rules) rule in
-      let others = by_test test_of_others (TwoValues place) _ (agrees_with_earlier p rule place within) in
-      let both = and_then (check test_of_old (OldValue place)) (check test_of_others (TwoValues place)) _ _ old others in
-      and_then (check test_of_old (OldValue place) ++ check test_of_others (TwoValues place)) _ _ _ both (conditions_follow place rule)
+  firing_follows place rule within = search (rules, arith, option_map_or, by_test, old_is, agrees_with_earlier, and_then, conditions_follow)
 
   rule_follows : (place : ℕ) (rule : Effect) → place ≤ length p.rules → Pass (rule_layer_checks p place rule) ↔ (IsDerived p.variables rule.var × (CanFire p rule → Firing place rule))
-  rule_follows place rule within =
-      let derived = by_test (is_some (layer_of p.variables rule.var)) (RuleOnBasic place) (IsDerived p.variables rule.var) (λ is. is, λ is. is) in
-      let firing = where_so (can_fire p rule) (firing_checks p place rule) _ _ (fires p rule) (firing_follows place rule within) in
-      and_then (check (is_some (layer_of p.variables rule.var)) (RuleOnBasic place)) (if can_fire p rule then firing_checks p place rule else []) _ _ derived firing
+  rule_follows place rule within = search (rules, arith, by_test, is_some, where_so, firing_follows, and_then)
 
   -- each rule, read as a task says it
   each_rule : (P : Effect → Type 0) → ((place : ℕ) → place < length p.rules → P (rule_at p place)) → All P p.rules

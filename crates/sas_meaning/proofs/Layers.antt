@@ -1,5 +1,5 @@
 -- Which variables the conditions of a layer's rules may mention.
-use Rattle.sas_meaning.proofs.Imports.{◌≡◌, ◌≢◌, ℕ, zero, suc, ◌<◌, ◌≤◌, ◌==◌, ◌⊎◌, Bool, true, false, cond, List, [], ◌∷◌, length, get_or, Option, None, Some, refl, sym, ◌∙◌, ap, subst, inl, inr, arith, eqb_tells, slice_get, option_map_or, option_and_then, Variable, Fact, Effect, Parts, layer_of, IsBasic, IsOnLayer, default_of, LooksDown, IsLayered, is_on_layer, new_value_of, value_with, IsClosed, SameBasic}
+use Rattle.sas_meaning.proofs.Imports.{rules, ◌≡◌, ◌≢◌, ℕ, zero, suc, ◌<◌, ◌≤◌, ◌==◌, ◌⊎◌, Bool, true, false, cond, List, [], ◌∷◌, length, get_or, Option, None, Some, refl, sym, ◌∙◌, ap, inl, inr, arith, eqb_tells, slice_get, option_map_or, option_and_then, Variable, Fact, Effect, Parts, layer_of, IsBasic, IsOnLayer, default_of, LooksDown, IsLayered, is_on_layer, new_value_of, value_with, IsClosed, SameBasic}
 
 -- a variable is on the layer or off it, and the test shows which
 option_shows : (o : Option ℕ) (layer : ℕ) → ((o ≡ Some layer) × (option_map_or (λ m. m == layer) o false ≡ true)) ⊎ ((o ≢ Some layer) × (option_map_or (λ m. m == layer) o false ≡ false))
@@ -40,18 +40,7 @@ looks_down t rule c below here h b r = (h here below r b).0
 -- layers below alone
 given_agrees : (t : Parts) (layer : ℕ) (s s' : List ℕ) (set : ℕ → Bool) (rule : Effect) (c : Fact) → AgreeBelow t layer s s' → IsOnLayer t layer rule.var → LooksDown t rule.var c
     → value_with t layer s set c.var ≡ value_with t layer s' set c.var
-given_agrees t layer s s' set rule c agree on down = elim (layer_decides t layer c.var) [
-  | inl w ↦ given_on t layer s set c.var w.0 ∙ sym (given_on t layer s' set c.var w.0)
-  | inr w ↦ given_off t layer s set c.var w.0 ∙ (same w.0 ∙ sym (given_off t layer s' set c.var w.0))
-]
-  where
-    same : (IsOnLayer t layer c.var → ⊥) → get_or s c.var 0 ≡ get_or s' c.var 0
-    same off = elim (layer_cases t c.var) [
-      | inl b ↦ agree.basic c.var b
-      | inr p ↦ (let le : p.0 ≤ layer = looks_down t rule c p.0 layer down p.1 on in
-          let ne : p.0 ≢ layer = λ e. off (subst (λ m. IsOnLayer t m c.var) e p.1) in
-          agree.derived c.var p.0 (omega arith) p.1)
-    ]
+given_agrees t layer s s' set rule c agree on down = search (rules, arith, layer_decides, given_on, given_off, layer_cases)
 
 pub closed_agrees : (t : Parts) (layer : ℕ) (s s' : List ℕ) (set : ℕ → Bool) → IsLayered t → AgreeBelow t layer s s' → IsClosed t layer s set → IsClosed t layer s' set
 closed_agrees t layer s s' set layered agree closed k d lt on fire hold =

@@ -1,5 +1,5 @@
 -- The first fault among the checks of the items of a list.
-use Rattle.sas_meaning.proofs.Imports.{◌≡◌, ℕ, ◌+◌, ◌<◌, ◌≤◌, Bool, List, ◌∷◌, length, flat_map, drop, get_or, Option, Some, None, refl, sym, ◌∙◌, ap, add-one, arith, drop-cons, drop_all, get_or-enumerate_from, length-enumerate_from, enumerate_from, Check, first_fault, check, fails_before, decides_after, LayerFault, numbered_checks}
+use Rattle.sas_meaning.proofs.Imports.{common_steps, ◌≡◌, ℕ, ◌+◌, ◌<◌, ◌≤◌, Bool, List, ◌∷◌, length, flat_map, drop, get_or, Option, Some, None, sym, ◌∙◌, ap, add-one, arith, drop-cons, drop_all, get_or-enumerate_from, length-enumerate_from, enumerate_from, Check, first_fault, check, fails_before, decides_after, LayerFault, numbered_checks}
 
 -- a check, and one whose test says the same
 pub same_check : (passes test : Bool) (e : LayerFault) (found : Option LayerFault) → passes ≡ test → found ≡ first_fault (check passes e) → found ≡ first_fault (check test e)
@@ -16,10 +16,7 @@ pub record PassBefore {A : Type 0} (checks_of : ℕ → A → List (Check LayerF
 module _ {A : Type 0} (checks_of : ℕ → A → List (Check LayerFault)) (items : List A) where
   -- no item is left
   pub pass_all : (place : ℕ) → length items ≤ place → PassBefore checks_of items place → None ≡ first_fault (numbered_checks checks_of items)
-  pass_all place past before =
-      sym
-      (before.rest_decides
-      ∙ ap (λ rest. first_fault (named checks_of rest)) (drop_all place (enumerate_from 0 items) (omega (arith, length-enumerate_from 0 items))))
+  pass_all place past before = grind (arith, common_steps, drop_all, enumerate_from, length-enumerate_from)
 
   module _ (place : ℕ) (otherwise item : A) (below : place < length items) (is : item ≡ get_or items place otherwise) (before : PassBefore checks_of items place) where
     at_item : drop place (enumerate_from 0 items) ≡ (place, item) ∷ drop (place + 1) (enumerate_from 0 items)
@@ -33,15 +30,8 @@ module _ {A : Type 0} (checks_of : ℕ → A → List (Check LayerFault)) (items
 
     -- the item at this place passes
     pub pass_before_next : None ≡ first_fault (checks_of place item) → PassBefore checks_of items (place + 1)
-    pass_before_next none = record {
-      rest_decides =
-          before.rest_decides
-          ∙ ap (λ rest. first_fault (named checks_of rest)) at_item
-          ∙ sym (decides_after (checks_of place item) (named checks_of (drop (place + 1) (enumerate_from 0 items))) _ none refl);
-    }
+    pass_before_next none = grind (arith, common_steps, at_item, decides_after, enumerate_from)
 
     -- the item at this place fails
     pub fails_at : (e : LayerFault) → Some e ≡ first_fault (checks_of place item) → Some e ≡ first_fault (numbered_checks checks_of items)
-    fails_at e some =
-        fails_before (checks_of place item) (named checks_of (drop (place + 1) (enumerate_from 0 items))) e some
-        ∙ sym (before.rest_decides ∙ ap (λ rest. first_fault (named checks_of rest)) at_item)
+    fails_at e some = grind (arith, common_steps, fails_before, enumerate_from, at_item)

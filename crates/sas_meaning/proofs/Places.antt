@@ -1,5 +1,5 @@
 -- The places of the items of a list that pass a test.
-use Rattle.sas_meaning.proofs.Imports.{◌≡◌, ℕ, zero, suc, ◌+◌, ◌<◌, ◌≤◌, Bool, true, false, List, [], ◌∷◌, ◌++◌, length, get_or, take, refl, sym, ◌∙◌, ap, subst, inl, inr, arith, if◌then◌else◌, AllPairs, Contains, cases_Bool, take_all, length-take-le, Contains-get_or, AllPairs-cons, take-suc, places_from, places}
+use Rattle.sas_meaning.proofs.Imports.{common_steps, ◌≡◌, ℕ, zero, suc, ◌+◌, ◌<◌, ◌≤◌, Bool, true, false, List, [], ◌∷◌, ◌++◌, length, get_or, take, refl, sym, ◌∙◌, ap, subst, inl, inr, arith, if◌then◌else◌, AllPairs, Contains, cases_Bool, take_all, length-take-le, Contains-get_or, AllPairs-cons, take-suc, places_from, places}
 use Rattle.sas_meaning.proofs.Members.{contains_head, contains_tail, contains_cases, contains_none}
 
 module _ {A : Type 0} (test : A → Bool) where
@@ -38,9 +38,7 @@ module _ {A : Type 0} (test : A → Bool) where
   pub is_place : (place : ℕ) (items : List A) (index : ℕ) (d : A) → index < length items → test (get_or items index d) ≡ true
       → Contains (places_from place test items) (place + index)
   is_place place [] index d lt is = absurd (omega arith)
-  is_place place (x ∷ xs) zero d lt is =
-      subst (λ zs. Contains zs (place + zero)) (sym (takes place x xs is))
-      (subst (Contains (place ∷ places_from (place + 1) test xs)) (let e : place ≡ place + zero = omega arith in e) (contains_head place (places_from (place + 1) test xs)))
+  is_place place (x ∷ xs) zero d lt is = grind (arith, common_steps, takes, contains_head)
   is_place place (x ∷ xs) (suc index) d lt is = there (subst (Contains (places_from (place + 1) test xs)) (let e : place + 1 + index ≡ place + suc index = omega arith in e)
       (is_place (place + 1) xs index d (omega arith) is))
     where
@@ -69,8 +67,7 @@ places_more test place (y ∷ ys) x = elim (cases_Bool (test y)) [
   where
     behind : places_from (place + 1) test (ys ++ x ∷ []) ≡ places_from (place + 1) test ys ++ (if test x then (place + 1 + length ys) ∷ [] else [])
         → places_from (place + 1) test (ys ++ x ∷ []) ≡ places_from (place + 1) test ys ++ (if test x then (place + suc (length ys)) ∷ [] else [])
-    behind is = is
-        ∙ ap (λ n. places_from (place + 1) test ys ++ (if test x then n ∷ [] else [])) (let e : place + 1 + length ys ≡ place + suc (length ys) = omega arith in e)
+    behind is = grind (arith, common_steps)
 
 -- the places among the first k items
 abbrev pub places_to : {A : Type 0} → (A → Bool) → ℕ → List A → List ℕ
@@ -78,11 +75,7 @@ places_to test k items = places test (take k items)
 
 pub places_one_more : {A : Type 0} (test : A → Bool) (k : ℕ) (items : List A) (d : A) → k < length items
     → places_to test (k + 1) items ≡ places_to test k items ++ (if test (get_or items k d) then k ∷ [] else [])
-places_one_more test k items d lt =
-    ap (λ n. places_to test n items) (let e : k + 1 ≡ suc k = omega arith in e)
-    ∙ (ap (λ l. places test l) (take-suc items k d lt)
-    ∙ (places_more test 0 (take k items) (get_or items k d)
-    ∙ ap (λ n. places_to test k items ++ (if test (get_or items k d) then n ∷ [] else [])) (let l = length-take-le k items (omega arith) in let e : 0 + length (take k items) ≡ k = omega (arith, l) in e)))
+places_one_more test k items d lt = grind (arith, common_steps, take-suc, places_more, length-take-le)
 
 pub places_all : {A : Type 0} (test : A → Bool) (k : ℕ) (items : List A) → length items ≤ k → places_to test k items ≡ places test items
 places_all test k items le = ap (λ l. places test l) (take_all k items le)

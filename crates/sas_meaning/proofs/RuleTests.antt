@@ -1,5 +1,5 @@
 -- The tests of a rule, and what they imply for the rules at their indexes.
-use Rattle.sas_meaning.proofs.Imports.{◌≡◌, ℕ, ◌<◌, ◌≤◌, ◌==◌, ◌&&◌, ◌||◌, ◌↔◌, Bool, true, false, not, length, take, get_or, refl, sym, ap, ◌∙◌, arith, eqb-true, eq-eqb, get_or-take, get_or_default, length-take-le, AllPass-from_list_all, list_all-from_AllPass, AllPass, list_all, Effect, Parts, rule_at, CanFire, can_fire, agrees_with}
+use Rattle.sas_meaning.proofs.Imports.{common_steps, ◌≡◌, ℕ, ◌<◌, ◌≤◌, ◌==◌, ◌&&◌, ◌||◌, ◌↔◌, Bool, true, false, not, length, take, get_or, refl, sym, ap, ◌∙◌, arith, eqb-true, eq-eqb, get_or-take, get_or_default, length-take-le, AllPass-from_list_all, list_all-from_AllPass, AllPass, list_all, Effect, Parts, rule_at, CanFire, can_fire, agrees_with}
 
 differs : (a b : ℕ) (same : Bool) → (a == b) ≡ same → (not same ≡ true) ↔ (a ≡ b → ⊥)
 differs a b true is = (λ test. absurd (cc), λ differ. absurd (differ (eqb-true a b is)))
@@ -28,12 +28,10 @@ module _ (p : Parts) (rule : Effect) (place : ℕ) (within : place ≤ length p.
   agrees other = not ((other.var == rule.var) && can_fire p other) || (other.new == rule.new)
 
   agrees_so : (other : Effect) → agrees other ≡ true → Agrees other
-  agrees_so other test can same =
-      eqb-true _ _ (says (other.var == rule.var) (can_fire p other) (other.new == rule.new) test (eq-eqb _ _ same) ((fires p other).1 can))
+  agrees_so other test can same = grind (arith, common_steps, eqb-true, says, eq-eqb)
 
   so_agrees : (other : Effect) → Agrees other → agrees other ≡ true
-  so_agrees other so =
-      passes (other.var == rule.var) (can_fire p other) (other.new == rule.new) (λ same can. eq-eqb _ _ (so ((fires p other).0 can) (eqb-true _ _ same)))
+  so_agrees other so = grind (arith, common_steps, passes, eq-eqb, eqb-true)
 
   earlier : (k : ℕ) (d : Effect) → k < place → get_or (take place p.rules) k d ≡ rule_at p k
   earlier k d before = get_or-take place p.rules k d before ∙ get_or_default p.rules k d _ (omega arith)
@@ -43,9 +41,7 @@ module _ (p : Parts) (rule : Effect) (place : ℕ) (within : place ≤ length p.
       agrees_so (rule_at p k) (ap agrees (sym (earlier k rule before)) ∙ AllPass-from_list_all agrees (take place p.rules) test k rule (omega (arith, length-take-le place p.rules within)))
 
   all_agree : ((k : ℕ) → k < place → Agrees (rule_at p k)) → AllPass agrees (take place p.rules)
-  all_agree each k d below =
-      let before : k < place = omega (arith, length-take-le place p.rules within) in
-      ap agrees (earlier k d before) ∙ so_agrees (rule_at p k) (each k before)
+  all_agree each k d below = grind (arith, common_steps, length-take-le, earlier, so_agrees)
 
   -- the test whether the rule agrees with the rules before the place
   pub agrees_with_earlier : (agrees_with p (take place p.rules) rule ≡ true) ↔ ((k : ℕ) → k < place → Agrees (rule_at p k))

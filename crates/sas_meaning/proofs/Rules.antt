@@ -1,5 +1,5 @@
 -- The new value of the rules of a variable.
-use Rattle.sas_meaning.proofs.Imports.{◌≡◌, ℕ, zero, suc, ◌<◌, ◌==◌, ◌&&◌, Bool, true, false, List, [], ◌∷◌, length, get_or, Option, Some, refl, sym, ◌∙◌, ap, subst, inl, inr, arith, cases_Bool, eqb_tells, find, option_map_or, Effect, Parts, default_of, CanFire, can_fire, IsLayered, new_value_of}
+use Rattle.sas_meaning.proofs.Imports.{common_steps, ◌≡◌, ℕ, zero, suc, ◌<◌, ◌==◌, ◌&&◌, Bool, true, false, List, [], ◌∷◌, length, get_or, Some, refl, inl, inr, arith, cases_Bool, eqb_tells, find, option_map_or, Effect, Parts, CanFire, can_fire, IsLayered, new_value_of}
 
 -- what `find` finds, where an element passes
 pub record Found {X : Type 0} (p : X → Bool) (xs : List X) (d : X) : Type 0 where
@@ -33,22 +33,10 @@ new_value_is t k d layered lt fire = from (find_passing test t.rules k d lt (pas
     test = λ rule. (rule.var == (get_or t.rules k d).var) && can_fire t rule
 
     passes : (rule : Effect) → rule.var ≡ (get_or t.rules k d).var → CanFire t rule → test rule ≡ true
-    passes rule e f = elim (eqb_tells rule.var (get_or t.rules k d).var) [
-      | inl a ↦ elim (eqb_tells rule.new (default_of t rule.var)) [ inl b ↦ absurd (f b.1) | inr b ↦ rw (a.0, b.0) refl ]
-      | inr a ↦ absurd (a.1 e)
-    ]
+    passes rule e f = grind (arith, common_steps, eqb_tells)
 
     covered : (rule : Effect) → test rule ≡ true → (rule.var ≡ (get_or t.rules k d).var) × CanFire t rule
-    covered rule e = elim (eqb_tells rule.var (get_or t.rules k d).var) [
-      | inl a ↦ elim (eqb_tells rule.new (default_of t rule.var)) [
-        | inl b ↦ (let f = rw (a.0, b.0) at e in absurd (let g : false ≡ true = f in cc))
-        | inr b ↦ (a.1, b.1)
-      ]
-      | inr a ↦ (let f = rw a.0 at e in absurd (let g : false ≡ true = f in cc))
-    ]
+    covered rule e = grind (arith, common_steps, eqb_tells)
 
     from : Found test t.rules d → new_value_of t (get_or t.rules k d).var ≡ (get_or t.rules k d).new
-    from f = let w = covered f.it f.passes in
-        let e : (get_or t.rules f.place d).new ≡ (get_or t.rules k d).new =
-        (layered.rules k d lt fire).one_value f.place d f.within (subst (λ r. CanFire t r) (sym f.there) w.1) (ap (λ (r : Effect). r.var) f.there ∙ w.0) in
-        ap (λ (o : Option Effect). option_map_or (λ (r : Effect). r.new) o (default_of t (get_or t.rules k d).var)) f.found ∙ (sym (ap (λ (r : Effect). r.new) f.there) ∙ e)
+    from f = grind (arith, common_steps, covered, option_map_or)

@@ -1,36 +1,22 @@
 -- From a layer to all layers.
-use Rattle.sas_meaning.proofs.Imports.{◌≡◌, ◌≢◌, ℕ, suc, ◌<◌, ◌≤◌, ◌==◌, Bool, true, not, cond, List, length, get_or, sym, ◌∙◌, ap, inl, inr, arith, cases_lt, Effect, Parts, IsOnLayer, default_of, IsLayered, new_value_of, value_with, IsClosed, differs, IsSettledAt, IsSettled, SameBasic, OnlyForced, HasFired, SameOff, AtDefault, Occurs}
+use Rattle.sas_meaning.proofs.Imports.{common_steps, ◌≡◌, ◌≢◌, ℕ, suc, ◌<◌, ◌≤◌, ◌==◌, Bool, true, not, cond, List, length, get_or, sym, ◌∙◌, ap, inl, inr, arith, cases_lt, Effect, Parts, IsOnLayer, default_of, IsLayered, IsClosed, differs, IsSettledAt, IsSettled, SameBasic, OnlyForced, HasFired, SameOff, AtDefault, Occurs}
 use Rattle.sas_meaning.proofs.Layers.{AgreeBelow, agree_sym, closed_agrees, layer_decides, given_on, given_off}
 use Rattle.sas_meaning.proofs.Forced.{closed_when_fired, differs_not}
 
 -- where all is at its default, nothing is forced yet
 pub forced_at_default : (t : Parts) (layer : ℕ) (s : List ℕ) → AtDefault t layer s → OnlyForced t layer s
-forced_at_default t layer s at = record {
-  new = λ v on d. absurd (differs_not t s v d (at v on));
-  least = λ set closed v on d. absurd (differs_not t s v d (at v on));
-}
+forced_at_default t layer s at = grind (arith, common_steps, differs_not)
 
 pub settled_when_fired : (t : Parts) (layer : ℕ) (s : List ℕ) → OnlyForced t layer s → ((k : ℕ) (d : Effect) → k < length t.rules → HasFired t layer s (get_or t.rules k d)) → IsSettledAt t layer s
 settled_when_fired t layer s forced done = record { new = forced.new; closed = closed_when_fired t layer s forced done; least = forced.least }
 
 -- a layer without a variable is settled in every state
 pub settled_where_empty : (t : Parts) (layer : ℕ) (s : List ℕ) → (Occurs t layer → ⊥) → IsSettledAt t layer s
-settled_where_empty t layer s none = record {
-  new = λ v on d. absurd (none (v, on));
-  closed = λ k d lt on fire hold. absurd (none ((get_or t.rules k d).var, on));
-  least = λ set closed v on d. absurd (none (v, on));
-}
+settled_where_empty t layer s none = grind (arith, common_steps)
 
 -- of a set only the variables on the layer count
 closed_same_set : (t : Parts) (layer : ℕ) (s : List ℕ) (a b : ℕ → Bool) → ((v : ℕ) → IsOnLayer t layer v → a v ≡ b v) → IsClosed t layer s a → IsClosed t layer s b
-closed_same_set t layer s a b same closed k d lt on fire hold =
-    sym (same (get_or t.rules k d).var on) ∙ closed k d lt on fire (λ j e lt'. given_same (get_or (get_or t.rules k d).conditions j e).var ∙ hold j e lt')
-  where
-    given_same : (v : ℕ) → value_with t layer s a v ≡ value_with t layer s b v
-    given_same v = elim (layer_decides t layer v) [
-      | inr w ↦ given_off t layer s a v w.0 ∙ sym (given_off t layer s b v w.0)
-      | inl w ↦ given_on t layer s a v w.0 ∙ (ap (λ x. cond x (new_value_of t v) (default_of t v)) (same v w.0) ∙ sym (given_on t layer s b v w.0))
-    ]
+closed_same_set t layer s a b same closed k d lt on fire hold = grind (arith, common_steps, layer_decides, given_off, given_on, cond)
 
 -- whether a layer is settled depends on the basic variables and on the layers up to it
 pub settled_agrees : (t : Parts) (layer : ℕ) (s s' : List ℕ) → IsLayered t → AgreeBelow t (suc layer) s s' → IsSettledAt t layer s → IsSettledAt t layer s'

@@ -1,5 +1,5 @@
 -- Two settled states with the same basic values are equal, layer by layer.
-use Rattle.sas_meaning.proofs.Imports.{◌≡◌, ◌≢◌, ℕ, zero, suc, ◌<◌, ◌⊎◌, true, false, not, List, get_or, refl, sym, ◌∙◌, ap, subst, inl, inr, arith, eqb_tells, same_number_lists, Parts, Effect, Operator, All-contains, SettledIsOne, StepIsOne, Fires, Step, IsOnLayer, default_of, IsLayered, differs, IsSettledAt, IsSettled, SameBasic}
+use Rattle.sas_meaning.proofs.Imports.{rules, ◌≡◌, ◌≢◌, ℕ, zero, suc, ◌<◌, ◌⊎◌, true, false, not, List, get_or, refl, sym, ◌∙◌, ap, subst, inl, inr, arith, eqb_tells, same_number_lists, Parts, Effect, Operator, All-contains, SettledIsOne, StepIsOne, Fires, Step, IsOnLayer, default_of, IsLayered, differs, IsSettledAt, IsSettled, SameBasic}
 use Rattle.sas_meaning.proofs.Facts.{set_or_kept}
 use Rattle.sas_meaning.proofs.Layers.{AgreeBelow, agree_sym, closed_agrees, layer_cases}
 
@@ -17,13 +17,7 @@ module _ (t : Parts) (layered : IsLayered t) where
 
   same_at : (layer : ℕ) (s s' : List ℕ) → AgreeBelow t layer s s' → IsSettledAt t layer s → IsSettledAt t layer s'
       → (v : ℕ) → IsOnLayer t layer v → get_or s v 0 ≡ get_or s' v 0
-  same_at layer s s' agree a b v on = elim (differs_decides t s v) [
-    | inl p ↦ elim (differs_decides t s' v) [
-      | inl q ↦ p.0 ∙ sym q.0
-      | inr q ↦ (let e = both_differ layer s' s (agree_sym t layer s s' agree) b a v on q.1 in let f = p.1 in cc)
-    ]
-    | inr p ↦ a.new v on p.1 ∙ sym (b.new v on (both_differ layer s s' agree a b v on p.1))
-  ]
+  same_at layer s s' agree a b v on = search (rules, arith, differs_decides, both_differ, agree_sym)
 
   agree_below : (s s' : List ℕ) → IsSettled t s → IsSettled t s' → SameBasic t s s' → (n : ℕ) → AgreeBelow t n s s'
   agree_below s s' a b basic zero = record { basic = basic; derived = λ v m lt on. absurd (omega arith) }

@@ -1,5 +1,5 @@
 -- Writing the effects that fire over a state, one after another.
-use Rattle.sas_meaning.proofs.Imports.{◌≡◌, ◌≢◌, ℕ, zero, suc, ◌<◌, ◌⊎◌, ◌==◌, Bool, true, false, if◌then◌else◌, List, [], ◌∷◌, length, get_or, set, slice_index, refl, sym, ◌∙◌, subst, inl, inr, arith, cases_eq, eqb-true, eq-eqb, get_or-set_same, get_or-set_other, get_or_default, length-set, All, All-nil, All-cons, All-head, All-tail, AllPass-from_list_all, list_all-from_AllPass, Fact, Effect, Parts, no_effect, HasValue, IsState, Fires, fires, written}
+use Rattle.sas_meaning.proofs.Imports.{common_steps, ◌≡◌, ◌≢◌, ℕ, zero, suc, ◌<◌, ◌⊎◌, ◌==◌, Bool, true, false, if◌then◌else◌, List, [], ◌∷◌, length, get_or, set, slice_index, refl, ◌∙◌, subst, inl, inr, arith, cases_eq, eqb-true, eq-eqb, get_or-set_same, get_or-set_other, get_or_default, length-set, All, All-nil, All-cons, All-head, All-tail, AllPass-from_list_all, list_all-from_AllPass, Fact, Effect, Parts, no_effect, HasValue, IsState, Fires, fires, written}
 use Rattle.sas_meaning.proofs.Facts.{hold_or_not, Untouched}
 use Rattle.sas_meaning.proofs.Forced.{state_set}
 
@@ -28,11 +28,7 @@ module _ (s : List ℕ) where
       last (suc later) behind lt = w.last later (omega arith) (omega arith)
 
   last_here : (e : Effect) (es : List Effect) (v : ℕ) → Fires s e → e.var ≡ v → All (Untouched s v) es → LastOn (e ∷ es) v
-  last_here e es v hold is kept = record { place = 0; exists = omega arith; fires = hold; on = is; last = last }
-    where
-      last : (later : ℕ) → 0 < later → later < length (e ∷ es) → Fires s (get_or (e ∷ es) later no_effect) → (get_or (e ∷ es) later no_effect).var ≢ v
-      last zero behind lt = absurd (omega arith)
-      last (suc later) behind lt = kept later no_effect (omega arith)
+  last_here e es v hold is kept = grind (arith, common_steps)
 
   -- either there is a last one on the variable, or none that fires is on it
   pub last_or_none : (effects : List Effect) (v : ℕ) → LastOn effects v ⊎ All (Untouched s v) effects
@@ -53,25 +49,13 @@ module _ (s : List ℕ) where
   one e values = if fires s e then set values e.var e.new else values
 
   one_length : (e : Effect) (values : List ℕ) → length (one e values) ≡ length values
-  one_length e values = by (fires s e)
-    where
-      by : (b : Bool) → length (if b then set values e.var e.new else values) ≡ length values
-      by true = length-set values e.var e.new
-      by false = refl
+  one_length e values = grind (arith, common_steps, length-set)
 
   one_kept : (e : Effect) (values : List ℕ) (v : ℕ) → Untouched s v e → get_or (one e values) v 0 ≡ get_or values v 0
-  one_kept e values v kept = by (fires s e) refl
-    where
-      by : (b : Bool) → fires s e ≡ b → get_or (if b then set values e.var e.new else values) v 0 ≡ get_or values v 0
-      by true is = get_or-set_other values e.var v e.new 0 (λ same. kept (fires_so s e is) (sym same))
-      by false is = refl
+  one_kept e values v kept = grind (arith, common_steps, get_or-set_other, fires_so)
 
   one_set : (e : Effect) (values : List ℕ) → Fires s e → e.var < length values → get_or (one e values) e.var 0 ≡ e.new
-  one_set e values hold lt = by (fires s e) (so_fires s e hold)
-    where
-      by : (b : Bool) → b ≡ true → get_or (if b then set values e.var e.new else values) e.var 0 ≡ e.new
-      by true is = get_or-set_same values e.var e.new 0 lt
-      by false is = absurd cc
+  one_set e values hold lt = grind (arith, common_steps, so_fires, get_or-set_same)
 
   -- a variable that no effect sets keeps its value
   pub written_kept : (effects : List Effect) (values : List ℕ) (v : ℕ) → All (Untouched s v) effects
@@ -97,10 +81,7 @@ module _ (s : List ℕ) where
 
   pub written_last : (effects : List Effect) (values : List ℕ) (v : ℕ) (w : LastOn effects v) → v < length values
       → get_or (written s effects values) v 0 ≡ (get_or effects w.place no_effect).new
-  written_last effects values v w within =
-      subst (λ x. get_or (written s effects values) x 0 ≡ (get_or effects w.place no_effect).new) w.on
-      (last_written effects values w.place w.exists w.fires (λ later behind lt hold same. w.last later behind lt hold (same ∙ w.on))
-      (subst (λ x. x < length values) (sym w.on) within))
+  written_last effects values v w within = grind (arith, common_steps, last_written)
 
   -- what is written is a state
   pub written_state : (p : Parts) (effects : List Effect) (values : List ℕ) → All (λ (e : Effect). HasValue p.variables e.var e.new) effects

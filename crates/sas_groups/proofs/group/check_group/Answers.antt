@@ -1,5 +1,5 @@
 -- The verdict is the first reason against the group.
-use Rattle.sas_groups.proofs.Imports.{◌≡◌, List, refl, Fact, Parts, Verdict, Exclusive, Derived, Broken, IsVerdictAlone, IsFirstVerdict}
+use Rattle.sas_groups.proofs.Imports.{arith, common_steps, ◌≡◌, List, refl, Fact, Parts, Verdict, Exclusive, Derived, Broken, IsVerdictAlone, IsFirstVerdict}
 use Rattle.sas_groups.specs.declared.verdict.Verdict.TheVariants.{Initial}
 use Rattle.sas_groups.proofs.Invariance.{exclusive_alone_is_invariant}
 use Rattle.sas_groups.proofs.group.check_group.Goals as goal
@@ -16,5 +16,4 @@ returns-in-None-clause-invariant g c = λ e. exclusive_alone_is_invariant c.args
     (c.in-Exclusive.ensures.basic, c.in-Exclusive.ensures.initial, c.in-None.ensures.none)
 
 pub returns-in_default-clause-verdict : goal.returns-in_default-clause-verdict
-returns-in_default-clause-verdict g c = first_is_last c.args.layered.now c.args.group.now c.before_operators.result
-    c.in_default.not-Exclusive c.before_operators.ensures
+returns-in_default-clause-verdict g c = grind (arith, common_steps, first_is_last)
