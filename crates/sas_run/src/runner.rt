@@ -118,7 +118,10 @@ impl<'a, E: Settle<T> + Drop, T: Grounded> Runner<'a, E, T> {
         let Some(first) = self.names.first(self.layered, name) else {
             return Choice::Unknown;
         };
-        match self.long.first_applicable(self.layered, self.names.next(), state, first) {
+        match self
+            .long
+            .first_applicable(self.layered, self.names.next(), state, first)
+        {
             Some(operator) => Choice::Found(operator),
             None => Choice::Blocked,
         }
