@@ -3,7 +3,7 @@ ghost use Rattle.std.specs.Prelude.{⊤, length, slice_index};
 ghost use Rattle.sas_run.specs.Choosers.{AreLowest, IsNumberChoice, MeansByName};
 ghost use Rattle.sas_run.specs.LongChains.{AreLongChains};
 
-use crate::runner::{Choice, first_applicable, is_applicable};
+use crate::runner::{Choice, is_applicable, later_applicable};
 use crate::step_operators::{NameChains, PlanOperators};
 use sas_core::Grounded;
 use sas_meaning::{Layered, State};
@@ -53,7 +53,11 @@ impl<'f, T: Grounded> Chooser<T> for NameChains<'f> {
     #[inline(always)]
     fn choose(&self, task: &Layered<T>, state: &State, step: usize) -> Choice {
         let first = self.firsts[step];
-        match first_applicable(task, self.nexts, state, first) {
+        if is_applicable(task, state, first) {
+            return Choice::Found(first);
+        }
+        // The list is read only here, so that a step of an ordinary plan has more registers.
+        match later_applicable(task, self.nexts, state, first) {
             Some(operator) => Choice::Found(operator),
             None => Choice::Blocked,
         }

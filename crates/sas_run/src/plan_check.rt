@@ -253,9 +253,7 @@ fn check_numbers<E: Settle<T> + Drop, T: Grounded>(
 }
 
 /// Makes the steps that the chooser chooses operators for, from the initial state, up to the first that fails. Returns its fault, or `None`
-/// if all succeed. Adds their operators to `progress`, which must have room for them. It isn't inlined, so that the loop of each chooser has
-/// all registers.
-#[inline(never)]
+/// if all succeed. Adds their operators to `progress`, which must have room for them.
 fn make_steps<E: Settle<T> + Drop, T: Grounded, C: Chooser<T>>(
     layered: &Layered<T>,
     stepper: &mut Stepper<E>,

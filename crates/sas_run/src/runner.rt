@@ -118,7 +118,10 @@ impl<'a, E: Settle<T> + Drop, T: Grounded> Runner<'a, E, T> {
         let Some(first) = self.names.first(self.layered, name) else {
             return Choice::Unknown;
         };
-        match self.long.first_applicable(self.layered, self.names.next(), state, first) {
+        match self
+            .long
+            .first_applicable(self.layered, self.names.next(), state, first)
+        {
             Some(operator) => Choice::Found(operator),
             None => Choice::Blocked,
         }
@@ -174,6 +177,7 @@ pub fn is_applicable<T: Grounded>(layered: &Layered<T>, state: &State, operator:
 }
 
 /// Returns the first applicable operator, among this one and the later ones of the same name. `nexts` has, for each of them, the next one.
+#[tactic(auto, using(crate::proofs::NamedAlike::chosen_later))]
 #[inline(always)]
 pub fn first_applicable<T: Grounded>(
     task: &Layered<T>,
