@@ -315,23 +315,30 @@ fn release<T: Grounded>(
     for condition in indexed.waiting.get(var as usize) {
         if let Some(count) = count_after(*condition, moved, &work.counters) {
             work.counters.set(condition.rule as usize, count);
-            if has_to_fire(indexed.layered, work.layer, condition.rule, count) {
+            if has_to_fire(indexed.layered, work.layer, condition.rule, count, state) {
                 fire(indexed.layered, condition.rule, work, state);
             }
         }
     }
 }
 
-/// Returns whether a rule that can fire has to fire now: it is on the layer and has no open conditions. `count` is the number of its open
-/// conditions.
-#[tactic(auto, using(crate::proofs::RuleChanges::change_within))]
-fn has_to_fire<T: Grounded>(layered: &Layered<T>, layer: u32, rule: u32, count: u32) -> bool
-    requires { (its : ℕ) × IsRuleOn layered.now its rule }
+/// Returns whether a rule that can fire has to set its variable: it is on the layer and has no open conditions, and the variable doesn't
+/// have its new value yet. `count` is the number of its open conditions.
+fn has_to_fire<T: Grounded>(
+    layered: &Layered<T>,
+    layer: u32,
+    rule: u32,
+    count: u32,
+    state: &State,
+) -> bool
+    requires rule { (its : ℕ) × IsRuleOn layered.now its rule }
+    requires state { IsState layered.now.variables state.now }
     ensures none { IsTrue result → count ≡ 0 }
     ensures on { IsTrue result → IsRuleOn layered.now layer rule }
-    ensures no { IsFalse result → count ≡ 0 → IsRuleOn layered.now layer rule → ⊥ }
+    ensures no { IsFalse result → count ≡ 0 → IsRuleOn layered.now layer rule
+        → slice_index state.now (rule_at layered.now rule).var ≡ (rule_at layered.now rule).new }
 {
     let task = layered.task();
     let change = task.rule_change(rule);
-    count == 0 && task.layer(change.var) == Some(layer)
+    count == 0 && state.value(change.var) != change.new && task.layer(change.var) == Some(layer)
 }

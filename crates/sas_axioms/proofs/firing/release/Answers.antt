@@ -34,8 +34,8 @@ set-requires g c =
     let of_rule : All (IsOfRule c.args.indexed.now) c.get-condition-items.result.now = rw c.get-condition-items.ensures ((rw c.indexed.view_is at c.indexed.invariant).full.only c.args.var) in
     omega (arith, (of_rule c.loop-condition.condition-index no_entry c.loop-condition-test.true).1.exists, c.loop-condition.invariant.firing.room.one_each)
 
-pub has_to_fire-requires : goal.has_to_fire-requires
-has_to_fire-requires g c =
+pub has_to_fire-requires-clause-rule : goal.has_to_fire-requires-clause-rule
+has_to_fire-requires-clause-rule g c =
     let of_rule : All (IsOfRule c.args.indexed.now) c.get-condition-items.result.now = rw c.get-condition-items.ensures ((rw c.indexed.view_is at c.indexed.invariant).full.only c.args.var) in
     rw c.indexed.view_is (of_rule c.loop-condition.condition-index no_entry c.loop-condition-test.true)
 
@@ -81,7 +81,7 @@ loop-condition-preserved g c =
       | in-Some+else-has_to_fire w ↦ rw (w.work-is, w.state-is)
           (released_on p moved ws i s0 w0 s work w.set.new.self rule w.in-Some.count inv
           (counters_set moved ws i w0.counters work.counters lt inv.counters w.in-Some.count w.set.new.self exists w.set.ensures w.in-Some.ensures.some)
-          within w.set.ensures (λ zero on. absurd ((rw (c.indexed.view_is, inv.goes_on.layer) at w.has_to_fire.ensures.no w.if-has_to_fire.false) zero on)))
+          within w.set.ensures (rw (c.indexed.view_is, inv.goes_on.layer) at w.has_to_fire.ensures.no w.if-has_to_fire.false))
       | in_default w ↦ rw (w.work-is, w.state-is) record {
         counters = counters_passed moved ws i w0.counters work.counters lt inv.counters w.in_default.ensures.none;
         goes_on = inv.goes_on;
