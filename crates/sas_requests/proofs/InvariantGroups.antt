@@ -12,10 +12,7 @@ use Rattle.sas_requests.proofs.WhyAnswers.{apart_at, why_is}
 -- ---- which line says that a group is exclusive
 
 words_exclusive : (verdict : Verdict) → verdict_words verdict ≡ codes "exclusive" → verdict ≡ Exclusive
-words_exclusive Exclusive e = refl
-words_exclusive Derived e = absurd (apart_at 0 (codes "derived") (codes "exclusive") (omega arith) e)
-words_exclusive Initial e = absurd (apart_at 0 (codes "exclusive") (codes "not shown: initial state") (omega arith) (sym e))
-words_exclusive (Broken operator) e = absurd (apart_at 0 (codes "exclusive") (codes "not shown: operator " ++ decimal operator) (omega arith) (sym e))
+words_exclusive verdict e = grind (arith, common_steps)
 
 same_line : (m n : ℕ) (verdict : Verdict) → m < 2 ^ 64 → group_line m verdict ≡ group_line n Exclusive → (m ≡ n) × (verdict ≡ Exclusive)
 same_line m n verdict few e =

@@ -1,5 +1,6 @@
 -- The verdict on one plan, by what was read of it.
-use Rattle.sas_requests.proofs.Imports.{◌≡◌, ◌≢◌, ◌⊎◌, inl, inr, ℕ, List, codes, refl, sym, ◌∙◌, Option, Some, None, Result, Ok, Err, IfOk, IfErr, IsErrOf, IsAtEnd, Parts, PlanParts, Device, Fault, Kind, ValueOf, ReadsAll, ReadsAs, KindAt, too_long, trailing, wrong, most_bytes, known_answer, known_fault, plan_format, PlanKind, like_step, like_cost, like_none, Status, Yes, No, ToolFault, Answer, Output, output_of, IsWrite, VerdictAnswer, refusal, refusal_line, word_of, PlanReport, HasCost, HoldsOf, WasRead, Consumes, subst, IsJudged, VerdictOut, cost_if, judged_of, Judges, worded}
+use Rattle.std.proofs.lemmas.Grind.{common_steps}
+use Rattle.sas_requests.proofs.Imports.{arith, ◌≡◌, ◌≢◌, ◌⊎◌, inl, inr, ℕ, List, codes, refl, sym, ◌∙◌, Option, Some, None, Result, Ok, Err, IfOk, IfErr, IsErrOf, IsAtEnd, Parts, PlanParts, Device, Fault, Kind, ValueOf, ReadsAll, ReadsAs, KindAt, too_long, trailing, wrong, most_bytes, known_answer, known_fault, plan_format, PlanKind, like_step, like_cost, like_none, Status, Yes, No, ToolFault, Answer, Output, output_of, IsWrite, VerdictAnswer, refusal, refusal_line, word_of, PlanReport, HasCost, HoldsOf, WasRead, Consumes, subst, IsJudged, VerdictOut, cost_if, judged_of, Judges, worded}
 use Rattle.sas_requests.proofs.Outputs.{IsFaultOf, refused_kind, too_long_else, reading_of_refusal, file_refused, file_too_long}
 use Rattle.sas_reader.specs.declared.fault.Kind.TheVariants as kinds
 use Rattle.sas_answers.specs.declared.ending.ToolFault.TheVariants as tool_fault
@@ -28,14 +29,10 @@ refused_verdict p c f v is none fault = (
 -- a plan in memory never has the fault of a failed read
 
 plan_kind_apart : (line : List ℕ) (k : Kind) → PlanKind line k → k ≢ kinds.Read
-plan_kind_apart line k (like_step h) = λ e. cc
-plan_kind_apart line k (like_cost h) = λ e. cc
-plan_kind_apart line k (like_none a b) = λ e. cc
+plan_kind_apart line k h e = grind (arith, common_steps)
 
 byte_apart : (bytes : List ℕ) (byte : ℕ) (k : Kind) → KindAt plan_format most_bytes bytes byte k → k ≢ kinds.Read
-byte_apart bytes byte k (too_long long is) = λ e. let other : kinds.TooLong ≡ kinds.Read = sym is ∙ e in cc
-byte_apart bytes byte k (trailing short p reads is) = λ e. let other : kinds.Trailing ≡ kinds.Read = sym is ∙ e in cc
-byte_apart bytes byte k (wrong short line ends slot may kind) = plan_kind_apart line k kind
+byte_apart bytes byte k h e = grind (arith, common_steps, plan_kind_apart)
 
 never_unread : (bytes : List ℕ) (f : Fault) → ReadsAs plan_format most_bytes bytes (Err f) → f.kind ≢ kinds.Read
 never_unread bytes f (inl h) = byte_apart h.before h.byte f.kind h.kind

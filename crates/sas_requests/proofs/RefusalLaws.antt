@@ -100,9 +100,7 @@ one_task_reporting f begun found lacks r s x y =
     rw (x.lines, y.lines, same.0, same.1, count) refl
 
 begun_at : (bytes : List ℕ) (f : Fault) (begun : List (List ℕ)) (found : List ℕ) → IsAbout task_format most_bytes bytes f begun found → IsBegun task_format begun
-begun_at bytes f begun found (of_line h ha ht s n k) = subst (IsBegun task_format) (sym ha) h.live.begun
-begun_at bytes f begun found (of_byte h ha ht v r k) = subst (IsBegun task_format) (sym ha) h.live.begun
-begun_at bytes f begun found (of_end h ha ht) = subst (IsBegun task_format) (sym ha) h.live.begun
+begun_at bytes f begun found h = grind (arith, common_steps)
 
 some_task_reporting : (bytes : List ℕ) (f : Fault) (begun : List (List ℕ)) (found : List ℕ) (lacks : Bool) → IsAbout task_format most_bytes bytes f begun found → (r : List FileLine) × AreTaskReasons f begun found lacks r
 some_task_reporting bytes f begun found lacks h =

@@ -1,5 +1,6 @@
 -- How a run over many plans ends, by what came of reading its task.
-use Rattle.sas_requests.proofs.Imports.{◌≡◌, ℕ, List, [], ◌++◌, length, refl, sym, ap, inl, inr, Option, Some, None, Result, Ok, Err, zip, Parts, Device, Consumes, ReadsAll, ReadsAs, ValueOf, most_bytes, task_format, known_answer, IsLayered, Status, ToolFault, Output, Ends, EndsCounting, IsDecided, exact_ends, EndsFile, TaskBy, UnlayeredBy, TaskOut, UnlayeredAnswer, plain_refusal, Plan, JudgeFault, tool_result, HaveBytes, WasRead, WereRead, Consumes-nil, JudgeOut, PlansOut, JudgesPlans}
+use Rattle.std.proofs.lemmas.Grind.{common_steps}
+use Rattle.sas_requests.proofs.Imports.{arith, ◌≡◌, ℕ, List, [], ◌++◌, length, refl, sym, ap, inl, inr, Option, Some, None, Result, Ok, Err, zip, Parts, Device, Consumes, ReadsAll, ReadsAs, ValueOf, most_bytes, task_format, known_answer, IsLayered, Status, ToolFault, Output, Ends, EndsCounting, IsDecided, exact_ends, EndsFile, TaskBy, UnlayeredBy, TaskOut, UnlayeredAnswer, plain_refusal, Plan, JudgeFault, tool_result, HaveBytes, WasRead, WereRead, Consumes-nil, JudgeOut, PlansOut, JudgesPlans}
 use Rattle.sas_requests.proofs.ShortOutputs.{short_output}
 use Rattle.sas_answers.specs.declared.ending.ToolFault.TheVariants as tool_fault
 use Rattle.sas_requests.specs.declared.question.Detail.TheVariants.{Plain}
@@ -7,11 +8,7 @@ use Rattle.sas_requests.proofs.SideBySide.{choose}
 
 -- what ends with an output ends with another that follows from it
 ends_more : (Sent : List ℕ → Type 0) (A B : Option Output → Type 0) (r : Result Status ToolFault) → ((o : Option Output) → A o → B o) → Ends A Sent r → Ends B Sent r
-ends_more Sent A B (Ok status) to (o, out, same, sent) = (o, to (Some o) out, same, sent)
-ends_more Sent A B (Err (tool_fault.Write written)) to (o, out, less, sent) = (o, to (Some o) out, less, sent)
-ends_more Sent A B (Err tool_fault.TooLong) to out = to None out
-ends_more Sent A B (Err tool_fault.Memory) to out = tt
-ends_more Sent A B (Err tool_fault.Read) to out = tt
+ends_more Sent A B r to ends = grind (arith, common_steps)
 
 -- of plans that aren't opened nothing is read
 unread : (known : ℕ → Option (List ℕ)) (count : ℕ) → (cs : List (List ℕ)) × WereRead known count cs

@@ -1,4 +1,5 @@
 -- Which plans were opened, one after another, up to the end of a run.
+use Rattle.std.proofs.lemmas.Grind.{common_steps}
 use Rattle.sas_requests.proofs.Imports.{◌≡◌, ◌≢◌, ℕ, suc, ◌+◌, ◌<◌, List, add-one, refl, sym, subst, arith, inl, inr, Option, Some, Result, Ok, Err, IfErr, IsErrOf, Status, ToolFault, IsWrite, EndsCounting, TaskOut, UnlayeredAnswer, plain_refusal, NotOpened, JudgeFault, Tool, tool_result, judge_result, IsRightlyLong, OpensFirst, OpensInTurn, EndsAt, IsOpened, IsOpenedBut}
 use Rattle.sas_requests.proofs.PlanOutputs.{not_refused}
 use Rattle.sas_answers.specs.declared.ending.ToolFault.TheVariants as tool_fault
@@ -16,11 +17,7 @@ module _ {S I : Type 0} (gives : S → ℕ → Option I → S → Type 0) where
 
   -- where the answer is written
   pub in_turn_written : (task : Option (List ℕ)) (count : ℕ) (old new : S) (r : Result Status ToolFault) → IfErr r IsWrite → OpensFirst gives count old new → OpensInTurn gives task count old new (judge_result r)
-  in_turn_written task count old new (Ok status) write first = inl first
-  in_turn_written task count old new (Err (tool_fault.Write written)) write first = inl first
-  in_turn_written task count old new (Err tool_fault.Memory) write first = absurd write
-  in_turn_written task count old new (Err tool_fault.Read) write first = absurd write
-  in_turn_written task count old new (Err tool_fault.TooLong) write first = absurd write
+  in_turn_written task count old new r write first = grind (arith, common_steps)
 
   -- where the task is refused, or wasn't read
   pub in_turn_refused : (task : Option (List ℕ)) (count : ℕ) (plans : S) (Sent : List ℕ → Type 0) (r : Result Status ToolFault) → ((b : List ℕ) → task ≡ Some b → EndsCounting (TaskOut (UnlayeredAnswer plain_refusal) b) Sent r)

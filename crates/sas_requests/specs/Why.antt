@@ -29,10 +29,6 @@ pub record WithReasons (IsOut : Option Output → Type 0) (AreReasons : List Fil
 abbrev pub OutWhy : Request → List ℕ → List ℕ → Option Output → Type 0
 OutWhy request b c = WithReasons (OutOfRead request b c) (RefusalReasons request b c)
 
--- the answer has no reasons: it is the one without
-abbrev pub HasNoReasons : Request → List ℕ → List ℕ → Type 0
-HasNoReasons request b c = (o : Option Output) → OutWhy request b c o → Out request b c o
-
 -- ---- the same answer
 
 -- whether a line is a reason: whether it begins with two spaces

@@ -1,7 +1,7 @@
 // Hints: what may have gone wrong with a file that is refused.
 ghost use Rattle.std.specs.Prelude.{◌≡◌};
 ghost use Rattle.sas_requests.specs.Hint as hints;
-ghost use Rattle.sas_requests.specs.Hint.{first_hint, has_mark, hint_words, is_compressed, is_plan_like};
+ghost use Rattle.sas_requests.specs.Hint.{first_hint, hint_words, is_compressed};
 
 use sas_reader::{Fault, Kind};
 
@@ -50,20 +50,6 @@ fn is_compressed(bytes: &[u8]) -> bool
         | bytes.starts_with(b"\x28\xb5\x2f\xfd")
 }
 
-/// Returns whether the bytes begin with a byte order mark.
-fn has_mark(bytes: &[u8]) -> bool
-    ensures { result ≡ has_mark bytes.now }
-{
-    bytes.starts_with(b"\xef\xbb\xbf")
-}
-
-/// Returns whether the line begins like one of a plan, or of PDDL.
-fn is_plan_like(line: &[u8]) -> bool
-    ensures { result ≡ is_plan_like line.now }
-{
-    line.starts_with(b"(") | line.starts_with(b";")
-}
-
 /// Returns the first hint that applies, if one does.
 fn first_hint(hints: &[(Hint, bool)]) -> Option<Hint>
     ensures { result ≡ first_hint hints.now }
@@ -78,11 +64,15 @@ pub(crate) fn task_hint(fault: Fault, lacks_line_end: bool, found: &[u8]) -> Opt
     let first = fault.line == 1;
     let is_keyword = matches!(fault.kind, Kind::Keyword);
     let is_value = matches!(fault.kind, Kind::Value);
+    let is_plan = found.starts_with(b"(") | found.starts_with(b";");
     let is_end = matches!(fault.kind, Kind::End);
     first_hint(&[
         (Hint::Compressed, first & is_compressed(found)),
-        (Hint::ByteOrderMark, first & has_mark(found)),
-        (Hint::PlanForTask, is_keyword & first & is_plan_like(found)),
+        (
+            Hint::ByteOrderMark,
+            first & found.starts_with(b"\xef\xbb\xbf"),
+        ),
+        (Hint::PlanForTask, is_keyword & first & is_plan),
         (Hint::OtherVersion, is_value & (fault.line == 2)),
         (Hint::NoLineEnd, is_end & lacks_line_end),
         (Hint::CutOff, is_end & !(first & found.is_empty())),
@@ -99,7 +89,10 @@ pub(crate) fn plan_hint(fault: Fault, lacks_line_end: bool, found: &[u8]) -> Opt
     let is_task = found == b"begin_version".as_slice();
     first_hint(&[
         (Hint::Compressed, first & is_compressed(found)),
-        (Hint::ByteOrderMark, first & has_mark(found)),
+        (
+            Hint::ByteOrderMark,
+            first & found.starts_with(b"\xef\xbb\xbf"),
+        ),
         (Hint::TaskForPlan, is_keyword & first & is_task),
         (Hint::Comment, is_keyword & found.starts_with(b";")),
         (Hint::NoLineEnd, is_end & lacks_line_end),

@@ -22,15 +22,15 @@ mod tally;
 mod tasks;
 mod verdicts;
 
-ghost use Rattle.std.specs.Prelude.{◌≡◌, false, List, ℕ, Some, IfOk};
+ghost use Rattle.std.specs.Prelude.{◌≡◌, false, List, ℕ, Option, Some, IfOk};
 ghost use Rattle.std.specs.Io.KnownBytes.{Appends};
 ghost use Rattle.sas_requests.specs.Output.{Out, AreInputs};
 ghost use Rattle.sas_requests.specs.Headline.{Headline};
 ghost use Rattle.sas_requests.specs.Invariants.{Invariants};
 ghost use Rattle.sas_requests.specs.EndsRequest.{EndsRequest};
-ghost use Rattle.sas_requests.specs.Why.{OutWhy, HasNoReasons};
+ghost use Rattle.sas_requests.specs.Why.{OutWhy};
 ghost use Rattle.sas_requests.specs.TraceOut.{TraceOut};
-ghost use Rattle.sas_answers.specs.Ending.{Answers, Ends, EndsCounting};
+ghost use Rattle.sas_answers.specs.Ending.{Answers, Ends, EndsCounting, Output};
 
 pub use answers::answer;
 pub use file_reasons::{push_plan_reasons, push_task_reasons};
@@ -120,8 +120,6 @@ pub fn explain<T: Read, P: Read, W: Write>(
     requires task { task.old.failed ≡ false }
     requires plan { plan.old.failed ≡ false }
     requires out { out.old.failed ≡ false }
-    // For inputs whose bytes are known, and else for the bytes that were read: their output went out, or its first bytes, or
-    // there is none. What isn't needed isn't read. Before the answer is known nothing is written.
     ensures answers { Answers W.contents
         (EndsRequest T.remaining P.remaining (λ b c. EndsCounting (OutWhy request b c))
         request task.old task.new plan.old plan.new)
@@ -129,7 +127,7 @@ pub fn explain<T: Read, P: Read, W: Write>(
     // An answer without reasons goes out as that of `run` does.
     ensures plain { (b c : List ℕ)
         → AreInputs request (T.remaining task.old.device) (P.remaining plan.old.device) b c
-        → HasNoReasons request b c
+        → ((o : Option Output) → OutWhy request b c o → Out request b c o)
         → Ends (Out request b c)
         (Appends (W.contents out.old.device) (W.contents out.new.device)) result }
     // `plan valid` is printed exactly if the plan solves the task at the printed cost.
@@ -161,8 +159,6 @@ pub fn trace<T: Read, P: Read, W: Write>(
     requires task { task.old.failed ≡ false }
     requires plan { plan.old.failed ≡ false }
     requires out { out.old.failed ≡ false }
-    // For inputs whose bytes are known, and else for the bytes that were read: their output went out, or its first bytes, or
-    // there is none. What isn't needed isn't read. Before the answer is known nothing is written.
     ensures answers { Answers W.contents
         (EndsRequest T.remaining P.remaining (λ b c. EndsCounting (TraceOut b c))
         Request.Plan task.old task.new plan.old plan.new)
