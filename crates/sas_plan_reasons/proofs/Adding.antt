@@ -91,9 +91,6 @@ module _ (p : Parts) (s : List ℕ) where
         ∙ (ap (λ (l : List ℕ). report.lines ++ map RuleDerives l) t.reported
         ∙ sym (derived_lines report.lines (is_reported report.origins) is.derived t.derivation (rules_differ var t.derivation t.is)))
 
-    unreported : ℕ → Bool
-    unreported rule = not (is_reported report.origins rule)
-
     pub derivation_added : IsReport p s (record report { lines = new; origins = origins; next = next })
     derivation_added = grown report (record report { lines = new; origins = origins; next = next }) (map RuleDerives next.items) (record {
       lines = add;
@@ -158,9 +155,6 @@ module _ (p : Parts) (s : List ℕ) where
         rule_line z h = let w = keeper (places (can_give p var) p.rules) z h in ap is_rule_line w.3
 
     module _ (new : List Line) (within : var < length p.variables) (not_so : is_kept report var ≡ false) (add : new ≡ report.lines ++ keepers) where
-      rules : List ℕ
-      rules = places (can_give p var) p.rules
-
       pub keepers_once : new ≡ with_lines report.lines keepers
       keepers_once = add ∙ sym (all_new report.lines keepers (keepers_apart (places (can_give p var) p.rules) (places_ascend (can_give p var) 0 p.rules))
           (λ z h before.
