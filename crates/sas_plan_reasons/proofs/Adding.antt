@@ -1,6 +1,6 @@
 -- Reports with more lines.
 use Rattle.std.proofs.lemmas.Grind.{common_steps}
-use Rattle.sas_plan_reasons.proofs.Imports.{◌≡◌, ◌≢◌, ℕ, suc, ◌<◌, ◌⊎◌, Bool, true, false, not, List, [], ◌∷◌, ◌++◌, length, get_or, set, map, Option, None, Some, Vec, Global, refl, sym, ◌∙◌, ap, subst, inl, inr, arith, flat_map, find, ◌↔◌, IsTrue, AllByRecursion, AllPairs, Contains, option_map_or, cases_eq, cases_Bool, false≢true, get_or-set_same, get_or-set_other, length-set, flat_map-cons, Origins, Report, is_reported, AreOrigins, ReportsDerivation, lines_of_keepers, is_kept, IsReport, Contains-append_left, Contains-append_right, Contains-append_cases, Fact, Parts, rule_at, of_variable, places, can_give, contains_head, contains_tail, contains_cases, contains_none, places_ascend, Line, RuleDerives, RuleRequires, rule_numbers, is_rule_line, with_lines, ComesBefore, IsDerivation, fails, failing_lines}
+use Rattle.sas_plan_reasons.proofs.Imports.{◌≡◌, ◌≢◌, ℕ, suc, ◌<◌, ◌⊎◌, true, false, not, List, [], ◌∷◌, ◌++◌, length, get_or, set, map, Option, None, Some, Vec, Global, refl, sym, ◌∙◌, ap, subst, inl, inr, arith, flat_map, find, ◌↔◌, IsTrue, AllByRecursion, AllPairs, Contains, option_map_or, cases_eq, cases_Bool, false≢true, get_or-set_same, get_or-set_other, length-set, flat_map-cons, Origins, Report, is_reported, AreOrigins, ReportsDerivation, lines_of_keepers, is_kept, IsReport, Contains-append_left, Contains-append_right, Contains-append_cases, Fact, Parts, rule_at, of_variable, places, can_give, contains_head, contains_tail, contains_cases, contains_none, places_ascend, Line, RuleDerives, RuleRequires, rule_numbers, is_rule_line, with_lines, ComesBefore, IsDerivation, fails, failing_lines}
 use Rattle.sas_plan_reasons.proofs.Derivation.{no_circle}
 use Rattle.sas_plan_reasons.proofs.Once.{IsPlain, Apart, rule_of, other_line, contains_map, map_contains, derived_lines, none_new, all_new}
 use Rattle.sas_plan_reasons.proofs.ReportedRules.{in_filter, of_filter}
