@@ -1,6 +1,6 @@
 -- Reports with more lines.
 use Rattle.std.proofs.lemmas.Grind.{common_steps}
-use Rattle.sas_plan_reasons.proofs.Imports.{◌≡◌, ◌≢◌, ℕ, suc, ◌<◌, ◌⊎◌, Bool, true, false, not, List, [], ◌∷◌, ◌++◌, length, get_or, set, map, Option, None, Some, Vec, Global, refl, sym, ◌∙◌, ap, subst, inl, inr, arith, flat_map, find, ◌↔◌, IsTrue, AllByRecursion, AllPairs, Contains, option_map_or, cases_eq, cases_Bool, false≢true, get_or-set_same, get_or-set_other, length-set, flat_map-cons, Origins, Report, is_reported, AreOrigins, ReportsDerivation, lines_of_keepers, is_kept, IsReport, Contains-append_left, Contains-append_right, Contains-append_cases, Fact, Parts, rule_at, of_variable, places, can_give, contains_head, contains_tail, contains_cases, contains_none, places_ascend, Line, RuleDerives, RuleRequires, rule_numbers, is_rule_line, with_lines, ComesBefore, IsDerivation, fails, failing_lines}
+use Rattle.sas_plan_reasons.proofs.Imports.{◌≡◌, ◌≢◌, ℕ, suc, ◌<◌, ◌⊎◌, true, false, not, List, [], ◌∷◌, ◌++◌, length, get_or, set, map, Option, None, Some, Vec, Global, refl, sym, ◌∙◌, ap, subst, inl, inr, arith, flat_map, find, ◌↔◌, IsTrue, AllByRecursion, AllPairs, Contains, option_map_or, cases_eq, cases_Bool, false≢true, get_or-set_same, get_or-set_other, length-set, flat_map-cons, Origins, Report, is_reported, AreOrigins, ReportsDerivation, lines_of_keepers, is_kept, IsReport, Contains-append_left, Contains-append_right, Contains-append_cases, Fact, Parts, rule_at, of_variable, places, can_give, contains_head, contains_tail, contains_cases, contains_none, places_ascend, Line, RuleDerives, RuleRequires, rule_numbers, is_rule_line, with_lines, ComesBefore, IsDerivation, fails, failing_lines}
 use Rattle.sas_plan_reasons.proofs.Derivation.{no_circle}
 use Rattle.sas_plan_reasons.proofs.Once.{IsPlain, Apart, rule_of, other_line, contains_map, map_contains, derived_lines, none_new, all_new}
 use Rattle.sas_plan_reasons.proofs.ReportedRules.{in_filter, of_filter}
@@ -91,9 +91,6 @@ module _ (p : Parts) (s : List ℕ) where
         ∙ (ap (λ (l : List ℕ). report.lines ++ map RuleDerives l) t.reported
         ∙ sym (derived_lines report.lines (is_reported report.origins) is.derived t.derivation (rules_differ var t.derivation t.is)))
 
-    unreported : ℕ → Bool
-    unreported rule = not (is_reported report.origins rule)
-
     pub derivation_added : IsReport p s (record report { lines = new; origins = origins; next = next })
     derivation_added = grown report (record report { lines = new; origins = origins; next = next }) (map RuleDerives next.items) (record {
       lines = add;
@@ -158,9 +155,6 @@ module _ (p : Parts) (s : List ℕ) where
         rule_line z h = let w = keeper (places (can_give p var) p.rules) z h in ap is_rule_line w.3
 
     module _ (new : List Line) (within : var < length p.variables) (not_so : is_kept report var ≡ false) (add : new ≡ report.lines ++ keepers) where
-      rules : List ℕ
-      rules = places (can_give p var) p.rules
-
       pub keepers_once : new ≡ with_lines report.lines keepers
       keepers_once = add ∙ sym (all_new report.lines keepers (keepers_apart (places (can_give p var) p.rules) (places_ascend (can_give p var) 0 p.rules))
           (λ z h before.

@@ -1,7 +1,6 @@
 pub mod Lowest
 pub mod Since
 pub mod FoldedNames
-pub mod MayMean
 pub mod ReachedRounds
 pub mod Derivation
 pub mod Sorting
@@ -30,10 +29,8 @@ pub mod RoundEnds
 pub mod ReportingSteps
 pub mod Placing
 pub mod ReportedRules
-mod Numbers
 mod Changing
 mod ChangedLists
-mod RunTexts
 mod Standing
 mod Replaying
 pub mod Answering

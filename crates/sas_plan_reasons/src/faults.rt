@@ -180,17 +180,32 @@ fn conflicting<T: Grounded>(
     Ok(lines)
 }
 
-/// Returns the lines for the goal facts that fail: how many they are, and each of them with its cause.
+/// Returns the lines for the goal facts that fail, each with its cause.
+#[tactic(auto, using(crate::proofs::Faulty::all_reported))]
 fn missed<T: Grounded>(
     alloc: Global,
-    layered: &Layered<T>,
+    task: &Layered<T>,
     history: &PlanHistory,
 ) -> Result<Items<Line>, AllocError>
-    requires { (run : Run) × IsBehind layered.now history.now run }
-    ensures { IfOk result (λ lines. (run : Run) → IsBehind layered.now history.now run
-        → ReportsOnce lines (AreGoalLines layered.now run)) }
+    requires { (run : Run) × IsBehind task.now history.now run }
+    ensures { IfOk result (λ lines. (run : Run) → IsBehind task.now history.now run
+        → ReportsOnce lines (AreGoalLines task.now run)) }
 {
-    let mut report = Report::new(alloc, layered, &history.last)?;
+    let mut report = Report::new(alloc, task, &history.last)?;
+    report_missed(task, history, &mut report)?;
+    Ok(report.lines)
+}
+
+/// Reports how many goal facts fail, and each of them with its cause.
+fn report_missed<T: Grounded>(
+    layered: &Layered<T>,
+    history: &PlanHistory,
+    report: &mut Report,
+) -> Result<(), AllocError>
+    requires { IsReportOf layered.now history.now report.old }
+    ensures { OnOk result (AddsLines layered.now history.now report.old report.new
+        (AreGoalLines layered.now)) }
+{
     let goal = layered.task().goal();
     report.lines.push(Line::FailingGoalFacts {
         count: count_failing(&history.last, goal),
@@ -201,10 +216,10 @@ fn missed<T: Grounded>(
             report.lines.push(Line::GoalFact {
                 index: index as u32,
             })?;
-            report_cause(layered, history, *fact, &mut report)?;
+            report_cause(layered, history, *fact, report)?;
         }
     }
-    Ok(report.lines)
+    Ok(())
 }
 
 /// Returns how many of the facts fail in the state.

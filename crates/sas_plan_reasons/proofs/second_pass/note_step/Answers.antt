@@ -1,12 +1,7 @@
 -- What the step may have changed is looked at, and noted.
-use Rattle.std.proofs.lemmas.Grind.{common_steps}
-use Rattle.std.proofs.Common.{arith}
 use Rattle.sas_plan_reasons.proofs.Imports.{subst, Parts, IsState}
 use Rattle.sas_plan_reasons.proofs.Looking.{covers}
 use Rattle.sas_plan_reasons.proofs.second_pass.note_step.Goals as goal
-
-pub note-requires-clause-places : goal.note-requires-clause-places
-note-requires-clause-places g c = grind (arith, common_steps)
 
 pub note-requires-clause-cover : goal.note-requires-clause-cover
 note-requires-clause-cover g c =
@@ -15,6 +10,3 @@ note-requires-clause-cover g c =
     let state = subst (λ (p : Parts). IsState p.variables new.state) advances.task c.state.ensures.fits in
     rw (c.requires.values, c.state.ensures.now, c.deleted.ensures, c.touched_among-touched.ensures, c.touched.ensures)
     (covers _ _ _ _ _ _ state advances.changes c.requires.derived)
-
-pub returns-clause-notes : goal.returns-clause-notes
-returns-clause-notes g c = grind (arith, common_steps)

@@ -1,7 +1,6 @@
 -- The variables so far were printed.
 use Rattle.sas_plan_reasons.proofs.Imports.{Pushes}
-use Rattle.sas_plan_reasons.proofs.Numbers.{said}
-use Rattle.sas_plan_reasons.proofs.Changing.{says, PrintedUpTo}
+use Rattle.sas_plan_reasons.proofs.Changing.{said, says, PrintedUpTo}
 use Rattle.sas_plan_reasons.proofs.tracing.Tracer.push_all.Given as goal
 
 abbrev pub invariant-loop-var : goal.invariant-loop-var

@@ -1,7 +1,6 @@
 -- The variables up to a place of the list were printed.
 use Rattle.sas_plan_reasons.proofs.Imports.{◌≡◌, ℕ, Pushes}
-use Rattle.sas_plan_reasons.proofs.Numbers.{said}
-use Rattle.sas_plan_reasons.proofs.Changing.{says, PrintedUpTo, ListedUpTo}
+use Rattle.sas_plan_reasons.proofs.Changing.{said, says, PrintedUpTo, ListedUpTo}
 use Rattle.sas_plan_reasons.proofs.tracing.Tracer.push_listed.Given as goal
 
 abbrev pub invariant-loop-index : goal.invariant-loop-index

@@ -1,7 +1,6 @@
 -- The lines of the initial state, and behind them those of the steps.
 use Rattle.sas_plan_reasons.proofs.Imports.{◌∙◌, ap, subst, length, Pushes, pushes_then, state_at}
-use Rattle.sas_plan_reasons.proofs.RunTexts.{run_text}
-use Rattle.sas_plan_reasons.proofs.Standing.{stands_fits}
+use Rattle.sas_plan_reasons.proofs.Standing.{run_text, stands_fits}
 use Rattle.sas_plan_reasons.proofs.tracing.Tracer.push_run.Goals as goal
 
 pub push_initial_lines-requires : goal.push_initial_lines-requires

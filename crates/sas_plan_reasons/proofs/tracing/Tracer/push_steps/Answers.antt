@@ -1,8 +1,7 @@
 -- One step more is made, and its lines pushed, as in the run.
 use Rattle.sas_plan_reasons.proofs.Imports.{◌≡◌, ◌+◌, ◌-◌, ◌<◌, length, sym, ap, subst, ◌∙◌, arith, Pushes, pushes_lost, pushes_then, next_operator, as_many}
-use Rattle.sas_plan_reasons.proofs.Numbers.{said_more, said_rest}
-use Rattle.sas_plan_reasons.proofs.RunTexts.{step_text, steps_all}
-use Rattle.sas_plan_reasons.proofs.Standing.{stands_fits, stands_next, step_is}
+use Rattle.sas_plan_reasons.proofs.Changing.{said_more, said_rest}
+use Rattle.sas_plan_reasons.proofs.Standing.{step_text, steps_all, stands_fits, stands_next, step_is}
 use Rattle.sas_plan_reasons.proofs.tracing.Tracer.push_steps.Goals as goal
 
 pub push_step-requires-clause-task : goal.push_step-requires-clause-task

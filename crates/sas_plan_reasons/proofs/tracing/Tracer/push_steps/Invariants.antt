@@ -1,7 +1,7 @@
 -- The steps so far were made, and their lines pushed.
 use Rattle.sas_plan_reasons.proofs.Imports.{◌≡◌, Pushes, Run, HasTraced}
-use Rattle.sas_plan_reasons.proofs.Numbers.{said}
-use Rattle.sas_plan_reasons.proofs.RunTexts.{step_text}
+use Rattle.sas_plan_reasons.proofs.Changing.{said}
+use Rattle.sas_plan_reasons.proofs.Standing.{step_text}
 use Rattle.sas_plan_reasons.proofs.tracing.Tracer.push_steps.Given as goal
 
 abbrev pub invariant-loop-before : goal.invariant-loop-before

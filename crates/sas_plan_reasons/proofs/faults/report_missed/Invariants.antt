@@ -1,6 +1,6 @@
 -- The causes of the goal facts so far are reported.
 use Rattle.sas_plan_reasons.proofs.Imports.{LinesOfEach, fails, AreGoalFactLines, places_to, AddsLines}
-use Rattle.sas_plan_reasons.proofs.faults.missed.Given as goal
+use Rattle.sas_plan_reasons.proofs.faults.report_missed.Given as goal
 
 abbrev pub invariant-loop-index : goal.invariant-loop-index
 invariant-loop-index g l = AddsLines l.layered l.history l.initial.report l.report

@@ -1,21 +1,28 @@
 -- How many goal facts fail, and then each goal fact in turn.
-use Rattle.std.proofs.lemmas.Grind.{common_steps}
-use Rattle.std.proofs.Common.{arith}
-use Rattle.sas_plan_reasons.proofs.Imports.{◌≡◌, ◌<◌, ◌≤◌, List, [], ◌∷◌, length, get_or, refl, sym, ◌∙◌, ap, subst, slice_index, count_by, Fact, Parts, places, places_to, places_all, Line, LineThen, LinesOfEach, fails, IsCause, goal_fact_at, AreGoalFactLines, GoalFact, FailingGoalFacts}
+use Rattle.sas_plan_reasons.proofs.Imports.{◌≡◌, ◌<◌, ◌≤◌, List, [], ◌∷◌, length, get_or, refl, sym, ◌∙◌, ap, subst, slice_index, All, count_by, Fact, Parts, places, places_to, places_all, Line, LineThen, LinesOfEach, fails, IsCause, goal_fact_at, AreGoalFactLines, GoalFact, FailingGoalFacts}
 use Rattle.sas_plan_reasons.proofs.Within.{goal_within}
 use Rattle.sas_plan_reasons.proofs.Composing.{more_is_report, plain_is_report, line_and_more, one_more}
-use Rattle.sas_plan_reasons.proofs.Faulty.{at_last, all_reported, fails_when, holds_when, place_more, place_not}
-use Rattle.sas_plan_reasons.proofs.faults.missed.Goals as goal
-use Rattle.sas_plan_reasons.proofs.faults.missed.Goals.{then-value-fact+in_ok-push-2+in_ok-report_cause, else-value-fact}
+use Rattle.sas_plan_reasons.proofs.Faulty.{at_last, fails_when, holds_when, place_more, place_not}
+use Rattle.sas_plan_reasons.proofs.faults.report_missed.Goals as goal
+use Rattle.sas_plan_reasons.proofs.faults.report_missed.Goals.{then-value-fact+in_ok-push-2+in_ok-report_cause, else-value-fact}
 
 pub count_failing-requires : goal.count_failing-requires
-count_failing-requires g c = grind (arith, common_steps, goal_within)
+count_failing-requires g c =
+    let s = c.args.history.now.last in
+    subst (All (λ (f : Fact). f.var < length s)) (sym (c.goal-goal.ensures ∙ ap (λ (q : Parts). q.goal) c.task.ensures.task))
+    (goal_within c.args.layered.now c.task.ensures.well_ranged s c.requires.1.state)
 
 pub value-requires : goal.value-requires
-value-requires g c = grind (arith, common_steps, goal_within)
+value-requires g c =
+    let s = c.args.history.now.last in
+    subst (All (λ (f : Fact). f.var < length s)) (sym (c.goal-goal.ensures ∙ ap (λ (q : Parts). q.goal) c.task.ensures.task))
+    (goal_within c.args.layered.now c.task.ensures.well_ranged s c.requires.1.state) c.loop-index.index _ c.loop-index-test.true
 
 pub report_cause-requires-clause-fact : goal.report_cause-requires-clause-fact
-report_cause-requires-clause-fact g c = grind (arith, common_steps, goal_within)
+report_cause-requires-clause-fact g c =
+    let within = goal_within _ c.task.ensures.well_ranged _ c.requires.1.state in
+    subst (All (λ (f : Fact). f.var < length c.args.layered.now.variables)) (sym (c.goal-goal.ensures ∙ ap (λ (q : Parts). q.goal) c.task.ensures.task))
+    (subst (λ n. All (λ (f : Fact). f.var < n) c.args.layered.now.goal) (let state = c.requires.1.state in state.one_each) within) c.loop-index.index _ c.loop-index-test.true
 
 pub report_cause-requires-clause-report : goal.report_cause-requires-clause-report
 report_cause-requires-clause-report g c =
@@ -23,8 +30,7 @@ report_cause-requires-clause-report g c =
     let s = c.args.history.now.last in
     plain_is_report p c.args.history.now c.loop-index.report c.push-then-value-fact.new.self (GoalFact c.loop-index.index ∷ []) (refl, tt) c.in_ok-push-2.ensures.ok
     (more_is_report p c.args.history.now (λ run. LinesOfEach (AreGoalFactLines p run) (places_to (fails s) c.loop-index.index p.goal)) _ c.loop-index.report
-    c.loop-index.invariant (plain_is_report p c.args.history.now c.in_ok-report.report c.push.new.self (_ ∷ []) (refl, tt) c.in_ok-push.ensures.ok
-    (c.requires.0, c.requires.1, c.in_ok-report.ensures.report)))
+    c.loop-index.invariant (plain_is_report p c.args.history.now c.args.report.now c.push.new.self (_ ∷ []) (refl, tt) c.in_ok-push.ensures.ok c.requires))
 
 pub loop-index-preserved : goal.loop-index-preserved
 loop-index-preserved g c =
@@ -56,7 +62,6 @@ returns g c =
     let goal_is = c.goal-goal.ensures ∙ ap (λ (q : Parts). q.goal) c.task.ensures.task in
     let all : length p.goal ≤ c.loop-index.index = subst (λ (l : List Fact). length l ≤ c.loop-index.index) goal_is c.loop-index-test.false in
     let first : Line = FailingGoalFacts (count_by (fails s) p.goal) (length p.goal) in
-    all_reported p c.args.history.now _ c.in_ok-report.report c.loop-index.report c.in_ok-report.ensures.report c.in_ok-report.ensures.empty
-    (at_last p c.args.history.now (λ r t. LineThen (FailingGoalFacts (count_by (fails t) p.goal) (length p.goal)) (LinesOfEach (AreGoalFactLines p r) (places (fails t) p.goal))) _ _
+    at_last p c.args.history.now (λ r t. LineThen (FailingGoalFacts (count_by (fails t) p.goal) (length p.goal)) (LinesOfEach (AreGoalFactLines p r) (places (fails t) p.goal))) _ _
     (line_and_more _ _ _ _ c.push.new.self first (λ run. LinesOfEach (AreGoalFactLines p run) (places (fails s) p.goal)) refl (rw (c.count_failing.ensures, goal_is) at c.in_ok-push.ensures.ok)
-    (rw (places_all (fails s) c.loop-index.index p.goal all) at c.loop-index.invariant)))
+    (rw (places_all (fails s) c.loop-index.index p.goal all) at c.loop-index.invariant))
