@@ -19,7 +19,7 @@ from count import answer_word, counted
 from make import case_input
 
 # `print` removes the CRs of the sections at the end
-MOST = {"check": 1.2, "show": 1.2, "plan": 1.15, "steps": 1.22, "print": 1.33}
+MOST = {"check": 1.2, "show": 1.22, "plan": 1.15, "steps": 1.22, "print": 1.4}
 SIZES = [("gripper", 2), ("blocks", 2)]
 REQUESTS = ["check", "show", "print", "plan", "steps"]
 STEPS = 20000
