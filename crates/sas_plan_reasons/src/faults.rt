@@ -181,7 +181,6 @@ fn conflicting<T: Grounded>(
 }
 
 /// Returns the lines for the goal facts that fail, each with its cause.
-#[tactic(auto, using(crate::proofs::Faulty::all_reported))]
 fn missed<T: Grounded>(
     alloc: Global,
     task: &Layered<T>,

@@ -1,12 +1,8 @@
 -- Each line of reasons begins with two spaces, and contains neither LF nor CR.
 use Rattle.std.proofs.lemmas.Grind.{common_steps}
 use Rattle.sas_core.specs.Plain.{IsPlain}
-use Rattle.sas_requests.proofs.Imports.{◌+◌, ℕ, ◌/◌, ◌%◌, ◌<◌, Bool, true, false, List, [], ◌∷◌, ◌++◌, codes, flat_map, refl, arith, ap, IsTrue, not, nat_lt, ◌&&◌, ◌==◌, if◌then◌else◌, list_all, and_from, ne_eqb, ltb-true, is_plain, Kind, fixed_word_bytes, Due, FixedWord, Location, number, number_then, two, location_words, due_words, plan_due_words, least_words, empty_words, found_word, FileLine, file_line_bytes, IsReasonLine, Hint, hint_words, plain_in_texts, shown_plain}
+use Rattle.sas_requests.proofs.Imports.{ℕ, Bool, List, ◌∷◌, ◌++◌, arith, Kind, fixed_word_bytes, Due, FixedWord, Location, number, number_then, two, location_words, due_words, plan_due_words, least_words, empty_words, found_word, FileLine, file_line_bytes, IsReasonLine, Hint, hint_words, plain_in_texts, shown_plain}
 use Rattle.sas_core.proofs.Plain.{plain-append}
-use Rattle.sas_reader.specs.declared.fault.Kind.TheVariants as kinds
-use Rattle.sas_task_file.specs.declared.marks.Due.TheVariants as due
-use Rattle.sas_task_file.specs.declared.marks.FixedWord.TheVariants as fixed
-use Rattle.sas_task_file.specs.declared.marks.Location.TheVariants as at
 
 -- ---- the location of a line, and what is expected there
 

@@ -1,6 +1,6 @@
 -- A group that is reported as exclusive is an invariant of a task that the bytes are a text of.
 use Rattle.std.proofs.lemmas.Grind.{common_steps}
-use Rattle.sas_requests.proofs.Imports.{◌≡◌, ℕ, suc, ◌+◌, ◌<◌, ◌^◌, List, [], ◌∷◌, ◌++◌, length, map, get_or, drop, codes, append_assoc, append-nil, ◌⊎◌, refl, sym, ap, subst, ◌∙◌, arith, Option, Some, None, Result, Ok, Err, inl, inr, Contains, Appends, append_cancel_left, Contains-append_cases, Parts, first_fault, WellRanged, LayerFault, IsLayered, layer_checks, checks_are_rules, contains_cases, contains_none, lines, text, same_first, NoSpace-decimal, own_decimal, Fault, most_bytes, Reads, ReadsAs, task_texts, task_format, Verdict, Exclusive, Derived, Initial, Broken, AreJointVerdicts, listed_invariants, Reason, reason_at, HasInvariant, Invariants, verdict_words, group_line, verdict_lines_from, layer_words, layers_line, layers_refusal, GroupsAnswer, LayeredGroupsAnswer, MutexAnswer, line_bytes, why_lines_from, why_lines, WhyGroupsAnswer, layer_reasons, why_refusal, WhyAnswer, WhyMutexAnswer, Output, word_of, refusal, refusal_line, IsAnswerOrRefusal, FileOut, worded}
+use Rattle.sas_requests.proofs.Imports.{◌≡◌, ℕ, suc, ◌+◌, ◌<◌, ◌^◌, List, [], ◌∷◌, ◌++◌, length, map, get_or, drop, codes, append_assoc, append-nil, ◌⊎◌, refl, sym, ap, subst, ◌∙◌, arith, Option, Some, None, Result, Ok, Err, inl, inr, Contains, Appends, append_cancel_left, Contains-append_cases, Parts, first_fault, WellRanged, LayerFault, IsLayered, layer_checks, checks_are_rules, contains_cases, contains_none, lines, text, same_first, NoSpace-decimal, own_decimal, Fault, most_bytes, Reads, ReadsAs, task_texts, task_format, Verdict, Exclusive, AreJointVerdicts, listed_invariants, Reason, reason_at, HasInvariant, Invariants, verdict_words, group_line, verdict_lines_from, layer_words, layers_line, layers_refusal, GroupsAnswer, LayeredGroupsAnswer, MutexAnswer, line_bytes, why_lines_from, why_lines, WhyGroupsAnswer, layer_reasons, why_refusal, WhyAnswer, WhyMutexAnswer, Output, word_of, refusal, refusal_line, IsAnswerOrRefusal, FileOut, worded}
 use Rattle.sas_requests.proofs.Headlines.{sent_same}
 use Rattle.sas_requests.proofs.PlainLines.{file_words, file_plain, kind_plain}
 use Rattle.std.specs.Fmt.{decimal}

@@ -1,7 +1,7 @@
 -- Lines that are no reasons: an answer of such lines stays as it is when reasons are taken away.
 use Rattle.std.proofs.Common.{arith}
 use Rattle.std.proofs.lemmas.Grind.{common_steps}
-use Rattle.sas_requests.proofs.Imports.{◌≡◌, ℕ, List, [], ◌∷◌, ◌++◌, codes, refl, sym, ap, ◌∙◌, Bool, false, Some, not, filter, if◌then◌else◌, decimal, AllByRecursion, LayerFault, text, lines, Plain, lines-text, Fault, IsPlain, plain, plain-decimal, plain-append, all_map, Verdict, Exclusive, Derived, Initial, Broken, PlanFault, Output, layers_refusal, verdict_words, group_line, is_reason, without_reasons, layer_words, layers_line, fault_words, word_of, refusal, refusal_line, worded}
+use Rattle.sas_requests.proofs.Imports.{◌≡◌, ℕ, List, [], ◌∷◌, ◌++◌, codes, refl, sym, ap, ◌∙◌, Bool, false, Some, not, filter, if◌then◌else◌, AllByRecursion, LayerFault, text, lines, Plain, lines-text, Fault, IsPlain, plain, plain-decimal, plain-append, all_map, Verdict, PlanFault, Output, layers_refusal, verdict_words, group_line, is_reason, without_reasons, layer_words, layers_line, fault_words, word_of, refusal, refusal_line, worded}
 use Rattle.sas_requests.proofs.PlainLines.{file_words, file_plain, kind_plain, layer_plain, invalid_plain}
 use Rattle.std.proofs.lemmas.List.{append-nil}
 use Rattle.sas_requests.proofs.ReasonLines.{IsReason, AreReasons}

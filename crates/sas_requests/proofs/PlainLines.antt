@@ -3,8 +3,6 @@ use Rattle.std.proofs.Common.{arith}
 use Rattle.std.proofs.lemmas.Grind.{common_steps}
 use Rattle.sas_requests.proofs.Imports.{◌≡◌, ℕ, List, ◌++◌, codes, refl, subst, Some, decimal, none-some, LayerFault, Kind, IsPlain, plain-decimal, plain-append, PlanFault, layer_words, words_at_part, fault_words, step_words, word_of}
 use Rattle.sas_meaning.specs.declared.layered.LayerFault.TheVariants as layer_fault
-use Rattle.sas_reader.specs.declared.fault.Kind.TheVariants as kinds
-use Rattle.sas_run.specs.declared.plan_check.PlanFault.TheVariants as plan_fault
 
 some_words : (x w : List ℕ) → Some x ≡ Some w → IsPlain x → IsPlain w
 some_words x w e h = subst IsPlain (let same : x ≡ w = cc in same) h

@@ -1,6 +1,6 @@
 -- The verdict on one plan, by what was read of it.
 use Rattle.std.proofs.lemmas.Grind.{common_steps}
-use Rattle.sas_requests.proofs.Imports.{arith, ◌≡◌, ◌≢◌, ◌⊎◌, inl, inr, ℕ, List, codes, refl, sym, ◌∙◌, Option, Some, None, Result, Ok, Err, IfOk, IfErr, IsErrOf, IsAtEnd, Parts, PlanParts, Device, Fault, Kind, ValueOf, ReadsAll, ReadsAs, KindAt, too_long, trailing, wrong, most_bytes, known_answer, known_fault, plan_format, PlanKind, like_step, like_cost, like_none, Status, Yes, No, ToolFault, Answer, Output, output_of, IsWrite, VerdictAnswer, refusal, refusal_line, word_of, PlanReport, HasCost, HoldsOf, WasRead, Consumes, subst, IsJudged, VerdictOut, cost_if, judged_of, Judges, worded}
+use Rattle.sas_requests.proofs.Imports.{arith, ◌≡◌, ◌≢◌, ◌⊎◌, inl, inr, ℕ, List, codes, refl, sym, ◌∙◌, Option, Some, None, Result, Ok, Err, IfOk, IfErr, IsErrOf, IsAtEnd, Parts, PlanParts, Device, Fault, Kind, ValueOf, ReadsAll, ReadsAs, KindAt, most_bytes, known_answer, known_fault, plan_format, PlanKind, Status, Yes, No, ToolFault, Answer, output_of, IsWrite, VerdictAnswer, refusal, refusal_line, word_of, PlanReport, HasCost, HoldsOf, WasRead, Consumes, subst, IsJudged, VerdictOut, cost_if, judged_of, Judges, worded}
 use Rattle.sas_requests.proofs.Outputs.{IsFaultOf, refused_kind, too_long_else, reading_of_refusal, file_refused, file_too_long}
 use Rattle.sas_reader.specs.declared.fault.Kind.TheVariants as kinds
 use Rattle.sas_answers.specs.declared.ending.ToolFault.TheVariants as tool_fault

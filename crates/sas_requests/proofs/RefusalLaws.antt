@@ -1,7 +1,7 @@
 -- Why a file is refused: one list of reasons, and always some.
 use Rattle.std.proofs.Common.{arith}
 use Rattle.std.proofs.lemmas.Grind.{common_steps}
-use Rattle.sas_requests.proofs.Imports.{◌≡◌, ◌≢◌, ◌↔◌, ℕ, Bool, true, false, IsTrue, false≢true, List, [], ◌∷◌, refl, sym, subst, ◌∙◌, inl, inr, Result, Ok, Err, lines, unfinished, Fault, Kind, Format, FaultOf, KindAt, too_long, trailing, wrong, ReadsAs, Laws, most_bytes, IsAbout, of_line, of_byte, of_end, AboutLaws, about_laws_of, plan_format, PlanLineFits, plan_node, plan_start, plan_grammar, FaultReasons, reported, past_limit, ReadReasons, FileReasons, AreTaskReasons, ArePlanReasons, TaskFileReasons, PlanFileReasons, RefusalReasons, plan_laws_hold, table_node, task_format, TaskLineFits, table_start, one_task_reason, some_task_reason, one_count, some_count, IsBegun, LacksLineEnd, EndsUnended, ends_unended, PlanKind, TaskSlot, word_slot, name_slot, number_slot, signed_slot, fact_slot, effect_slot, head_slot, NumbersKind, no_shape, no_value, task_grammar, task_laws_hold, FileLine, Request, Steps, Plan, IsLayeredText}
+use Rattle.sas_requests.proofs.Imports.{◌≡◌, ◌≢◌, ◌↔◌, ℕ, Bool, true, false, IsTrue, false≢true, List, [], ◌∷◌, refl, sym, subst, ◌∙◌, inl, inr, Result, Ok, Err, lines, unfinished, Fault, Kind, Format, FaultOf, KindAt, too_long, trailing, wrong, ReadsAs, Laws, most_bytes, IsAbout, of_line, of_byte, of_end, AboutLaws, about_laws_of, plan_format, PlanLineFits, plan_node, plan_start, plan_grammar, FaultReasons, reported, past_limit, ReadReasons, FileReasons, AreTaskReasons, ArePlanReasons, TaskFileReasons, PlanFileReasons, RefusalReasons, plan_laws_hold, table_node, task_format, TaskLineFits, table_start, one_task_reason, some_task_reason, one_count, some_count, IsBegun, LacksLineEnd, EndsUnended, ends_unended, PlanKind, TaskSlot, NumbersKind, task_grammar, task_laws_hold, FileLine, Request, Steps, Plan, IsLayeredText}
 use Rattle.sas_requests.proofs.Outputs.{Worded, plan_worded, task_worded}
 use Rattle.sas_reader.specs.declared.fault.Kind.TheVariants as kinds
 

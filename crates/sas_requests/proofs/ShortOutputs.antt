@@ -1,6 +1,6 @@
 -- Each output without reasons is shorter than 2 ^ 64 bytes.
 use Rattle.std.proofs.lemmas.Grind.{common_steps}
-use Rattle.sas_requests.proofs.Imports.{◌≡◌, ℕ, suc, zero, ◌+◌, ◌*◌, ◌^◌, ◌<◌, ◌≤◌, Bool, true, false, if◌then◌else◌, List, [], ◌∷◌, ◌++◌, length, codes, length-append, arith, refl, sym, subst, inl, inr, Option, Some, None, Result, Ok, Err, decimal, option_map, ◌==◌, ◌/◌, ◌%◌, digits, digits_onto, digit_glyph, none-some, Parts, PlanParts, first_fault, text, LayerFault, layer_checks, Verdict, Broken, PlanFault, Fault, Kind, ValueOf, Format, ReadsAs, most_bytes, plan_format, task_format, outline_of, Yes, No, Output, layers_refusal, layers_verdict, CheckAnswer, LayeredGroupsAnswer, MutexAnswer, valid_answer, VerdictAnswer, words_at_part, layer_words, layers_line, step_words, fault_words, verdict_words, group_line, verdict_lines_from, Show, Print, Steps, Check, Plan, Mutex, word_of, refusal, IsAnswerOrRefusal, ShowAnswer, PrintAnswer, FileOut, UnlayeredAnswer, plain_refusal, ShortOutput}
+use Rattle.sas_requests.proofs.Imports.{◌≡◌, ℕ, ◌+◌, ◌*◌, ◌^◌, ◌<◌, ◌≤◌, List, [], ◌∷◌, ◌++◌, length, codes, length-append, arith, refl, sym, subst, inl, inr, Option, Some, None, Result, Ok, Err, decimal, option_map, none-some, Parts, PlanParts, first_fault, text, LayerFault, layer_checks, Verdict, Broken, PlanFault, Fault, Kind, ValueOf, Format, ReadsAs, most_bytes, plan_format, task_format, outline_of, Yes, No, Output, layers_refusal, layers_verdict, CheckAnswer, LayeredGroupsAnswer, MutexAnswer, valid_answer, VerdictAnswer, words_at_part, layer_words, layers_line, step_words, fault_words, verdict_words, group_line, verdict_lines_from, Show, Print, Steps, Check, Plan, Mutex, word_of, refusal, IsAnswerOrRefusal, ShowAnswer, PrintAnswer, FileOut, UnlayeredAnswer, plain_refusal, ShortOutput}
 use Rattle.sas_requests.proofs.Lengths.{decimal_short, text_short}
 use Rattle.sas_meaning.specs.declared.layered.LayerFault.TheVariants as layer_fault
 use Rattle.sas_requests.proofs.SummaryLengths.{summary_fits}

@@ -1,6 +1,6 @@
 -- Which plans were opened, one after another, up to the end of a run.
 use Rattle.std.proofs.lemmas.Grind.{common_steps}
-use Rattle.sas_requests.proofs.Imports.{◌≡◌, ◌≢◌, ℕ, suc, ◌+◌, ◌<◌, List, add-one, refl, sym, subst, arith, inl, inr, Option, Some, Result, Ok, Err, IfErr, IsErrOf, Status, ToolFault, IsWrite, EndsCounting, TaskOut, UnlayeredAnswer, plain_refusal, NotOpened, JudgeFault, Tool, tool_result, judge_result, IsRightlyLong, OpensFirst, OpensInTurn, EndsAt, IsOpened, IsOpenedBut}
+use Rattle.sas_requests.proofs.Imports.{◌≡◌, ℕ, suc, ◌+◌, ◌<◌, List, add-one, refl, sym, subst, arith, inr, Option, Some, Result, Ok, Err, IfErr, IsErrOf, Status, ToolFault, IsWrite, EndsCounting, TaskOut, UnlayeredAnswer, plain_refusal, JudgeFault, Tool, tool_result, judge_result, IsRightlyLong, OpensFirst, OpensInTurn, EndsAt, IsOpened, IsOpenedBut}
 use Rattle.sas_requests.proofs.PlanOutputs.{not_refused}
 use Rattle.sas_answers.specs.declared.ending.ToolFault.TheVariants as tool_fault
 use Rattle.sas_requests.specs.declared.inputs.JudgeFault.TheVariants.{Plan}

@@ -1,7 +1,7 @@
 -- What is said of a plan with reasons: one thing, and always something; and that it is valid exactly where it is. And what is said
 -- of a task that isn't layered.
 use Rattle.std.proofs.lemmas.Grind.{common_steps}
-use Rattle.sas_requests.proofs.Imports.{◌≡◌, ℕ, ◌<◌, List, [], ◌++◌, get_or, refl, sym, ap, subst, ◌∙◌, inl, inr, Some, None, Option, arith, option_map, none-some, Parts, PlanParts, LayerFault, IsLayered, PlanFault, IsFaultOf, some_verdict, valid_has_no_fault, fault_is_one, No, Output, layers_refusal, valid_answer, invalid_answer, valid_line, invalid_line, layer_reasons, with_reasons, why_refusal, refused_why, Line, reasons_text, one_why, some_why, WhyVerdict, Explains, worded}
+use Rattle.sas_requests.proofs.Imports.{◌≡◌, ℕ, ◌<◌, List, [], ◌++◌, get_or, refl, sym, ap, subst, ◌∙◌, inl, inr, Some, arith, Parts, PlanParts, LayerFault, IsLayered, PlanFault, IsFaultOf, some_verdict, valid_has_no_fault, fault_is_one, No, Output, layers_refusal, valid_answer, invalid_answer, valid_line, invalid_line, layer_reasons, with_reasons, why_refusal, refused_why, Line, reasons_text, one_why, some_why, WhyVerdict, Explains, worded}
 use Rattle.sas_requests.proofs.Headlines.{ReportsValid}
 use Rattle.sas_requests.proofs.Outputs.{same_output}
 use Rattle.sas_requests.proofs.RefusalReasons.{some_of}

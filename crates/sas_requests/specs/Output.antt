@@ -10,7 +10,7 @@ use Rattle.sas_meaning.specs.LayerChecks.{layer_checks}
 use Rattle.sas_lines.specs.Lines.{text}
 use Rattle.sas_reader.specs.declared.fault.Fault.{Fault}
 use Rattle.sas_reader.specs.declared.fault.Kind.{Kind}
-use Rattle.sas_reader.specs.declared.fault.Kind.TheVariants.{Keyword, Name, Shape, Value, End, Trailing, TooLong}
+use Rattle.sas_reader.specs.declared.fault.Kind.TheVariants.{Keyword, Name, Shape, Value, End, Trailing}
 use Rattle.sas_reader.specs.Texts.{lines_of}
 use Rattle.sas_reader.specs.Format.{Format, ReadsAs}
 use Rattle.sas_reader.specs.Limit.{most_bytes}

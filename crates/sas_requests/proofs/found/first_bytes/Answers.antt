@@ -1,4 +1,4 @@
-use Rattle.std.proofs.Common.{ℕ, List, take, length, ap, ◌∙◌}
+use Rattle.std.proofs.Common.{ℕ, take, length, ap, ◌∙◌}
 use Rattle.std.proofs.Math.Nat.{min_comm}
 use Rattle.std.proofs.lemmas.List.{take_min}
 use Rattle.sas_requests.proofs.found.first_bytes.Goals as goal

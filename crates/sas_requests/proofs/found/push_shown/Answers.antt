@@ -1,4 +1,4 @@
-use Rattle.std.proofs.Common.{arith, length, take, ap}
+use Rattle.std.proofs.Common.{arith, length, ap}
 use Rattle.std.proofs.lemmas.List.{length-take}
 use Rattle.sas_reader.specs.Found.{kept_bytes}
 use Rattle.sas_requests.proofs.found.push_shown.Goals as goal
