@@ -29,7 +29,7 @@ class Browser:
         return self.command("ExecuteScript", "POST", "execute/sync", {"script": script, "args": arguments})
 
     def settle(self):
-        """Does what a session begins with."""
+        """Sets how long scripts and pages may take, and the size of the window."""
         self.command("SetTimeouts", "POST", "timeouts", {"script": SECONDS * 1000, "pageLoad": SECONDS * 1000})
         self.command("SetWindowRect", "POST", "window/rect", {"width": WIDTH, "height": HEIGHT})
 
