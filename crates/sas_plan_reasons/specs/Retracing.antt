@@ -57,8 +57,6 @@ pub record AreNotes (run : Run) (e : Executed) (notes : RunNotes) : Type 0 where
   pub since : HaveSince e.task (first_steps run e.made) notes.changes.since.items
   pub other : IsOtherIfAny e.task (first_steps run e.made) notes.other
 
--- ---- what is noted of each step
-
 -- ---- since when variables have their values
 
 -- there is a place for each of this many variables
