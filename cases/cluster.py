@@ -201,7 +201,7 @@ def status_tests(guide):
     for first, run, status, message in (
         # the longest command line has a quarter of the stack, and at least 128 kB
         ("ulimit -s 512", "many", 126, "too long"),
-        ("ulimit -s 40", "runs/b", 139, ""),
+        ("ulimit -s 24", "runs/b", 139, ""),
         ("export GLIBC_TUNABLES=glibc.cpu.hwcaps=-SSE4_2,-POPCNT", "runs/b", 127, lacking),
         ("mv sas away", "runs/b", 127, "not found"),
     ):

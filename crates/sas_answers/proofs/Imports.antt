@@ -15,7 +15,7 @@ pub use Rattle.std.specs.Fmt.{decimal}
 pub use Rattle.std.specs.Io.KnownBytes.{Appends}
 pub use Rattle.std.specs.List.{AllByRecursion, list_all, enumerate_from}
 pub use Rattle.std.specs.Option.{unwrap_or}
-pub use Rattle.std.specs.Prelude.{⊤, IfErr, IsErrOf}
+pub use Rattle.std.specs.Prelude.{⊤, IfErr, IsErrOf, MatchResult}
 pub use Rattle.itoa.proofs.Decimal.{decimal_pair, pair}
 pub use Rattle.sas_core.proofs.Plain.{plain_without, plain-append}
 pub use Rattle.sas_core.specs.Changes.{change_of, fact_of}
@@ -52,18 +52,18 @@ pub use Rattle.sas_answers.specs.Answers.{layers_refusal, layers_verdict, CheckA
 pub use Rattle.sas_answers.specs.Ending.{Output, StopsAt, Ends, EndsCounting, IsWrite, Writes, Answers}
 pub use Rattle.sas_answers.specs.Facts.{fact_line, initial_lines}
 pub use Rattle.sas_answers.specs.GroupWords.{verdict_lines, groups_status}
-pub use Rattle.sas_answers.specs.Laws.{IsReasonLine, LinesAreReasons, RuleLinesDiffer}
+pub use Rattle.sas_answers.specs.Laws.{IsReasonLine}
 pub use Rattle.sas_answers.specs.Shown.{hex_digit_of, in_digits, is_plain_byte, shown_byte, shown_whole, shown, shown_name}
 pub use Rattle.sas_answers.specs.declared.shown.PlainBytes.{PlainBytes}
 pub use Rattle.sas_core.specs.LineNumbers.{operator_line, rule_line}
 pub use Rattle.std.proofs.Math.Seq.{drop-append_seam}
 pub use Rattle.std.specs.Cmp.Lexicographic.{pointwise, same_text, other_text}
-pub use Rattle.sas_answers.specs.Line.{line_bytes, words_of, named_effect, named_rule, named_words, named_operator, rule_words, rule_numbers, is_rule_line, is_same_rule_line}
-pub use Rattle.sas_answers.specs.Pieces.{Piece, Puts, Breaks, CountsOn, PutsOrBreaks}
+pub use Rattle.sas_answers.specs.Line.{line_bytes, words_of, named_effect, named_words, named_operator, rule_words, rule_numbers, is_rule_line, is_same_rule_line}
+pub use Rattle.sas_answers.specs.Pieces.{Piece, Puts, Breaks, CountsOn}
 pub use Rattle.sas_answers.specs.Placing.{Places, PlacesOrLeaves}
 pub use Rattle.sas_answers.specs.Sink.{empty_piece, Pushed, PushedBy, Pushes}
 pub use Rattle.sas_answers.specs.Wording.{steps_of}
-pub use Rattle.sas_answers.specs.Words.{line, word_bytes, behind_space, spaces_of, words_line}
+pub use Rattle.sas_answers.specs.Words.{line, word_bytes, behind_space, words_line}
 pub use Rattle.sas_answers.specs.declared.ending.Status.{Status}
 pub use Rattle.sas_answers.specs.declared.ending.Status.TheVariants.{Yes, No}
 pub use Rattle.sas_answers.specs.declared.ending.ToolFault.{ToolFault}

@@ -9,7 +9,7 @@ module _ (old mid new : List ℕ) (a at : ℕ) (x : List ℕ) where
     within = second.within;
   }
 
-  pub leaves_then : a ≤ length old → Places old mid a x at → take at new ≡ take at mid → take a new ≡ take a old
+  leaves_then : a ≤ length old → Places old mid a x at → take at new ≡ take at mid → take a new ≡ take a old
   leaves_then room first second =
       let front : take at new ≡ take a old ++ x = second ∙ first.front in
       let long_mid : length (take at mid) ≡ at = length-take-le at mid first.within in
@@ -19,9 +19,10 @@ module _ (old mid new : List ℕ) (a at : ℕ) (x : List ℕ) where
       let stays : a ≤ length (take a old) = omega (arith, long_old) in
       sym (take-take a at new further) ∙ ap (take a) front ∙ take-append-le a (take a old) x stays ∙ take-take a a old (omega arith)
 
-  pub places_then_either : (y : List ℕ) (result : Option ℕ) → a ≤ length old → Places old mid a x at → PlacesOrLeaves mid new at y result → PlacesOrLeaves old new a (x ++ y) result
-  places_then_either y (Some end) room first second = places_then y end first second
-  places_then_either y None room first second = leaves_then room first second
+  pub placed_then : (y : List ℕ) (result : Option ℕ) → a ≤ length old → PlacesOrLeaves old mid a x (Some at) → PlacesOrLeaves mid new at y result
+      → PlacesOrLeaves old new a (x ++ y) result
+  placed_then y (Some end) room first second = record { as_long = second.as_long ∙ first.as_long; places = places_then y end first.places second.places }
+  placed_then y None room first second = record { as_long = second.as_long ∙ first.as_long; places = leaves_then room first.places second.places }
 
 -- the same bytes in other words
 pub places_as : (old new : List ℕ) (at : ℕ) (x whole : List ℕ) (result : Option ℕ) → x ≡ whole → PlacesOrLeaves old new at x result → PlacesOrLeaves old new at whole result

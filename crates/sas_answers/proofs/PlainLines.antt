@@ -1,5 +1,5 @@
 -- Each line begins with two spaces, and holds neither LF nor CR.
-use Rattle.sas_answers.proofs.Imports.{ℕ, ◌-◌, List, [], ◌∷◌, ◌++◌, get_or, refl, arith, if◌then◌else◌, codes, unwrap_or, Fact, Parts, operator_at, effect_at, rule_at, IsPlain, plain_without, plain-append, value_name, joined, Without-decimal, Line, Step, SimilarOperator, NamedOperator, GoalFact, Requires, Actual, SinceInitialState, SinceStep, RuleDerives, NoRuleDerives, RuleRequires, ConflictingEffect, Metric, Steps, CostLines, CouldBe, EffectSets, Rule, ConditionRequires, OldValue, DefaultValue, OnLayer, Derived, Holds, MayRemain, NamelessSteps, FailingGoalFacts, UnitCostHint, CostLineHint, change_of, fact_of, words_of, named_words, named_operator, rule_words, operator_line, rule_line, shown_name, named_effect, named_rule, line_bytes, IsReasonLine, LinesAreReasons}
+use Rattle.sas_answers.proofs.Imports.{ℕ, ◌-◌, List, [], ◌∷◌, ◌++◌, get_or, refl, arith, if◌then◌else◌, codes, unwrap_or, Fact, Parts, operator_at, effect_at, rule_at, IsPlain, plain_without, plain-append, value_name, joined, Without-decimal, Line, Step, SimilarOperator, NamedOperator, GoalFact, Requires, Actual, SinceInitialState, SinceStep, RuleDerives, NoRuleDerives, RuleRequires, ConflictingEffect, Metric, Steps, CostLines, CouldBe, EffectSets, Rule, ConditionRequires, OldValue, DefaultValue, OnLayer, Derived, Holds, MayRemain, NamelessSteps, FailingGoalFacts, UnitCostHint, CostLineHint, change_of, fact_of, words_of, named_words, named_operator, rule_words, operator_line, rule_line, shown_name, named_effect, line_bytes, IsReasonLine}
 use Rattle.sas_answers.proofs.ShownTexts.{name_plain}
 use Rattle.std.specs.Prelude.{decimal}
 use Rattle.sas_answers.specs.declared.line.Line.TheVariants.{Operator as TheOperator}
@@ -35,9 +35,6 @@ module _ (p : Parts) (steps : List (List ℕ)) where
   effect : (o e : ℕ) → IsPlain (joined (named_effect p o e))
   effect o e = part e (codes "sets") (fact_of (change_of (effect_at (operator_at p o) e))) refl
 
-  rule : (r : ℕ) → IsPlain (joined (named_rule p r))
-  rule r = part r (codes "derives") (fact_of (change_of (rule_at p r))) refl
-
   placed_rule : (r : ℕ) → IsPlain (joined (rule_words p r))
   placed_rule r =
       let f = fact_of (change_of (rule_at p r)) in
@@ -47,7 +44,7 @@ module _ (p : Parts) (steps : List (List ℕ)) where
   k_of_n : (k n : ℕ) (what : List ℕ) → IsPlain what → IsPlain (joined (decimal k ∷ codes "of" ∷ decimal n ∷ what ∷ []))
   k_of_n k n what plain = number_then k (32 ∷ codes "of" ++ 32 ∷ decimal n ++ 32 ∷ what) (number_then n (32 ∷ what) plain)
 
-  is_reason_line : (l : Line) → IsReasonLine (line_bytes p steps l)
+  pub is_reason_line : (l : Line) → IsReasonLine (line_bytes p steps l)
   is_reason_line (Step n) = two _ (named n (get_or steps (n - 1) []))
   is_reason_line (SimilarOperator n) = two _ (operator n)
   is_reason_line (TheOperator o) = two _ (number_then o (32 ∷ joined (codes "line" ∷ decimal (operator_line p o) ∷ [])) (number (operator_line p o)))
@@ -57,7 +54,7 @@ module _ (p : Parts) (steps : List (List ℕ)) where
   is_reason_line (Actual f) = two _ (of_fact f)
   is_reason_line SinceInitialState = two _ refl
   is_reason_line (SinceStep n) = two _ (named n (get_or steps (n - 1) []))
-  is_reason_line (RuleDerives r) = two _ (rule r)
+  is_reason_line (RuleDerives r) = two _ (part r (codes "derives") (fact_of (change_of (rule_at p r))) refl)
   is_reason_line NoRuleDerives = two _ refl
   is_reason_line (RuleRequires r f) = two _ (part r (codes "requires") f refl)
   is_reason_line (ConflictingEffect o e) = two _ (effect o e)
@@ -78,6 +75,3 @@ module _ (p : Parts) (steps : List (List ℕ)) where
   is_reason_line (FailingGoalFacts k n) = two _ (k_of_n k n (codes "goal facts fail") refl)
   is_reason_line UnitCostHint = two _ refl
   is_reason_line CostLineHint = two _ refl
-
-pub lines_are_reasons : LinesAreReasons
-lines_are_reasons p steps l = is_reason_line p steps l

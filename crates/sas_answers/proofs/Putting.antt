@@ -1,5 +1,5 @@
 -- Bytes that are put behind others, call after call.
-use Rattle.sas_answers.proofs.Imports.{◌≡◌, ℕ, ◌+◌, ◌-◌, ◌^◌, ◌<◌, List, [], ◌∷◌, ◌++◌, length, take, drop, get_or, flat_map, min, append_assoc, append-nil, length-append, arith, refl, sym, ap, ◌∙◌, Bool, true, false, Option, Result, Ok, Err, ⊤, ◌↔◌, IsTrue, Appends, Appends-trans, flat_map-append, take_more, take-append-drop, length-drop, length-take, Short, Piece, CountsOn, Puts, Breaks, PutsOrBreaks}
+use Rattle.sas_answers.proofs.Imports.{◌≡◌, ℕ, ◌+◌, ◌-◌, ◌^◌, ◌<◌, List, [], ◌∷◌, ◌++◌, length, take, drop, get_or, flat_map, min, append_assoc, append-nil, length-append, arith, refl, sym, ap, ◌∙◌, Bool, true, false, Option, Result, Ok, Err, ⊤, ◌↔◌, IsTrue, Appends, Appends-trans, flat_map-append, take_more, take-append-drop, length-drop, length-take, Short, Piece, CountsOn, Puts, Breaks, MatchResult}
 
 -- after a call that came through the device hasn't failed
 pub no_failure : (failed : Bool) → false ≡ true ↔ IsTrue failed → failed ≡ false
@@ -46,7 +46,8 @@ module _ (a b : Option (List ℕ)) (p q : Piece) (x : List ℕ) where
     counted = counts_both p.written q.written short.written first.gone second.gone first.counted second.counted;
   }
 
-  pub puts_then_either : (c : Option (List ℕ)) (r : Piece) (y : List ℕ) (result : Result ⊤ Short) → Puts a b p q x → PutsOrBreaks b c q r y result → PutsOrBreaks a c p r (x ++ y) result
+  pub puts_then_either : (c : Option (List ℕ)) (r : Piece) (y : List ℕ) (result : Result ⊤ Short) → Puts a b p q x → MatchResult result (λ _. Puts b c q r y) (λ short. Breaks b c q y short)
+      → MatchResult result (λ _. Puts a c p r (x ++ y)) (λ short. Breaks a c p (x ++ y) short)
   puts_then_either c r y (Ok done) first second = puts_then c r y first second
   puts_then_either c r y (Err short) first second = puts_then_breaks c y short first second
 

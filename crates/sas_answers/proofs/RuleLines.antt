@@ -1,5 +1,5 @@
 -- The bytes of a line of a rule are those of no other line.
-use Rattle.sas_answers.proofs.Imports.{◌≡◌, ◌⊎◌, inl, inr, ℕ, ◌<◌, ◌^◌, true, false, List, [], ◌∷◌, ◌++◌, length, drop, get_or, refl, sym, ap, subst, ◌∙◌, arith, ◌==◌, not, bytes_eq, codes, AllByRecursion, list_all, and_parts, and_from, eq-eqb, false≢true, bytes_eq-Decides, unwrap_or, Fact, Parts, rule_at, value_name, segments, joined, NoSpace, words-first, same_first, NoSpace-decimal, own_decimal, line, Line, RuleDerives, RuleRequires, Metric, NamelessSteps, FailingGoalFacts, Bool, ◌&&◌, ne_eqb, change_of, fact_of, words_of, shown_name, line_bytes, rule_numbers, is_rule_line, is_same_rule_line, RuleLinesDiffer}
+use Rattle.sas_answers.proofs.Imports.{◌≡◌, ◌⊎◌, inl, inr, ℕ, ◌<◌, ◌^◌, true, false, List, [], ◌∷◌, ◌++◌, length, drop, get_or, refl, sym, ap, subst, ◌∙◌, arith, ◌==◌, not, bytes_eq, codes, AllByRecursion, list_all, and_parts, and_from, eq-eqb, false≢true, bytes_eq-Decides, unwrap_or, Fact, Parts, rule_at, value_name, segments, joined, NoSpace, words-first, same_first, NoSpace-decimal, own_decimal, line, Line, RuleDerives, RuleRequires, Metric, NamelessSteps, FailingGoalFacts, Bool, ◌&&◌, ne_eqb, change_of, fact_of, words_of, shown_name, line_bytes, rule_numbers, is_rule_line, is_same_rule_line}
 use Rattle.std.specs.Prelude.{decimal}
 
 -- ---- lines of rules
@@ -110,7 +110,8 @@ does_seem : (p : Parts) (steps : List (List ℕ)) (l : Line) → IsOfRule l → 
 does_seem p steps l (Deriving r) = refl
 does_seem p steps l (Requiring r f) = refl
 
-pub rule_lines_differ : RuleLinesDiffer
+pub rule_lines_differ : (p : Parts) (steps : List (List ℕ)) (l other : Line) → is_rule_line l ≡ true → AllByRecursion (λ n. n < 2 ^ 64) (rule_numbers l)
+    → line_bytes p steps l ≡ line_bytes p steps other → l ≡ other
 rule_lines_differ p steps l other is small e =
     let its = rule_cases l is in
     both_rules p steps l other its (by_bytes p steps other (sym (ap seems_of_rule e) ∙ does_seem p steps l its)) small e

@@ -1,5 +1,5 @@
 -- The bytes of a line of words, one word after another.
-use Rattle.sas_answers.proofs.Imports.{◌≡◌, ℕ, List, [], ◌∷◌, ◌++◌, map, flat_map, append-nil, append_assoc, ap, ◌∙◌, replicate, joined, Word, Words, word_bytes, behind_space, spaces_of, words_line}
+use Rattle.sas_answers.proofs.Imports.{◌≡◌, ℕ, List, [], ◌∷◌, ◌++◌, map, flat_map, append-nil, append_assoc, ap, ◌∙◌, joined, Word, Words, word_bytes, behind_space, words_line}
 
 -- the words behind the first one have a space in front of each
 joined_is : (first : List ℕ) (words : List Word) → first ++ flat_map behind_space words ≡ joined (first ∷ map word_bytes words)
@@ -7,11 +7,8 @@ joined_is first [] = append-nil first
 joined_is first (word ∷ words) = ap (λ (l : List ℕ). first ++ 32 ∷ l) (joined_is (word_bytes word) words)
 
 -- a line of words, with its end
-pub line_is : (l : Words) → replicate (spaces_of l.indent) 32 ++ l.first.now ++ flat_map behind_space l.rest.now ++ 10 ∷ [] ≡ words_line l ++ 10 ∷ []
-line_is l =
-    let spaces = replicate (spaces_of l.indent) 32 in
-    ap (λ (b : List ℕ). b ++ 10 ∷ [])
-    (append_assoc spaces l.first.now (flat_map behind_space l.rest.now) ∙ ap (λ (b : List ℕ). spaces ++ b) (joined_is l.first.now l.rest.now))
+pub line_is : (l : Words) → (l.first.now ++ flat_map behind_space l.rest.now) ++ 10 ∷ [] ≡ words_line l ++ 10 ∷ []
+line_is l = ap (λ (b : List ℕ). b ++ 10 ∷ []) (joined_is l.first.now l.rest.now)
 
 -- and so of a word, three numbers and a name
 pub numbered_is : (word first second third name : List ℕ)

@@ -6,14 +6,10 @@ use Rattle.sas_core.specs.declared.parts.Variable.{Variable}
 use Rattle.sas_core.specs.Variables.{value_name}
 use Rattle.sas_answers.specs.Words.{line}
 
--- `VAR VALUE NAME`, where NAME is the value's name; a value that doesn't exist has none
-abbrev pub named_fact : List Variable → ℕ → ℕ → List (List ℕ)
-named_fact variables var value =
-    decimal var ∷ decimal value ∷ unwrap_or (value_name variables var value) [] ∷ []
-
--- `WORD VAR VALUE NAME`
+-- `WORD VAR VALUE NAME`, where NAME is the value's name; a value that doesn't exist has none
 abbrev pub fact_line : List ℕ → List Variable → ℕ → ℕ → List ℕ
-fact_line word variables var value = line 0 (word ∷ named_fact variables var value)
+fact_line word variables var value = line 0
+    (word ∷ decimal var ∷ decimal value ∷ unwrap_or (value_name variables var value) [] ∷ [])
 
 -- `initial VAR VALUE NAME` for each variable, with its value in a state
 abbrev pub initial_lines : List Variable → List ℕ → List (List ℕ)

@@ -43,16 +43,14 @@ rule_words p rule =
     decimal rule ∷ codes "line" ∷ decimal (rule_line p rule) ∷ codes "derives"
     ∷ words_of p (fact_of (change_of (rule_at p rule)))
 
+-- a number, a verb and a fact
+abbrev pub verb_words : Parts → ℕ → List ℕ → Fact → List (List ℕ)
+verb_words p number verb fact = decimal number ∷ verb ∷ words_of p fact
+
 -- the words of an effect: `effect E sets VAR VALUE NAME`
 abbrev pub named_effect : Parts → ℕ → ℕ → List (List ℕ)
-named_effect p operator effect = codes "effect" ∷ decimal effect ∷ codes "sets"
-    ∷ words_of p (fact_of (change_of (effect_at (operator_at p operator) effect)))
-
--- the words of a rule: `rule R derives VAR VALUE NAME`
-abbrev pub named_rule : Parts → ℕ → List (List ℕ)
-named_rule p rule =
-    codes "rule" ∷ decimal rule ∷ codes "derives"
-    ∷ words_of p (fact_of (change_of (rule_at p rule)))
+named_effect p operator effect = codes "effect" ∷ verb_words p effect (codes "sets")
+    (fact_of (change_of (effect_at (operator_at p operator) effect)))
 
 -- The bytes of a line of reasons about a task and a plan, without the line's end. The plan's steps
 -- have these names; a line about the task alone names no step.
@@ -70,10 +68,11 @@ line_bytes p steps (Actual fact) = line 4 (codes "actual" ∷ words_of p fact)
 line_bytes p steps SinceInitialState = line 4 (codes "since the initial state" ∷ [])
 line_bytes p steps (SinceStep step) =
     line 4 (codes "since step" ∷ named_words step (slice_index_or steps (step - 1) []))
-line_bytes p steps (RuleDerives rule) = line 4 (named_rule p rule)
+line_bytes p steps (RuleDerives rule) = line 4
+    (codes "rule" ∷ verb_words p rule (codes "derives") (fact_of (change_of (rule_at p rule))))
 line_bytes p steps NoRuleDerives = line 4 (codes "no rule derives it" ∷ [])
 line_bytes p steps (RuleRequires rule fact) =
-    line 4 (codes "rule" ∷ decimal rule ∷ codes "requires" ∷ words_of p fact)
+    line 4 (codes "rule" ∷ verb_words p rule (codes "requires") fact)
 line_bytes p steps (ConflictingEffect operator effect) = line 4 (named_effect p operator effect)
 line_bytes p steps Metric =
     line 2 (codes "metric" ∷ decimal (if p.metric then 1 else 0) ∷ [])
@@ -84,7 +83,7 @@ line_bytes p steps (CouldBe step operator) = line 2
 line_bytes p steps (EffectSets operator effect) = line 2 (named_effect p operator effect)
 line_bytes p steps (Rule rule) = line 2 (codes "rule" ∷ rule_words p rule)
 line_bytes p steps (ConditionRequires condition fact) =
-    line 2 (codes "condition" ∷ decimal condition ∷ codes "requires" ∷ words_of p fact)
+    line 2 (codes "condition" ∷ verb_words p condition (codes "requires") fact)
 line_bytes p steps (OldValue fact) = line 2 (codes "old value" ∷ words_of p fact)
 line_bytes p steps (DefaultValue fact) = line 2 (codes "default value" ∷ words_of p fact)
 line_bytes p steps (OnLayer layer) = line 2 (codes "on layer" ∷ decimal layer ∷ [])

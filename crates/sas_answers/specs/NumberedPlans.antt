@@ -10,24 +10,18 @@ use Rattle.sas_answers.specs.Ending.{Output}
 use Rattle.sas_answers.specs.PlanWords.{step_words, fault_words, invalid_line}
 use Rattle.sas_answers.specs.ValidLine.{valid_line}
 
--- the answer about a valid plan: how many operators it has, and its cost
-abbrev pub valid_numbers : List ℕ → ℕ → Output
-valid_numbers operators cost = record { text = valid_line (length operators) cost; status = Yes }
-
 -- the words for a fault: those about a plan by names, but where no operator has a step's number
 abbrev pub number_fault_words : ℕ → PlanFault → Option (List ℕ)
 number_fault_words cost (NoOperator step) =
     Some (step_words step (codes "no operator of that number"))
 number_fault_words cost fault = fault_words cost fault
 
--- the answer about a fault; there is none for refused memory
-abbrev pub invalid_numbers : ℕ → PlanFault → Option Output
-invalid_numbers cost fault = option_map
-    (λ words. record { text = invalid_line words; status = No }) (number_fault_words cost fault)
-
--- the answer about operators: that they are a valid plan of this cost, or else their fault
+-- The answer about operators: that they are a valid plan, with their number and this cost, or else
+-- their fault. There is none for refused memory.
 abbrev pub NumbersAnswer : Parts → List ℕ → ℕ → Output → Type 0
 NumbersAnswer p operators cost output =
-    (IsValidByNumbers p operators cost × (output ≡ valid_numbers operators cost))
+    (IsValidByNumbers p operators cost
+    × (output ≡ record { text = valid_line (length operators) cost; status = Yes }))
     ⊎ ((fault : PlanFault) × IsFaultByNumbers p operators cost fault
-    × (invalid_numbers cost fault ≡ Some output))
+    × (option_map (λ words. record { text = invalid_line words; status = No })
+    (number_fault_words cost fault) ≡ Some output))

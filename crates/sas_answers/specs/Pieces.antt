@@ -32,17 +32,12 @@ pub record Breaks (old new : Option (List ℕ)) (before : Piece) (bytes : List �
   pub some : 0 < length rest
   pub counted : CountsOn before.written gone short.written
 
--- what a call returns that adds these bytes after those that are held
-abbrev pub PutsOrBreaks : Option (List ℕ) → Option (List ℕ) → Piece → Piece → List ℕ
-    → Result ⊤ Short → Type 0
-PutsOrBreaks old new before after bytes result =
-    MatchResult result (λ _. Puts old new before after bytes)
-    (λ short. Breaks old new before bytes short)
-
--- What a call promises that adds these bytes to a text on its way to a device. `contents` maps a
--- device to the bytes that were written to it, where these are known.
+-- What a call promises that adds these bytes, after those that are held, to a text on its way to a
+-- device. `contents` maps a device to the bytes that were written to it, where these are known.
 module _ {W : Type 0} (contents : W → Option (List ℕ)) where
   pub record Adds (old new : Device W) (before after : Piece) (bytes : List ℕ)
       (result : Result ⊤ Short) : Type 0 where
-    pub puts : PutsOrBreaks (contents old.device) (contents new.device) before after bytes result
+    pub puts : MatchResult result
+        (λ _. Puts (contents old.device) (contents new.device) before after bytes)
+        (λ short. Breaks (contents old.device) (contents new.device) before bytes short)
     pub note : IsErr result ↔ IsTrue new.failed

@@ -8,6 +8,7 @@ pub record Places (old new : List ℕ) (at : ℕ) (bytes : List ℕ) (end : ℕ)
 
 -- What a call returns that places these bytes, or lacks the room for them. The first bytes stay in
 -- either case.
-abbrev pub PlacesOrLeaves : List ℕ → List ℕ → ℕ → List ℕ → Option ℕ → Type 0
-PlacesOrLeaves old new at bytes result =
-    MatchOption result (take at new ≡ take at old) (λ end. Places old new at bytes end)
+pub record PlacesOrLeaves (old new : List ℕ) (at : ℕ) (bytes : List ℕ) (result : Option ℕ)
+    : Type 0 where
+  pub as_long : length new ≡ length old
+  pub places : MatchOption result (take at new ≡ take at old) (λ end. Places old new at bytes end)

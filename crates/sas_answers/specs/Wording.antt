@@ -6,23 +6,17 @@ use Rattle.sas_core.specs.declared.parts.Parts.{Parts}
 use Rattle.sas_core.specs.PlanParts.{PlanParts}
 use Rattle.sas_core.specs.Changes.{change_of, fact_of}
 use Rattle.sas_core.specs.Grounded.{operator_at, effect_at, rule_at}
-use Rattle.sas_answers.specs.declared.words.Indent.{Indent}
-use Rattle.sas_answers.specs.Words.{line, spaces_of}
-use Rattle.sas_answers.specs.declared.wording.LineStart.{LineStart}
+use Rattle.sas_answers.specs.Words.{line}
 use Rattle.sas_answers.specs.declared.wording.Part.{Part}
 use Rattle.sas_answers.specs.declared.wording.Part.TheVariants as part
 use Rattle.sas_answers.specs.declared.wording.LineRest.{LineRest}
 use Rattle.sas_answers.specs.declared.wording.LineRest.TheVariants as rest
-use Rattle.sas_answers.specs.Line.{words_of, named_words, operator_words, named_operator, rule_words}
+use Rattle.sas_answers.specs.Line.{words_of, named_words, verb_words, operator_words, named_operator, rule_words}
 
 -- the names of the plan's steps, if there is a plan
 abbrev pub steps_of : Option (Bor PlanParts) → List (List ℕ)
 steps_of None = []
 steps_of (Some plan) = plan.now.steps
-
--- a number, a verb and a fact
-abbrev pub verb_words : Parts → ℕ → List ℕ → Fact → List (List ℕ)
-verb_words p number verb fact = decimal number ∷ verb ∷ words_of p fact
 
 -- what a part of the task does with a fact
 abbrev pub part_words : Parts → Part → List (List ℕ)
@@ -31,15 +25,6 @@ part_words p (part.Derives rule) =
 part_words p (part.Sets operator effect) = verb_words p effect (codes "sets")
     (fact_of (change_of (effect_at (operator_at p operator) effect)))
 part_words p (part.Requires number fact) = verb_words p number (codes "requires") fact
-
--- a step, and an operator that it could also be
-abbrev pub could_be_words : ℕ → ℕ → List (List ℕ)
-could_be_words step operator =
-    decimal step ∷ codes "could also be operator" ∷ decimal operator ∷ []
-
--- how many of all are such
-abbrev pub k_of_n_words : ℕ → ℕ → List ℕ → List (List ℕ)
-k_of_n_words count all what = decimal count ∷ codes "of" ∷ decimal all ∷ what ∷ []
 
 -- the words that follow the first ones
 abbrev pub rest_words : Parts → List (List ℕ) → LineRest → List (List ℕ)
@@ -51,15 +36,13 @@ rest_words p steps (rest.Step step) = named_words step (slice_index_or steps (st
 rest_words p steps (rest.OperatorLine operator) = operator_words p operator
 rest_words p steps (rest.Operator operator) = named_operator p operator
 rest_words p steps (rest.Rule rule) = rule_words p rule
-rest_words p steps (rest.CouldBe step operator) = could_be_words step operator
+rest_words p steps (rest.CouldBe step operator) =
+    decimal step ∷ codes "could also be operator" ∷ decimal operator ∷ []
 rest_words p steps (rest.OfFact fact) = words_of p fact
 rest_words p steps (rest.OfPart its) = part_words p its
-rest_words p steps (rest.KOfN count all what) = k_of_n_words count all what.now
+rest_words p steps (rest.KOfN count all what) =
+    decimal count ∷ codes "of" ∷ decimal all ∷ what.now ∷ []
 
 -- the line that begins so, and continues with these words
-abbrev pub line_with : LineStart → List (List ℕ) → List ℕ
-line_with start words = line (spaces_of start.indent) (start.words.now ∷ words)
-
--- the line with these first words and this rest
-abbrev pub worded : Parts → List (List ℕ) → Indent → Bor (List ℕ) → LineRest → List ℕ
-worded p steps indent first its = line (spaces_of indent) (first.now ∷ rest_words p steps its)
+abbrev pub line_with : List ℕ → List (List ℕ) → List ℕ
+line_with start words = line 0 (start ∷ words)

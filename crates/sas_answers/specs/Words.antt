@@ -4,8 +4,6 @@ use Rattle.sas_lines.specs.Spelling.{joined}
 use Rattle.sas_answers.specs.declared.words.Word.{Word}
 use Rattle.sas_answers.specs.declared.words.Word.TheVariants.{Text, Number, Large, Name}
 use Rattle.sas_answers.specs.Shown.{shown_name}
-use Rattle.sas_answers.specs.declared.words.Indent.{Indent}
-use Rattle.sas_answers.specs.declared.words.Indent.TheVariants as indent
 use Rattle.sas_answers.specs.declared.words.Words.{Words}
 use Rattle.sas_answers.specs.declared.words.NumberedLine.{NumberedLine}
 
@@ -25,15 +23,9 @@ word_bytes (Name bytes) = shown_name bytes.now
 abbrev pub behind_space : Word → List ℕ
 behind_space word = 32 ∷ word_bytes word
 
--- how many spaces a line begins with
-abbrev pub spaces_of : Indent → ℕ
-spaces_of indent.None = 0
-spaces_of indent.Two = 2
-spaces_of indent.Four = 4
-
 -- the bytes of such a line
 abbrev pub words_line : Words → List ℕ
-words_line l = line (spaces_of l.indent) (l.first.now ∷ map word_bytes l.rest.now)
+words_line l = line 0 (l.first.now ∷ map word_bytes l.rest.now)
 
 -- the bytes of a line of a word, three numbers and a name
 abbrev pub numbered_line : NumberedLine → List ℕ

@@ -28,4 +28,4 @@ pub use plans::{accept_plan, answer_by, answer_fault, answer_numbers, verdict_an
 pub use pushing::{push_lines, write_reasons};
 pub use shown::{PlainBytes, show, show_name};
 pub use sink::Sink;
-pub use words::{Indent, NumberedLine, Word, Words};
+pub use words::{NumberedLine, Word, Words};

@@ -1,20 +1,19 @@
 // Writes a line of words into a piece, if there is room for it. Most lines go this fast way: nothing is written to a device in between,
 // so only a lack of room can end it early. It is compiled into its callers, which know the first word and how many words there are.
-ghost use Rattle.std.specs.Prelude.{◌≡◌, ◌<◌, ◌≤◌, ◌+◌, ◌/◌, ◌%◌, [], ◌∷◌, ◌++◌, decimal, flat_map, length, replicate};
+ghost use Rattle.std.specs.Prelude.{◌≡◌, ◌<◌, ◌≤◌, ◌+◌, ◌/◌, ◌%◌, [], ◌∷◌, ◌++◌, decimal, flat_map, length};
 ghost use Rattle.sas_answers.specs.Placing.{PlacesOrLeaves};
 ghost use Rattle.sas_answers.specs.Shown.{shown_name};
-ghost use Rattle.sas_answers.specs.Words.{behind_space, numbered_line, spaces_of, words_line};
+ghost use Rattle.sas_answers.specs.Words.{behind_space, numbered_line, words_line};
 
 use crate::shown::is_shown_whole;
-use crate::words::{Indent, NumberedLine, Word, Words};
+use crate::words::{NumberedLine, Word, Words};
 use itoa::Buffer;
 
 /// Writes the bytes at `at` of the piece. Returns their end, or `None` if there is no room.
 #[inline(always)]
 pub(crate) fn place(piece: &mut [u8], at: usize, bytes: &[u8]) -> Option<usize>
     requires { at ≤ length piece.old }
-    ensures length { length piece.new ≡ length piece.old }
-    ensures places { PlacesOrLeaves piece.old piece.new at bytes.now result }
+    ensures { PlacesOrLeaves piece.old piece.new at bytes.now result }
 {
     if bytes.len() > piece.len() - at {
         return None;
@@ -28,8 +27,7 @@ pub(crate) fn place(piece: &mut [u8], at: usize, bytes: &[u8]) -> Option<usize>
 #[inline(always)]
 fn place_byte(piece: &mut [u8], at: usize, byte: u8) -> Option<usize>
     requires { at ≤ length piece.old }
-    ensures length { length piece.new ≡ length piece.old }
-    ensures places { PlacesOrLeaves piece.old piece.new at (byte ∷ []) result }
+    ensures { PlacesOrLeaves piece.old piece.new at (byte ∷ []) result }
 {
     if at == piece.len() {
         return None;
@@ -42,8 +40,7 @@ fn place_byte(piece: &mut [u8], at: usize, byte: u8) -> Option<usize>
 #[inline(always)]
 fn place_behind_space(piece: &mut [u8], at: usize, bytes: &[u8]) -> Option<usize>
     requires { at ≤ length piece.old }
-    ensures length { length piece.new ≡ length piece.old }
-    ensures places { PlacesOrLeaves piece.old piece.new at (32 ∷ bytes.now) result }
+    ensures { PlacesOrLeaves piece.old piece.new at (32 ∷ bytes.now) result }
 {
     let behind_space = place_byte(piece, at, b' ')?;
     place(piece, behind_space, bytes)
@@ -54,8 +51,7 @@ fn place_behind_space(piece: &mut [u8], at: usize, bytes: &[u8]) -> Option<usize
 fn place_short(piece: &mut [u8], at: usize, number: u64) -> Option<usize>
     requires at { at ≤ length piece.old }
     requires short { number < 100 }
-    ensures length { length piece.new ≡ length piece.old }
-    ensures places { PlacesOrLeaves piece.old piece.new at (32 ∷ decimal number) result }
+    ensures { PlacesOrLeaves piece.old piece.new at (32 ∷ decimal number) result }
 {
     if piece.len() - at < 3 {
         return None;
@@ -76,8 +72,7 @@ fn place_short(piece: &mut [u8], at: usize, number: u64) -> Option<usize>
 fn place_pair(piece: &mut [u8], at: usize, number: u64) -> Option<usize>
     requires at { at ≤ length piece.old }
     requires short { number < 100 }
-    ensures length { length piece.new ≡ length piece.old }
-    ensures places { PlacesOrLeaves piece.old piece.new at
+    ensures { PlacesOrLeaves piece.old piece.new at
         ((48 + number / 10) ∷ (48 + number % 10) ∷ []) result }
 {
     if piece.len() - at < 2 {
@@ -88,24 +83,12 @@ fn place_pair(piece: &mut [u8], at: usize, number: u64) -> Option<usize>
     Some(at + 2)
 }
 
-/// Writes a space and a number of any size at `at`. Returns its end, or `None` if there is no room.
-fn place_long(piece: &mut [u8], at: usize, number: u64) -> Option<usize>
-    requires { at ≤ length piece.old }
-    ensures length { length piece.new ≡ length piece.old }
-    ensures places { PlacesOrLeaves piece.old piece.new at (32 ∷ decimal number) result }
-{
-    let mut buffer = Buffer::new();
-    let digits = buffer.format(number).as_bytes();
-    place_behind_space(piece, at, digits)
-}
-
 /// Writes a space and a number below 10,000 at `at`. Returns its end, or `None` if there is no room.
 #[inline(always)]
 fn place_small(piece: &mut [u8], at: usize, number: u64) -> Option<usize>
     requires at { at ≤ length piece.old }
     requires small { number < 10000 }
-    ensures length { length piece.new ≡ length piece.old }
-    ensures places { PlacesOrLeaves piece.old piece.new at (32 ∷ decimal number) result }
+    ensures { PlacesOrLeaves piece.old piece.new at (32 ∷ decimal number) result }
 {
     if number < 100 {
         return place_short(piece, at, number);
@@ -119,8 +102,7 @@ fn place_middle(piece: &mut [u8], at: usize, number: u64) -> Option<usize>
     requires at { at ≤ length piece.old }
     requires large { 10000 ≤ number }
     requires small { number < 100000000 }
-    ensures length { length piece.new ≡ length piece.old }
-    ensures places { PlacesOrLeaves piece.old piece.new at (32 ∷ decimal number) result }
+    ensures { PlacesOrLeaves piece.old piece.new at (32 ∷ decimal number) result }
 {
     let hundreds = number / 100;
     let behind_ten_thousands = place_small(piece, at, hundreds / 100)?;
@@ -133,8 +115,7 @@ fn place_middle(piece: &mut [u8], at: usize, number: u64) -> Option<usize>
 #[inline(always)]
 fn place_number(piece: &mut [u8], at: usize, number: u64) -> Option<usize>
     requires { at ≤ length piece.old }
-    ensures length { length piece.new ≡ length piece.old }
-    ensures places { PlacesOrLeaves piece.old piece.new at (32 ∷ decimal number) result }
+    ensures { PlacesOrLeaves piece.old piece.new at (32 ∷ decimal number) result }
 {
     if number < 10_000 {
         return place_small(piece, at, number);
@@ -142,15 +123,14 @@ fn place_number(piece: &mut [u8], at: usize, number: u64) -> Option<usize>
     if number < 100_000_000 {
         return place_middle(piece, at, number);
     }
-    place_long(piece, at, number)
+    place_large(piece, at, u128::from(number))
 }
 
 /// Writes a space and a word at `at`. Returns its end, or `None` if there is no room.
 #[inline(always)]
 fn place_word(piece: &mut [u8], at: usize, word: Word<'_>) -> Option<usize>
     requires { at ≤ length piece.old }
-    ensures length { length piece.new ≡ length piece.old }
-    ensures places { PlacesOrLeaves piece.old piece.new at (behind_space word.entry) result }
+    ensures { PlacesOrLeaves piece.old piece.new at (behind_space word.entry) result }
 {
     match word {
         Word::Text(bytes) => place_behind_space(piece, at, bytes),
@@ -160,11 +140,10 @@ fn place_word(piece: &mut [u8], at: usize, word: Word<'_>) -> Option<usize>
     }
 }
 
-/// `place_long` for a number that may be larger than a `u64`.
+/// Writes a space and a number of any size at `at`. Returns its end, or `None` if there is no room.
 fn place_large(piece: &mut [u8], at: usize, number: u128) -> Option<usize>
     requires { at ≤ length piece.old }
-    ensures length { length piece.new ≡ length piece.old }
-    ensures places { PlacesOrLeaves piece.old piece.new at (32 ∷ decimal number) result }
+    ensures { PlacesOrLeaves piece.old piece.new at (32 ∷ decimal number) result }
 {
     let mut buffer = Buffer::new();
     let digits = buffer.format(number).as_bytes();
@@ -174,8 +153,7 @@ fn place_large(piece: &mut [u8], at: usize, number: u128) -> Option<usize>
 /// Writes a space and a name at `at`. Returns its end, or `None` if there is no room, or if the name isn't shown as it is.
 fn place_name(piece: &mut [u8], at: usize, name: &[u8]) -> Option<usize>
     requires { at ≤ length piece.old }
-    ensures length { length piece.new ≡ length piece.old }
-    ensures places { PlacesOrLeaves piece.old piece.new at (32 ∷ shown_name name.now) result }
+    ensures { PlacesOrLeaves piece.old piece.new at (32 ∷ shown_name name.now) result }
 {
     if is_shown_whole(name) {
         place_behind_space(piece, at, name)
@@ -188,8 +166,7 @@ fn place_name(piece: &mut [u8], at: usize, name: &[u8]) -> Option<usize>
 #[inline(always)]
 fn place_rest(piece: &mut [u8], at: usize, words: &[Word<'_>]) -> Option<usize>
     requires { at ≤ length piece.old }
-    ensures length { length piece.new ≡ length piece.old }
-    ensures places { PlacesOrLeaves piece.old piece.new at
+    ensures { PlacesOrLeaves piece.old piece.new at
         (flat_map behind_space words.now) result }
 {
     let mut end = at;
@@ -200,30 +177,14 @@ fn place_rest(piece: &mut [u8], at: usize, words: &[Word<'_>]) -> Option<usize>
     Some(end)
 }
 
-/// Places the leading spaces of a line in the same way.
-#[inline(always)]
-fn place_spaces(piece: &mut [u8], at: usize, indent: Indent) -> Option<usize>
-    requires { at ≤ length piece.old }
-    ensures length { length piece.new ≡ length piece.old }
-    ensures places { PlacesOrLeaves piece.old piece.new at
-        (replicate (spaces_of indent) 32) result }
-{
-    match indent {
-        Indent::None => Some(at),
-        _ => place(piece, at, indent.spaces()),
-    }
-}
-
 /// Places the line and its end, LF, in the same way.
 #[inline(always)]
 pub(crate) fn place_line(piece: &mut [u8], at: usize, line: Words<'_>) -> Option<usize>
     requires { at ≤ length piece.old }
-    ensures length { length piece.new ≡ length piece.old }
-    ensures places { PlacesOrLeaves piece.old piece.new at
+    ensures { PlacesOrLeaves piece.old piece.new at
         (words_line line.entry ++ 10 ∷ []) result }
 {
-    let behind_spaces = place_spaces(piece, at, line.indent)?;
-    let behind_first = place(piece, behind_spaces, line.first)?;
+    let behind_first = place(piece, at, line.first)?;
     let behind_rest = place_rest(piece, behind_first, line.rest)?;
     place_byte(piece, behind_rest, b'\n')
 }
@@ -232,8 +193,7 @@ pub(crate) fn place_line(piece: &mut [u8], at: usize, line: Words<'_>) -> Option
 #[inline(always)]
 pub(crate) fn place_numbered(piece: &mut [u8], at: usize, line: NumberedLine<'_>) -> Option<usize>
     requires { at ≤ length piece.old }
-    ensures length { length piece.new ≡ length piece.old }
-    ensures places { PlacesOrLeaves piece.old piece.new at
+    ensures { PlacesOrLeaves piece.old piece.new at
         (numbered_line line.entry ++ 10 ∷ []) result }
 {
     let behind_word = place(piece, at, line.word)?;

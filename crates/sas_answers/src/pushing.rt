@@ -1,10 +1,10 @@
 // How lines of reasons go out: names are looked up here.
-ghost use Rattle.std.specs.Prelude.{◌≡◌, false, [], ◌∷◌, ◌++◌, map, Some, decimal};
+ghost use Rattle.std.specs.Prelude.{◌≡◌, false, [], ◌∷◌, ◌++◌, map, Some};
 ghost use Rattle.sas_answers.specs.Ending.{EndsCounting, Writes};
 ghost use Rattle.sas_answers.specs.Sink.{Pushes};
 ghost use Rattle.sas_answers.specs.Words.{word_bytes};
-ghost use Rattle.sas_answers.specs.Line.{words_of, line_bytes, named_operator, named_words, operator_words, reasons_text, rule_words};
-ghost use Rattle.sas_answers.specs.Wording.{steps_of, verb_words, part_words, could_be_words, k_of_n_words, rest_words, line_with};
+ghost use Rattle.sas_answers.specs.Line.{words_of, line_bytes, named_operator, operator_words, reasons_text, rule_words, verb_words};
+ghost use Rattle.sas_answers.specs.Wording.{steps_of, part_words, rest_words, line_with};
 
 use crate::answer::Answer;
 use crate::ending::{Status, ToolFault};
@@ -12,7 +12,7 @@ use crate::line::Line;
 use crate::names::{NameSource, given_by, operator_name, set_by, value_name};
 use crate::pieces::Pieces;
 use crate::sink::Sink;
-use crate::wording::{LineRest, LineStart, Part, wording};
+use crate::wording::{LineRest, Part, wording};
 use crate::words::{Word, Words};
 use sas_core::{Fact, Grounded};
 use sas_flat::FlatTask;
@@ -59,113 +59,71 @@ fn push_reason<W: Write>(sink: &mut Sink<'_, W>, named: &NameSource<'_>, line: L
     ensures { Pushes W.contents sink.old sink.new
         (line_bytes named.now.task.now (steps_of named.now.plan) line ++ 10 ∷ []) }
 {
-    let (indent, words, rest) = wording(line);
-    push_rest(sink, named, LineStart { indent, words }, rest)
+    let (start, rest) = wording(line);
+    push_rest(sink, named, start, rest)
 }
 
 /// Adds the line that begins so, with this rest, and its end.
-fn push_rest<W: Write>(
-    sink: &mut Sink<'_, W>,
-    named: &NameSource<'_>,
-    start: LineStart,
-    rest: LineRest,
-)
+fn push_rest<W: Write>(sink: &mut Sink<'_, W>, named: &NameSource<'_>, start: &[u8], rest: LineRest)
     ensures { Pushes W.contents sink.old sink.new
-        (line_with start (rest_words named.now.task.now (steps_of named.now.plan) rest)
+        (line_with start.now (rest_words named.now.task.now (steps_of named.now.plan) rest)
         ++ 10 ∷ []) }
 {
     let task = named.task;
     match rest {
         LineRest::Nothing => push_words(sink, start, &[]),
-        LineRest::Number(number) => push_with_number(sink, start, number),
-        LineRest::Sum(sum) => push_sum(sink, start, sum),
-        LineRest::Metric => push_with_number(sink, start, u64::from(task.metric())),
-        LineRest::Step(step) => push_named(sink, start, step as u64, named.step_name(step)),
+        LineRest::Number(number) => push_words(sink, start, &[Word::Number(number)]),
+        LineRest::Sum(sum) => push_words(sink, start, &[Word::Large(sum)]),
+        LineRest::Metric => push_words(sink, start, &[Word::Number(u64::from(task.metric()))]),
+        LineRest::Step(step) => {
+            let words = [Word::Number(step as u64), Word::Name(named.step_name(step))];
+            push_words(sink, start, &words)
+        }
         LineRest::OperatorLine(operator) => push_operator_line(sink, task, start, operator),
         LineRest::Operator(operator) => push_operator(sink, task, start, operator),
         LineRest::Rule(rule) => push_rule(sink, task, start, rule),
         LineRest::CouldBe(step, operator) => {
-            push_could_be(sink, start, step as u64, operator as u64)
+            let words = [
+                Word::Number(step as u64),
+                Word::Text(b"could also be operator"),
+                Word::Number(operator as u64),
+            ];
+            push_words(sink, start, &words)
         }
         LineRest::OfFact(fact) => push_fact(sink, task, start, fact),
         LineRest::OfPart(part) => push_part(sink, task, start, part),
-        LineRest::KOfN(count, all, what) => push_k_of_n(sink, start, count, all, what),
+        LineRest::KOfN(count, all, what) => {
+            let words = [
+                Word::Number(count),
+                Word::Text(b"of"),
+                Word::Number(all),
+                Word::Text(what),
+            ];
+            push_words(sink, start, &words)
+        }
     }
 }
 
 /// Adds the line, with these words after its first ones, and its end.
-fn push_words<W: Write>(sink: &mut Sink<'_, W>, start: LineStart, words: &[Word<'_>])
+fn push_words<W: Write>(sink: &mut Sink<'_, W>, start: &[u8], words: &[Word<'_>])
     ensures { Pushes W.contents sink.old sink.new
-        (line_with start (map word_bytes words.now) ++ 10 ∷ []) }
+        (line_with start.now (map word_bytes words.now) ++ 10 ∷ []) }
 {
-    let line = Words {
-        indent: start.indent,
-        first: start.words,
+    sink.push_line(Words {
+        first: start,
         rest: words,
-    };
-    sink.push_line(line);
-}
-
-/// Adds the line of a number, and its end.
-fn push_with_number<W: Write>(sink: &mut Sink<'_, W>, start: LineStart, number: u64)
-    ensures { Pushes W.contents sink.old sink.new
-        (line_with start (decimal number ∷ []) ++ 10 ∷ []) }
-{
-    push_words(sink, start, &[Word::Number(number)])
-}
-
-/// Adds the line of a number that may be larger than a `u64`, and its end.
-fn push_sum<W: Write>(sink: &mut Sink<'_, W>, start: LineStart, sum: u128)
-    ensures { Pushes W.contents sink.old sink.new
-        (line_with start (decimal sum ∷ []) ++ 10 ∷ []) }
-{
-    push_words(sink, start, &[Word::Large(sum)])
-}
-
-/// Adds the line of a step and an operator that it could also be, and its end.
-fn push_could_be<W: Write>(sink: &mut Sink<'_, W>, start: LineStart, step: u64, operator: u64)
-    ensures { Pushes W.contents sink.old sink.new
-        (line_with start (could_be_words step operator) ++ 10 ∷ []) }
-{
-    let could_be = Word::Text(b"could also be operator");
-    let words = [Word::Number(step), could_be, Word::Number(operator)];
-    push_words(sink, start, &words)
-}
-
-/// Adds the line of how many of all are such, and its end.
-fn push_k_of_n<W: Write>(
-    sink: &mut Sink<'_, W>,
-    start: LineStart,
-    count: u64,
-    all: u64,
-    what: &[u8],
-)
-    ensures { Pushes W.contents sink.old sink.new
-        (line_with start (k_of_n_words count all what.now) ++ 10 ∷ []) }
-{
-    let of = Word::Text(b"of");
-    let words = [Word::Number(count), of, Word::Number(all), Word::Text(what)];
-    push_words(sink, start, &words)
-}
-
-/// Adds the line of a number and a name, and its end.
-fn push_named<W: Write>(sink: &mut Sink<'_, W>, start: LineStart, number: u64, name: &[u8])
-    ensures { Pushes W.contents sink.old sink.new
-        (line_with start (named_words number name.now) ++ 10 ∷ []) }
-{
-    let words = [Word::Number(number), Word::Name(name)];
-    push_words(sink, start, &words)
+    });
 }
 
 /// Adds the line of an operator and the line at which it begins, and its end.
 fn push_operator_line<W: Write>(
     sink: &mut Sink<'_, W>,
     task: &FlatTask,
-    start: LineStart,
+    start: &[u8],
     operator: u32,
 )
     ensures { Pushes W.contents sink.old sink.new
-        (line_with start (operator_words task.now operator) ++ 10 ∷ []) }
+        (line_with start.now (operator_words task.now operator) ++ 10 ∷ []) }
 {
     let begins = Word::Large(task.operator_line(operator));
     let number = Word::Number(u64::from(operator));
@@ -173,9 +131,9 @@ fn push_operator_line<W: Write>(
 }
 
 /// Adds the line of an operator, the line at which it begins, and its name, and its end.
-fn push_operator<W: Write>(sink: &mut Sink<'_, W>, task: &FlatTask, start: LineStart, operator: u32)
+fn push_operator<W: Write>(sink: &mut Sink<'_, W>, task: &FlatTask, start: &[u8], operator: u32)
     ensures { Pushes W.contents sink.old sink.new
-        (line_with start (named_operator task.now operator) ++ 10 ∷ []) }
+        (line_with start.now (named_operator task.now operator) ++ 10 ∷ []) }
 {
     let begins = Word::Large(task.operator_line(operator));
     let number = Word::Number(u64::from(operator));
@@ -184,9 +142,9 @@ fn push_operator<W: Write>(sink: &mut Sink<'_, W>, task: &FlatTask, start: LineS
 }
 
 /// Adds the line of a rule, the line at which it begins, and what it derives, and its end.
-fn push_rule<W: Write>(sink: &mut Sink<'_, W>, task: &FlatTask, start: LineStart, rule: u32)
+fn push_rule<W: Write>(sink: &mut Sink<'_, W>, task: &FlatTask, start: &[u8], rule: u32)
     ensures { Pushes W.contents sink.old sink.new
-        (line_with start (rule_words task.now rule) ++ 10 ∷ []) }
+        (line_with start.now (rule_words task.now rule) ++ 10 ∷ []) }
 {
     let fact = given_by(task, rule);
     let words = [
@@ -202,9 +160,9 @@ fn push_rule<W: Write>(sink: &mut Sink<'_, W>, task: &FlatTask, start: LineStart
 }
 
 /// Adds the line of a fact, and its end.
-fn push_fact<W: Write>(sink: &mut Sink<'_, W>, task: &FlatTask, start: LineStart, fact: Fact)
+fn push_fact<W: Write>(sink: &mut Sink<'_, W>, task: &FlatTask, start: &[u8], fact: Fact)
     ensures { Pushes W.contents sink.old sink.new
-        (line_with start (words_of task.now fact) ++ 10 ∷ []) }
+        (line_with start.now (words_of task.now fact) ++ 10 ∷ []) }
 {
     let var = Word::Number(u64::from(fact.var));
     let value = Word::Number(u64::from(fact.value));
@@ -213,9 +171,9 @@ fn push_fact<W: Write>(sink: &mut Sink<'_, W>, task: &FlatTask, start: LineStart
 }
 
 /// Adds the line of what a part of the task does with a fact, and its end.
-fn push_part<W: Write>(sink: &mut Sink<'_, W>, task: &FlatTask, start: LineStart, part: Part)
+fn push_part<W: Write>(sink: &mut Sink<'_, W>, task: &FlatTask, start: &[u8], part: Part)
     ensures { Pushes W.contents sink.old sink.new
-        (line_with start (part_words task.now part) ++ 10 ∷ []) }
+        (line_with start.now (part_words task.now part) ++ 10 ∷ []) }
 {
     let (number, verb, fact) = deed(task, part);
     let var = Word::Number(u64::from(fact.var));

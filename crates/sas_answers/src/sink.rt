@@ -9,7 +9,7 @@ ghost use Rattle.sas_answers.specs.Words.{behind_space, numbered_line, word_byte
 use crate::ending::{Status, ToolFault};
 use crate::pieces::Pieces;
 use crate::shown::{ROOM, show_name};
-use crate::words::{Indent, NumberedLine, Word, Words};
+use crate::words::{NumberedLine, Word, Words};
 use itoa::Buffer;
 use sas_lines::Watched;
 use std::io::Write;
@@ -89,7 +89,6 @@ impl<'w, W: Write> Sink<'w, W> {
             Word::Text(line.name),
         ];
         self.push_words(Words {
-            indent: Indent::None,
             first: line.word,
             rest: &rest,
         });
@@ -100,7 +99,6 @@ impl<'w, W: Write> Sink<'w, W> {
     fn push_words(&mut self, line: Words<'_>)
         ensures { Pushes W.contents self.old self.new (words_line line.entry ++ 10 ∷ []) }
     {
-        self.push(line.indent.spaces());
         self.push(line.first);
         self.push_rest(line.rest);
         self.push(b"\n");

@@ -1,6 +1,4 @@
 // Lines of words.
-ghost use Rattle.std.specs.Prelude.{◌≡◌, replicate};
-ghost use Rattle.sas_answers.specs.Words.{spaces_of};
 
 /// A word of a line.
 #[derive(Clone, Copy, Debug)]
@@ -15,31 +13,9 @@ pub enum Word<'w> {
     Name(&'w [u8]),
 }
 
-/// How many spaces a line begins with.
-#[derive(Clone, Copy, Debug, PartialEq, Eq)]
-pub enum Indent {
-    None,
-    Two,
-    Four,
-}
-
-impl Indent {
-    /// Returns the spaces.
-    pub(crate) fn spaces(self) -> &'static [u8]
-        ensures { result.now ≡ replicate (spaces_of self) 32 }
-    {
-        match self {
-            Indent::None => b"",
-            Indent::Two => b"  ",
-            Indent::Four => b"    ",
-        }
-    }
-}
-
-/// A line of words: leading spaces, and one between each two words.
+/// A line of words, with one space between each two. The first ones may be given together, with the spaces before and between them.
 #[derive(Clone, Copy, Debug)]
 pub struct Words<'w> {
-    pub indent: Indent,
     pub first: &'w [u8],
     pub rest: &'w [Word<'w>],
 }

@@ -2,10 +2,7 @@
 use Rattle.sas_axioms.proofs.Imports.{◌≡◌, ℕ, suc, ◌+◌, ◌≤◌, false, List, [], ◌∷◌, length, get_or, sym, ap, subst, inl, inr, arith, All, Contains, IsPermutation, is_lt, heap_items, IsUpperBound, leb_tells, All-nil, All-cons, Contains-get_or, Contains-permutation, contains_head, contains_tail, contains_cases, IsPermutation-sym, length_permutation, Reverse, Agenda, LayerRule, layer_cmp, entry_for, IsOnAgenda, AddsToAgenda, work_left, NotesMore, IsRuleOn, Parts}
 
 not_before : (a b : LayerRule) → is_lt (layer_cmp b a) ≡ false → a.layer ≤ b.layer
-not_before a b h = elim (leb_tells (suc b.layer) a.layer) [
-  | inl w ↦ (let e = rw w.0 at h in absurd cc)
-  | inr w ↦ omega (arith, w.1)
-]
+not_before a b h = grind (arith, leb_tells, suc)
 
 -- what comes first is of the lowest layer
 pub lowest_first : (x : Reverse LayerRule) (items : List (Reverse LayerRule)) → IsUpperBound (λ x y. layer_cmp y.0 x.0) x items → All (λ (e : Reverse LayerRule). x.0.layer ≤ e.0.layer) items
@@ -39,8 +36,4 @@ notes_more p layer rule a a' is notes = record {
 }
 
 pub notes_left : (layer rule : ℕ) (a a' : Agenda) → AddsToAgenda layer rule a a' → work_left a' ≤ work_left a + 2
-notes_left layer rule a a' notes =
-    let n = length_permutation (entry_for layer rule ∷ heap_items a.noted) (heap_items a'.noted) notes.noted in
-    let l = notes.left in
-    let r = ap (λ v. length v.items) notes.ready in
-    omega arith
+notes_left layer rule a a' notes = grind (arith, length_permutation, entry_for, heap_items, length)

@@ -69,14 +69,7 @@ pub record ConditionsUpTo (p : Parts) (k : ℕ) (ws : List (Entry RuleCondition)
   pub later : (var value rule : ℕ) → k ≤ rule → waits rule var value ws ≡ 0
 
 pub conditions_skip : (p : Parts) (k : ℕ) (ws : List (Entry RuleCondition)) → ((layer : ℕ) → IsRuleOn p layer k → ⊥) → ConditionsUpTo p k ws → ConditionsUpTo p (k + 1) ws
-conditions_skip p k ws not up = record {
-  only = up.only;
-  each = λ layer var value rule lt is. elim (cases_eq rule k) [
-    | inl e ↦ absurd (not layer (subst (λ i. IsRuleOn p layer i) e is))
-    | inr ne ↦ up.each layer var value rule (omega arith) is
-  ];
-  later = λ var value rule le. up.later var value rule (omega arith);
-}
+conditions_skip p k ws not up = grind (arith, cases_eq)
 
 pub conditions_more : (p : Parts) (k layer : ℕ) (ws : List (Entry RuleCondition)) → WellRanged p → IsRuleOn p layer k → ConditionsUpTo p k ws → ConditionsUpTo p (k + 1) (ws ++ entries k (rule_at p k).conditions)
 conditions_more p k layer ws ranged here up = record {
@@ -118,13 +111,7 @@ conditions_index p k es all is = record {
 
 -- a condition on the variable is open or asks for its value
 one_condition : (value : ℕ → ℕ) (v : ℕ) (c : Fact) → c.var ≡ v → cond (value c.var == c.value) 0 1 + asked v (value v) c ≡ 1
-one_condition value v c e = elim (eqb_tells (value c.var) c.value) [
-  | inl h ↦ rw (h.0, eq-eqb c.var v e, eq-eqb c.value (value v) (sym h.1 ∙ ap value e)) refl
-  | inr h ↦ elim (eqb_tells c.value (value v)) [
-    | inl z ↦ absurd (h.1 (ap value e ∙ sym z.1))
-    | inr z ↦ rw (h.0, eq-eqb c.var v e, z.0) refl
-  ]
-]
+one_condition value v c e = grind (arith, eqb_tells, eq-eqb)
 
 -- where one variable's value changes, the conditions that asked for the old one open, and those
 -- that ask for the new one close

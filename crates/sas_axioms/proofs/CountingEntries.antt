@@ -29,12 +29,7 @@ counters_before moved waiting cs = record { one_each = refl; so_far = λ rule lt
 -- all are counted
 pub counters_after : (moved : ValueChange) (waiting : List RuleCondition) (i : ℕ) (cs0 cs : List ℕ) → i ≡ length waiting → CountersSoFar moved waiting i cs0 cs
     → (rule : ℕ) → rule < length cs0 → get_or cs rule 0 + occurrences rule (released moved.value waiting) ≡ get_or cs0 rule 0 + occurrences rule (released moved.former waiting)
-counters_after moved waiting i cs0 cs all counted rule lt =
-    let none = drop_all i waiting (omega arith) in
-    let a = ap (λ ws. occurrences rule (released moved.former ws)) none in
-    let b = ap (λ ws. occurrences rule (released moved.value ws)) none in
-    let before = counted.so_far rule lt in
-    omega arith
+counters_after moved waiting i cs0 cs all counted rule lt = grind (arith, drop_all, occurrences, released)
 
 -- an entry is one of those of its own rule and value
 own_entry : (value : ℕ) (e : RuleCondition) (es : List RuleCondition) → occurrences e.rule (released value (e ∷ es)) ≡ waits_for value e + occurrences e.rule (released value es)
@@ -42,10 +37,7 @@ own_entry value e es = elim (eqb_tells e.value value) [ inl v ↦ rw (v.0, eq-eq
 
 -- and none of those of another rule
 other_entry : (value rule : ℕ) (e : RuleCondition) (es : List RuleCondition) → e.rule ≢ rule → occurrences rule (released value (e ∷ es)) ≡ occurrences rule (released value es)
-other_entry value rule e es ne = elim (eqb_tells e.value value) [
-  | inl v ↦ elim (eqb_tells e.rule rule) [ inl r ↦ absurd (ne r.1) | inr r ↦ rw (v.0, r.0) (omega arith) ]
-  | inr v ↦ rw v.0 (omega arith)
-]
+other_entry value rule e es ne = grind (arith, eqb_tells)
 
 -- what is left is no more than all
 pub left_over : (rule value i : ℕ) (ws : List RuleCondition) → occurrences rule (released value (drop i ws)) ≤ occurrences rule (released value ws)
@@ -67,40 +59,17 @@ module _ (moved : ValueChange) (waiting : List RuleCondition) (i : ℕ) (cs0 cs 
 
   -- its counter neither overflows nor falls below 0
   pub can_count : CanRecount moved waiting cs0 → CanCount moved this cs
-  can_count can =
-      let before = counted.so_far this.rule (can.exist i no_entry lt) in
-      let small : get_or cs0 this.rule 0 + occurrences this.rule (released moved.former waiting) < 2 ^ 32 = can.small i no_entry lt in
-      let enough : occurrences this.rule (released moved.value waiting) ≤ get_or cs0 this.rule 0 = can.enough i no_entry lt in
-      let a = own_left moved.former in
-      let b = own_left moved.value in
-      let c = left_over this.rule moved.value i waiting in
-      let d = left_over this.rule moved.former i waiting in
-      record { differ = can.differ; exists = omega (arith, can.exist i no_entry lt, counted.one_each); small = omega arith; enough = omega arith }
+  can_count can = grind (arith, get_or, occurrences, released, own_left, left_over)
 
   module _ (cs' : List ℕ) (one_each : length cs' ≡ length cs) (moves : get_or cs' this.rule 0 + waits_for moved.value this ≡ get_or cs this.rule 0 + waits_for moved.former this)
       (others : (rule : ℕ) → this.rule ≢ rule → get_or cs' rule 0 ≡ get_or cs rule 0) where
     next_own : this.rule < length cs0 → get_or cs' this.rule 0 + occurrences this.rule (released moved.value waiting) + occurrences this.rule (released moved.former (drop (i + 1) waiting))
         ≡ get_or cs0 this.rule 0 + occurrences this.rule (released moved.former waiting) + occurrences this.rule (released moved.value (drop (i + 1) waiting))
-    next_own within =
-        let before = counted.so_far this.rule within in
-        let a = own_left moved.former in
-        let b = own_left moved.value in
-        omega (arith, moves)
+    next_own within = grind (arith, own_left)
 
     -- one entry more is counted
     pub counters_next : CountersSoFar moved waiting (i + 1) cs0 cs'
-    counters_next = record {
-      one_each = one_each ∙ counted.one_each;
-      so_far = λ rule within. elim (cases_eq this.rule rule) [
-        | inl e ↦ subst (λ r. r < length cs0 → get_or cs' r 0 + occurrences r (released moved.value waiting) + occurrences r (released moved.former (drop (i + 1) waiting))
-            ≡ get_or cs0 r 0 + occurrences r (released moved.former waiting) + occurrences r (released moved.value (drop (i + 1) waiting))) e next_own within
-        | inr ne ↦ (let before = counted.so_far rule within in
-            let a = other_left moved.former rule ne in
-            let b = other_left moved.value rule ne in
-            let c = others rule ne in
-            omega arith)
-      ];
-    }
+    counters_next = grind (arith, cases_eq, length, get_or, occurrences, released, drop, next_own, other_left)
 
   -- its count is what it was
   pub counters_passed : waits_for moved.value this ≡ waits_for moved.former this → CountersSoFar moved waiting (i + 1) cs0 cs
@@ -148,13 +117,7 @@ counted_none p moved waiting w a' ordered noted ready left = record {
 module _ (p : Parts) (moved : ValueChange) (waiting : List RuleCondition) (i : ℕ) (w0 w : Work) (lt : i < length waiting) (counted : CountedEntries p moved waiting i w0 w) where
   -- an entry whose rule keeps its count
   pub entry_passed : waits_for moved.value (get_or waiting i no_entry) ≡ waits_for moved.former (get_or waiting i no_entry) → CountedEntries p moved waiting (i + 1) w0 w
-  entry_passed same = record {
-    same = counted.same;
-    counters = counters_passed moved waiting i w0.counters w.counters lt counted.counters same;
-    crossed = counted.crossed;
-    notes = counted.notes;
-    left = let le = counted.left in omega arith;
-  }
+  entry_passed same = grind (arith, counters_passed)
 
   module _ (n : ℕ) (w' : Work) (exists : (get_or waiting i no_entry).rule < length w0.counters) (same : SameWork w w') (counts : CountsTo p (get_or waiting i no_entry).rule n w w') where
     here : get_or w'.counters (get_or waiting i no_entry).rule 0 ≡ n
@@ -192,10 +155,4 @@ module _ (p : Parts) (moved : ValueChange) (waiting : List RuleCondition) (i : �
     -- an entry whose rule gets another count
     pub entry_counted : n + waits_for moved.value (get_or waiting i no_entry) ≡ get_or w.counters (get_or waiting i no_entry).rule 0 + waits_for moved.former (get_or waiting i no_entry)
         → CountedEntries p moved waiting (i + 1) w0 w'
-    entry_counted moves = record {
-      same = same_more w0 w w' counted.same same;
-      counters = counters_set moved waiting i w0.counters w.counters lt counted.counters n w'.counters exists counts.counters moves;
-      crossed = crossed_still;
-      notes = notes_still;
-      left = let le = counted.left in let more = counts.left in omega arith;
-    }
+    entry_counted moves = search (arith, same_more, counters_set, crossed_still, notes_still)

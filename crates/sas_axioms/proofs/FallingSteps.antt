@@ -1,5 +1,5 @@
 -- Resetting the variables of a layer one by one, and the rules that depend on them.
-use Rattle.sas_axioms.proofs.Imports.{◌≡◌, ◌≢◌, ◌⊎◌, ℕ, ◌+◌, ◌<◌, true, List, [], ◌∷◌, length, get_or, set, sym, ◌∙◌, ap, subst, inl, inr, arith, All, Contains, cases_eq, get_or-set_same, get_or-set_other, All-nil, All-cons, Contains-append_left, Contains-append_right, Contains-push, All-contains, Reverse, Parts, Change, change_of, rule_at, IsState, IsOnLayer, default_of, Agenda, Work, LayerRule, entry_for, IsOnAgenda, IsAwaited, AreBehind, RemovesFromAgenda, IsMadeReady, AreMadeReady, work_left, SameFrom, IsUpdatedTo, ChangesAreNoted, SameWork, CountsChange, IsFalling, IsRising, IsHolding, IsRuleOn, IsLayered, differs, differs_same, differs_not, heap_items}
+use Rattle.sas_axioms.proofs.Imports.{◌≡◌, ◌≢◌, ◌⊎◌, ℕ, ◌+◌, ◌<◌, true, List, [], ◌∷◌, length, get_or, set, sym, ◌∙◌, ap, subst, inl, inr, arith, All, Contains, cases_eq, get_or-set_same, get_or-set_other, All-nil, All-cons, Contains-append_left, Contains-append_right, Contains-push, Parts, Change, change_of, rule_at, IsState, IsOnLayer, default_of, Agenda, Work, entry_for, IsOnAgenda, IsAwaited, AreBehind, RemovesFromAgenda, IsMadeReady, AreMadeReady, work_left, SameFrom, IsUpdatedTo, ChangesAreNoted, SameWork, CountsChange, IsFalling, IsRising, IsHolding, IsRuleOn, IsLayered, differs, differs_same, differs_not, heap_items}
 use Rattle.sas_axioms.proofs.OneLayer.{one_layer}
 use Rattle.sas_axioms.proofs.Sources.{sources_fall}
 use Rattle.sas_axioms.proofs.Tracking.{with_agenda, awaited_on, track_taken, track_ready, asks_down, track_moved}
@@ -159,16 +159,7 @@ module _ (p : Parts) (s0 s : List ℕ) (rule : ℕ) (w : Work) (a a' : Agenda) (
 
 -- where nothing of the layer is noted, the sources of all that differs hold
 pub risen_from_fallen : (p : Parts) (s0 s : List ℕ) (w : Work) → IsFalling p s0 s w → AreBehind w.layer w.agenda → IsRising p s0 s w
-risen_from_fallen p s0 s w falling behind = record {
-  track = falling.track;
-  to = falling.to;
-  hold = λ v on d. elim (falling.sources v on d) [ inl hold ↦ hold | inr noted ↦ not_noted (get_or w.sources v 0) noted ];
-  fired = falling.fired;
-}
-  where
-    not_noted : (other : ℕ) → IsOnAgenda w.agenda w.layer other → {A : Type 0} → A
-    not_noted other noted =
-        let lt : w.layer < w.layer = All-contains (λ (e : Reverse LayerRule). w.layer < e.0.layer) (heap_items w.agenda.noted) (entry_for w.layer other) behind noted in absurd (omega arith)
+risen_from_fallen p s0 s w falling behind = grind (arith, get_or, heap_items, entry_for)
 
 -- the variable of a rule gets its default
 pub fallen_is : (p : Parts) (s s' : List ℕ) (rule value : ℕ) (change : Change) → change ≡ change_of (rule_at p rule) → value ≡ default_of p change.var → s' ≡ set s change.var value
@@ -177,7 +168,4 @@ fallen_is p s s' rule value change of_rule is_default is_set = is_set ∙ (ap (�
 
 -- less is left in the end: what was noted on the layer was taken off
 pub less_in_the_end : (layer rule : ℕ) (a0 a : Agenda) → IsOnAgenda a0 layer rule → AreBehind layer a → (work_left a < work_left a0) ⊎ (a ≡ a0) → work_left a < work_left a0
-less_in_the_end layer rule a0 a noted behind (inl lt) = lt
-less_in_the_end layer rule a0 a noted behind (inr e) =
-    let lt : layer < layer = All-contains (λ (e : Reverse LayerRule). layer < e.0.layer) (heap_items a.noted) (entry_for layer rule) behind (subst (λ x. IsOnAgenda x layer rule) (sym e) noted) in
-    absurd (omega arith)
+less_in_the_end layer rule a0 a noted behind h1 = grind (arith, heap_items, entry_for)

@@ -85,11 +85,4 @@ counted_more p s0 m w w' v value basic state same_sources so_far moves = record 
 
 -- each state is settled, and followed with what was counted before
 pub idle_followed : (p : Parts) (s s' : List ℕ) (w : Work) → ((layer v : ℕ) → IsOnLayer p layer v → ⊥) → IsState p.variables s' → IsFollowed p s w → IsFollowed p s' w
-idle_followed p s s' w none state followed = record {
-  layered = followed.layered;
-  state = state;
-  settled = λ layer. settled_where_empty p layer s' (λ occurs. none layer occurs.0 occurs.1);
-  counts = record { one_each = followed.counts.one_each; known = state.one_each; exact = λ layer rule is. absurd (none layer (rule_at p rule).var is.on) };
-  places = followed.places;
-  given = λ layer. given_at_default p layer s' w.sources (λ v on. absurd (none layer v on));
-}
+idle_followed p s s' w none state followed = grind (arith, settled_where_empty, rule_at, given_at_default)

@@ -36,7 +36,9 @@ pub use Rattle.sas_meaning.proofs.Places.{places_to, places_one_more, places_all
 pub use Rattle.sas_meaning.proofs.Rules.{new_value_is}
 pub use Rattle.sas_meaning.proofs.Settling.{default_off, forced_at_default, settled_when_fired, settled_where_empty, settled_off, basic_off}
 pub use Rattle.sas_meaning.proofs.Covering.{covers_set, covers_gone, covers_any}
+pub use Rattle.sas_meaning.proofs.Spans.{basic_kept, at_default, state_reset}
 pub use Rattle.sas_meaning.proofs.Unique.{differs_decides}
+pub use Rattle.sas_meaning.specs.DerivedVariables.{AreDerivedSpans, CopiesSpans}
 pub use Rattle.sas_meaning.specs.Following.{HaveGone}
 pub use Rattle.sas_meaning.specs.Forced.{SameOff, AtDefault, OnlyForced, HasFired, equal_places, Occurs}
 pub use Rattle.sas_meaning.specs.Layers.{IsLayered, IsBasic, IsOnLayer, default_of, CanFire, can_fire, LooksDown}
@@ -49,9 +51,9 @@ pub use Rattle.sas_axioms.specs.Agenda.{layer_cmp, entry_for, IsOnAgenda, AddsTo
 pub use Rattle.sas_axioms.specs.ByLayers.{SettlesNext, SettlesLayer}
 pub use Rattle.sas_axioms.specs.Conditions.{asking, waiting_entry, waiting_at, released, occurrences, open_conditions, IsOfRule, entries, IsFullIndex, AreCounted, IsCounted, waits_for, CanCount}
 pub use Rattle.sas_axioms.specs.Following.{NotesMore, IsFollowed, SameWork, CountsTo, SameFrom, ChangesAreNoted, CountsChange, IsOnTrack, IsFalling, IsRising, IsBetween, IsUpdatedTo, AsksAbout, HasRisen, KeepsRoom}
-pub use Rattle.sas_axioms.specs.LayerRules.{IsRuleOn, AreReadyFrom, StandsFrom, AreWaiting, IsReadyAt, layer_at, IsLate, AreFirstRules, AreRulesOf, IsLayerSpan}
+pub use Rattle.sas_axioms.specs.LayerRules.{IsRuleOn, AreReadyFrom, StandsFrom, AreWaiting, layer_at, IsLate, AreFirstRules, AreRulesOf, IsLayerSpan}
 pub use Rattle.sas_axioms.specs.Sources.{AreGiven, SameSourcesOff, IsHolding, HaveSources, SourcesHold, IsSourceOf}
-pub use Rattle.sas_axioms.specs.Worklist.{AreCountedBy, value_seen, IsRunning, HaveFired, WorkHasRoom, IsFiring, IsAtWork, WorkGoesOn, FiresRule, LayerBeginsAt, left_to_do}
+pub use Rattle.sas_axioms.specs.Worklist.{AreCountedBy, value_seen, IsRunning, WorkHasRoom, IsFiring, IsAtWork, IsAtRest, WorkGoesOn, with_source, LayerBeginsAt, left_to_do}
 pub use Rattle.sas_axioms.specs.declared.agenda.Agenda.{Agenda}
 pub use Rattle.sas_axioms.specs.declared.conditions.ValueChange.{ValueChange}
 pub use Rattle.sas_axioms.specs.declared.conditions.RuleCondition.{RuleCondition}

@@ -165,8 +165,7 @@ falling_begins p s0 s from layer w between le lowest = record {
 module _ (p : Parts) (s0 s s' : List ℕ) (from layer : ℕ) (w w' : Work) (between : IsBetween p s0 from s w) (le : from ≤ layer) (lowest : NoLowerLayer layer w.agenda)
     (is : w'.layer ≡ layer) (off : SameOff p layer s s') (same_sources : (v : ℕ) → (IsOnLayer p layer v → ⊥) → get_or w'.sources v 0 ≡ get_or w.sources v 0) (risen : HasRisen p s0 s' w') where
   not_noted : (m : ℕ) → m < layer → (rule : ℕ) → IsOnAgenda w.agenda m rule → ⊥
-  not_noted m lt rule noted =
-      let le' : layer ≤ m = All-contains (λ (e : Reverse LayerRule). layer ≤ e.0.layer) (heap_items w.agenda.noted) (entry_for m rule) lowest noted in omega arith
+  not_noted m lt rule noted = grind (arith, heap_items, entry_for)
 
   settled_before : (m : ℕ) → m < layer → IsSettledAt p m s
   settled_before m lt = elim (cases_lt m from) [

@@ -1,5 +1,6 @@
 -- The variables and values in a rule of a task exist.
-use Rattle.sas_axioms.proofs.Imports.{◌≡◌, ◌≢◌, ◌⊎◌, ℕ, ◌<◌, ◌^◌, true, false, not, nat_eq, Option, None, Some, List, length, refl, sym, ap, subst, inl, inr, option_eq, eqb_tells, slice_index, All, All-weaker, All-from_recursion, Fact, Parts, Change, change_of, rule_at, FactExists, WellRanged, default_of, differs, fact_within, ◌==◌, rule_fits}
+use Rattle.std.proofs.lemmas.Grind.{common_steps}
+use Rattle.sas_axioms.proofs.Imports.{arith, ◌≡◌, ◌≢◌, ◌⊎◌, ℕ, ◌<◌, ◌^◌, true, false, not, nat_eq, Option, Some, List, length, refl, sym, subst, option_eq, eqb_tells, slice_index, All, Fact, Parts, Change, change_of, rule_at, WellRanged, default_of, differs, fact_within, ◌==◌, rule_fits}
 
 module _ (p : Parts) (ranged : WellRanged p) (rule : ℕ) (exists : rule < length p.rules) where
   -- the variable of the rule exists
@@ -9,9 +10,7 @@ module _ (p : Parts) (ranged : WellRanged p) (rule : ℕ) (exists : rule < lengt
   -- and so do those of its conditions
   pub conditions_within : (s : List ℕ) → length s ≡ length p.variables → (conditions : List Fact) → conditions ≡ (rule_at p rule).conditions
       → All (λ (f : Fact). f.var < length s) conditions
-  conditions_within s one_each conditions are = rw (are, one_each)
-      (All-weaker (FactExists p.variables) (λ (f : Fact). f.var < length p.variables) (λ f is. fact_within p f.var f.value is) (rule_at p rule).conditions
-      (All-from_recursion (FactExists p.variables) (rule_at p rule).conditions (rule_fits p ranged rule exists).conditions.each))
+  conditions_within s one_each conditions are = grind (arith, common_steps, length, fact_within, rule_at, rule_fits)
 
   -- of which there are few enough to count them
   pub conditions_few : (conditions : List Fact) → conditions ≡ (rule_at p rule).conditions → length conditions < 2 ^ 31
@@ -24,5 +23,4 @@ differs_read p s rule value default change of_rule is is_default = rw (is, is_de
 
 -- the test whether an optional number is the number
 pub same_option : (o : Option ℕ) (n : ℕ) → ((o ≡ Some n) × (option_eq ◌==◌ o (Some n) ≡ true)) ⊎ ((o ≢ Some n) × (option_eq ◌==◌ o (Some n) ≡ false))
-same_option None n = inr ((λ e. cc), refl)
-same_option (Some m) n = elim (eqb_tells m n) [ inl w ↦ inl (ap Some w.1, w.0) | inr w ↦ inr ((λ e. let f : m ≡ n = cc in w.1 f), w.0) ]
+same_option h1 n = grind (arith, eqb_tells)

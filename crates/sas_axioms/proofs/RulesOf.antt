@@ -1,5 +1,5 @@
 -- The rules of each variable that can fire, one rule more.
-use Rattle.sas_axioms.proofs.Imports.{◌≡◌, ◌≢◌, ℕ, ◌+◌, ◌<◌, ◌≤◌, Bool, true, false, List, [], ◌∷◌, ◌++◌, length, get_or, refl, sym, ◌∙◌, ap, subst, inl, inr, arith, ◌==◌, ◌&&◌, not, if◌then◌else◌, All, Contains, eqb-true, eq-eqb, ne_eqb, and_parts, and_from, eqb_tells, Decides-eqb, Decides-not, append-nil, All-nil, All-push, Contains-get_or, Effect, Parts, rule_at, Entry, items_of, by_key, IsRuleOn, AreRulesOf, length-table, item_if, items_none, items_append, items_cons, under_key, IsOnLayer, default_of, CanFire, can_fire, places, can_give, on_layer_within, places_to, places_one_more, places_all, place_is, is_place}
+use Rattle.sas_axioms.proofs.Imports.{◌≡◌, ◌≢◌, ℕ, ◌+◌, ◌<◌, ◌≤◌, Bool, true, false, List, [], ◌∷◌, ◌++◌, length, get_or, refl, sym, ◌∙◌, ap, subst, inl, inr, arith, ◌==◌, ◌&&◌, not, if◌then◌else◌, All, Contains, eqb-true, eq-eqb, ne_eqb, and_parts, and_from, eqb_tells, append-nil, All-nil, All-push, Contains-get_or, Effect, Parts, rule_at, Entry, items_of, by_key, IsRuleOn, AreRulesOf, length-table, item_if, items_none, items_append, items_cons, under_key, IsOnLayer, default_of, CanFire, can_fire, places, can_give, on_layer_within, places_to, places_one_more, places_all, place_is, is_place}
 
 module _ (p : Parts) where
   abbrev pub entry_of : ℕ → Entry ℕ
@@ -49,10 +49,7 @@ module _ (p : Parts) where
           ]))
 
   pub rules_index : (k : ℕ) (entries : List (Entry ℕ)) → length p.rules ≤ k → RulesTo k entries → AreRulesOf p (by_key entries (length p.variables))
-  rules_index k entries all to = record {
-    one_each = length-table (length p.variables) (λ var. items_of var entries);
-    each = λ var lt. under_key entries (length p.variables) var to.exist ∙ (to.each var ∙ places_all (can_give p var) k p.rules all);
-  }
+  rules_index k entries all to = grind (arith, length-table, length, items_of, under_key, places_all, can_give)
 
 -- ---- what the lists have
 
@@ -69,9 +66,7 @@ module _ (p : Parts) where
       )
 
   pub can_of : (var : ℕ) (rule : Effect) → can_give p var rule ≡ true → CanFire p rule × (rule.var ≡ var)
-  can_of var rule is =
-      let both = and_parts (rule.var == var) (can_fire p rule) is in
-      ((Decides-not (rule.new == default_of p rule.var) (Decides-eqb rule.new (default_of p rule.var))).0 both.1, eqb-true rule.var var both.0)
+  can_of var rule is = grind (arith, and_parts, can_fire, default_of, eqb-true)
 
   module _ (lists : List (List ℕ)) (are : AreRulesOf p lists) where
     -- under a variable of a layer all rules are on the layer

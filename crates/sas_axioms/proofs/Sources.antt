@@ -6,8 +6,7 @@ use Rattle.sas_meaning.proofs.Layers.{given_off as value_off}
 pub condition_differs : (p : Parts) (layer rule : ℕ) (s : List ℕ) → IsLayered p → IsRuleOn p layer rule → (j : ℕ) (e : Fact) → j < length (rule_at p rule).conditions
     → IsOnLayer p layer (get_or (rule_at p rule).conditions j e).var → get_or s (get_or (rule_at p rule).conditions j e).var 0 ≡ (get_or (rule_at p rule).conditions j e).value
     → differs p s (get_or (rule_at p rule).conditions j e).var ≡ true
-condition_differs p layer rule s layered is j e lt on hold = differs_true p s (get_or (rule_at p rule).conditions j e).var (λ default.
-    let z : layer < layer = ((layered.rules rule no_effect is.exists is.can).order j e lt layer layer is.on on).1 (sym hold ∙ default) in absurd (omega arith))
+condition_differs p layer rule s layered is j e lt on hold = grind (arith, differs_true, get_or, rule_at, no_effect)
 
 -- what sources give is in every closed set
 module _ (p : Parts) (layer : ℕ) (s sources : List ℕ) (layered : IsLayered p) (given : AreGiven p layer s sources) where
@@ -53,39 +52,18 @@ given_at_default p layer s sources at = record {
 
 -- where variables fall, the others keep their sources
 pub sources_fall : (p : Parts) (m : ℕ) (s s' sources : List ℕ) → ((v : ℕ) → differs p s' v ≡ true → get_or s' v 0 ≡ get_or s v 0) → HaveSources p m s sources → HaveSources p m s' sources
-sources_fall p m s s' sources kept have = record {
-  rank = have.rank;
-  source = λ v on d. have.source v on (differs_same p s' s v (kept v d) d);
-  new = λ v on d. kept v d ∙ have.new v on (differs_same p s' s v (kept v d) d);
-}
+sources_fall p m s s' sources kept have = grind (arith, differs_same)
 
 -- where a layer's values and sources are the same
 pub sources_same : (p : Parts) (m : ℕ) (s s' sources sources' : List ℕ) → ((v : ℕ) → IsOnLayer p m v → get_or s' v 0 ≡ get_or s v 0) → ((v : ℕ) → IsOnLayer p m v → get_or sources' v 0 ≡ get_or sources v 0)
     → HaveSources p m s sources → HaveSources p m s' sources'
-sources_same p m s s' sources sources' kept same have = record {
-  rank = have.rank;
-  source = λ v on d. rw (same v on) (have.source v on (differs_same p s' s v (kept v on) d));
-  new = λ v on d. kept v on ∙ have.new v on (differs_same p s' s v (kept v on) d);
-}
+sources_same p m s s' sources sources' kept same have = grind (arith, differs_same)
 
 -- a layer that was settled before is given as before, where what its rules ask about has kept its
 -- value
 pub given_off : (p : Parts) (layer m : ℕ) (s s' sources sources' : List ℕ) → IsLayered p → SameOff p layer s s' → ((v : ℕ) → (IsOnLayer p layer v → ⊥) → get_or sources' v 0 ≡ get_or sources v 0)
     → m < layer → AreGiven p m s sources → AreGiven p m s' sources'
-given_off p layer m s s' sources sources' layered off same lt given = record {
-  have = sources_same p m s s' sources sources' (λ v on. sym (off v (not_there v on))) (λ v on. same v (not_there v on)) given.have;
-  hold = λ v on d. rw (same v (not_there v on)) (holds v on (differs_same p s' s v (sym (off v (not_there v on))) d));
-}
-  where
-    not_there : (v : ℕ) → IsOnLayer p m v → IsOnLayer p layer v → ⊥
-    not_there v on on' = let a = on in let b = on' in let e : m ≡ layer = cc in omega arith
-
-    holds : (v : ℕ) → IsOnLayer p m v → differs p s v ≡ true → IsHolding p s' (get_or sources v 0)
-    holds v on d j e within =
-        let source = given.have.source v on d in
-        sym (off (get_or (rule_at p (get_or sources v 0)).conditions j e).var (λ on'.
-        (let le = looks_down p (rule_at p (get_or sources v 0)) (get_or (rule_at p (get_or sources v 0)).conditions j e) layer m ((layered.rules (get_or sources v 0) no_effect source.is.exists source.is.can).order j e within) on' source.is.on in omega arith)))
-        ∙ given.hold v on d j e within
+given_off p layer m s s' sources sources' layered off same lt given = grind (arith, sources_same, differs_same, differs, true, get_or, rule_at, looks_down, no_effect)
 
 -- ---- a rule that fires
 
@@ -113,10 +91,7 @@ module _ (p : Parts) (layer rule : ℕ) (s sources : List ℕ) (layered : IsLaye
 
   -- no rule that holds asks about the variable on its layer, which had its default
   not_asked : (k : ℕ) → IsRuleOn p layer k → IsHolding p s k → (j : ℕ) (e : Fact) → j < length (rule_at p k).conditions → (get_or (rule_at p k).conditions j e).var ≢ (rule_at p rule).var
-  not_asked k is_k hold j e lt same =
-      differs_not p s (get_or (rule_at p k).conditions j e).var
-      (condition_differs p layer k s layered is_k j e lt (subst (λ v. IsOnLayer p layer v) (sym same) is.on) (hold j e lt))
-      (subst (λ v. get_or s v 0 ≡ default_of p v) (sym same) default)
+  not_asked k is_k hold j e lt same = grind (arith, differs_not, get_or, rule_at, condition_differs, default_of)
 
   still_holds : (k : ℕ) → IsRuleOn p layer k → IsHolding p s k → IsHolding p (set s (rule_at p rule).var (rule_at p rule).new) k
   still_holds k is_k hold j e lt = get_or-set_other s its (get_or (rule_at p k).conditions j e).var (rule_at p rule).new 0 (not_asked k is_k hold j e lt) ∙ hold j e lt
@@ -131,27 +106,10 @@ module _ (p : Parts) (layer rule : ℕ) (s sources : List ℕ) (layered : IsLaye
   differed v ne d = differs_same p after s v (get_or-set_other s its v (rule_at p rule).new 0 ne) d
 
   new_source : IsSourceOf p layer rank_after (rule_at p rule).var rule
-  new_source = record {
-    is = is;
-    sets = refl;
-    lower = λ j e lt on.
-        (let a = rank_other (get_or (rule_at p rule).conditions j e).var (not_asked rule is holding j e lt) in
-        let b = rank_its in
-        let c = below_above given.have.rank (rule_at p rule).conditions j e lt in omega arith);
-  }
+  new_source = grind (arith, rank_other, get_or, rule_at, not_asked, rank_its, below_above)
 
   old_source : (v : ℕ) → v ≢ (rule_at p rule).var → IsOnLayer p layer v → differs p s v ≡ true → IsSourceOf p layer rank_after v (get_or sources v 0)
-  old_source v ne on d = record {
-    is = source.is;
-    sets = source.sets;
-    lower = λ j e lt on_c.
-        (let a = rank_other (get_or (rule_at p (get_or sources v 0)).conditions j e).var (not_asked (get_or sources v 0) source.is (given.hold v on d) j e lt) in
-        let b = rank_other v ne in
-        let c = source.lower j e lt on_c in omega arith);
-  }
-    where
-      source : IsSourceOf p layer given.have.rank v (get_or sources v 0)
-      source = given.have.source v on d
+  old_source v ne on d = grind (arith, rank_other, get_or, rule_at, not_asked)
 
   source_its : get_or (set sources (rule_at p rule).var rule) (rule_at p rule).var 0 ≡ rule
   source_its = get_or-set_same sources (rule_at p rule).var rule 0 place
@@ -179,18 +137,11 @@ module _ (p : Parts) (layer rule : ℕ) (s sources : List ℕ) (layered : IsLaye
 
 -- on a settled layer, a variable's value with those that differ is its value
 settled_value : (p : Parts) (layer : ℕ) (s : List ℕ) → IsSettledAt p layer s → (v : ℕ) → value_with p layer s (differs p s) v ≡ get_or s v 0
-settled_value p layer s settled v = elim (layer_decides p layer v) [
-  | inr w ↦ value_off p layer s (differs p s) v w.0
-  | inl w ↦ given_on p layer s (differs p s) v w.0 ∙ elim (differs_decides p s v) [
-    | inl d ↦ ap (λ b. cond b (new_value_of p v) (default_of p v)) d.1 ∙ sym d.0
-    | inr d ↦ ap (λ b. cond b (new_value_of p v) (default_of p v)) d.1 ∙ sym (settled.new v w.0 d.1)
-  ]
-]
+settled_value p layer s settled v = grind (arith, layer_decides, differs, given_on, differs_decides, cond, new_value_of, default_of)
 
 -- on a settled layer, the variable of a rule that holds differs from its default
 pub differs_where_holding : (p : Parts) (layer rule : ℕ) (s : List ℕ) → IsSettledAt p layer s → IsRuleOn p layer rule → IsHolding p s rule → differs p s (rule_at p rule).var ≡ true
-differs_where_holding p layer rule s settled on hold =
-    settled.closed rule no_effect on.exists on.on on.can (λ j e lt. settled_value p layer s settled (get_or (rule_at p rule).conditions j e).var ∙ hold j e lt)
+differs_where_holding p layer rule s settled on hold = grind (arith, no_effect, settled_value, get_or, rule_at)
 
 -- a layer on which only forced variables differ is settled, where each rule that holds has set its
 -- variable
@@ -203,14 +154,8 @@ settled_when_set p layer s forced done = settled_when_fired p layer s forced (λ
 -- default
 pub settled_when_given : (p : Parts) (layer : ℕ) (s sources : List ℕ) → IsLayered p → AreGiven p layer s sources
     → ((rule : ℕ) → IsRuleOn p layer rule → IsHolding p s rule → differs p s (rule_at p rule).var ≡ true) → IsSettledAt p layer s
-settled_when_given p layer s sources layered given fired = settled_when_set p layer s (forced_when_given p layer s sources layered given)
-    (λ k is hold. given.have.new (rule_at p k).var is.on (fired k is hold) ∙ new_value_is p k no_effect layered is.exists is.can)
+settled_when_given p layer s sources layered given fired = grind (arith, settled_when_set, forced_when_given, rule_at, new_value_is, no_effect)
 
 -- a late rule doesn't hold while the variables of its layer have their defaults
 pub late_waits : (p : Parts) (layer k : ℕ) (s : List ℕ) → IsLayered p → IsRuleOn p layer k → IsLate p layer k → AtDefault p layer s → AllHold (λ v. get_or s v 0) (rule_at p k).conditions → ⊥
-late_waits p layer k s layered is late at hold =
-    let c = late.waits.0 in
-    let there = late.waits.1 in
-    let on : IsOnLayer p layer (get_or (rule_at p k).conditions there.0 c).var = subst (λ (f : Fact). IsOnLayer p layer f.var) (sym there.2) late.waits.2 in
-    differs_not p s (get_or (rule_at p k).conditions there.0 c).var (condition_differs p layer k s layered is there.0 c there.1 on (hold there.0 c there.1))
-    (at (get_or (rule_at p k).conditions there.0 c).var on)
+late_waits p layer k s layered is late at hold = grind (arith, get_or, rule_at, differs_not, condition_differs)

@@ -1,86 +1,51 @@
 -- Where a layer of a worklist begins and ends, and which layers before it are settled.
-use Rattle.sas_axioms.proofs.Imports.{◌≡◌, ◌≢◌, ℕ, ◌+◌, ◌<◌, ◌≤◌, List, length, get_or, get_or_default, sym, ◌∙◌, ap, inl, inr, arith, cases_lt, Parts, LayerRule, rule_at, IsLayered, IsSettledAt, AtDefault, forced_at_default, AreCounted, IsHolding, IsRuleOn, AreFirstRules, AreWaiting, IsLayerSpan, AreReadyFrom, StandsFrom, IsReadyAt, layer_at, LayerBeginsAt, Work, value_seen, AreCountedBy, IsFiring, WorkGoesOn, FiresRule, All, subst, cases_eq, differs_true}
-use Rattle.sas_axioms.proofs.Counters.{all_hold_when_none_open, none_open_when_all_hold, counts_seen, goes_on_more}
+use Rattle.sas_axioms.proofs.Imports.{◌≡◌, ◌≢◌, ◌⊎◌, ℕ, ◌+◌, ◌<◌, ◌≤◌, List, length, get_or, get_or_default, sym, ◌∙◌, ap, inl, inr, arith, cases_lt, Parts, LayerRule, rule_at, IsLayered, IsSettledAt, AtDefault, forced_at_default, AreCounted, IsHolding, IsRuleOn, AreFirstRules, AreWaiting, IsLayerSpan, AreReadyFrom, StandsFrom, SettlesLayer, layer_at, LayerBeginsAt, Work, IsAtRest, WorkGoesOn, cases_eq, differs_true}
+use Rattle.sas_axioms.proofs.Counters.{all_hold_when_none_open, none_open_when_all_hold, goes_on_still, goes_on_more, settled_when_empty}
 use Rattle.sas_axioms.proofs.Sources.{late_waits, settled_when_set}
-
--- a rule of the layer without open conditions is before the end of the layer's rules
-pub before_end : (p : Parts) (start layer end : ℕ) (counters : List ℕ) (rules : List LayerRule) → AreReadyFrom p start layer counters rules → layer ≡ layer_at rules start → start ≤ end
-    → ((d : LayerRule) → end < length rules → (get_or rules end d).layer ≡ layer → ⊥)
-    → (rule : ℕ) → IsRuleOn p layer rule → get_or counters rule 0 ≡ 0 → (stands : StandsFrom rules start layer rule) × (stands.at < end)
-before_end p start layer end counters rules are here le last rule on none =
-    let found = are.each rule on none in
-    let d : LayerRule = record { layer = layer; rule = rule } in
-    let its : (get_or rules found.at d).layer ≡ layer = ap (λ (r : LayerRule). r.layer) found.is in
-    let within = found.within in (
-      found,
-      elim (cases_lt found.at end) [
-        | inl lt ↦ lt
-        | inr past ↦ (let first : (get_or rules start d).layer ≡ layer =
-            sym (here ∙ ap (λ (r : LayerRule). r.layer) (get_or_default rules start (record { layer = 0; rule = 0 }) d (omega arith))) in
-            let low = are.ascending start end d le (omega arith) in
-            let high = are.ascending end found.at d past within in
-            absurd (last d (omega arith) (omega arith)))
-      ],
-    )
 
 -- the rules of the layer from one index up to another that have no open conditions have fired
 pub record FiringTo (p : Parts) (rules : List LayerRule) (start next : ℕ) (s0 : List ℕ) (w0 : Work) (s : List ℕ) (w : Work) : Type 0 where
   pub goes_on : WorkGoesOn p s0 w0 s w
-  pub same : w.counters ≡ w0.counters
-  pub firing : IsFiring p s w.stack.items w
-  pub counts : AreCountedBy p (value_seen p s w.stack.items) w0.counters
+  pub at_rest : IsAtRest p s w
   pub from_start : start ≤ next
   pub within : next ≤ length rules
   pub on : (j : ℕ) (d : LayerRule) → start ≤ j → j < next → (get_or rules j d).layer ≡ w0.layer
-  pub fired : (j : ℕ) (d : LayerRule) → start ≤ j → j < next → get_or w0.counters (get_or rules j d).rule 0 ≡ 0
-      → get_or s (rule_at p (get_or rules j d).rule).var 0 ≡ (rule_at p (get_or rules j d).rule).new
+  pub each : (rule : ℕ) → IsRuleOn p w0.layer rule → get_or w.counters rule 0 ≡ 0 → (get_or s (rule_at p rule).var 0 ≡ (rule_at p rule).new) ⊎ StandsFrom rules next w0.layer rule
 
-module _ (p : Parts) (rules : List LayerRule) (start i : ℕ) (s0 : List ℕ) (w0 : Work) (s : List ℕ) (w : Work) (lt : i < length rules) (to : FiringTo p rules start i s0 w0 s w)
-    (on_layer : layer_at rules i ≡ w0.layer) where
-  same_entry : (j : ℕ) (d : LayerRule) → j ≡ i → get_or rules i (record { layer = 0; rule = 0 }) ≡ get_or rules j d
-  same_entry j d e = get_or_default rules i (record { layer = 0; rule = 0 }) d lt ∙ ap (λ n. get_or rules n d) (sym e)
+-- none has
+pub firing_begins : (p : Parts) (rules : List LayerRule) (start : ℕ) (s : List ℕ) (w : Work) → AreReadyFrom p start w.layer w.counters rules → IsAtRest p s w → FiringTo p rules start start s w s w
+firing_begins p rules start s w are at_rest = grind (arith, goes_on_still)
 
-  on_so_far : (j : ℕ) (d : LayerRule) → start ≤ j → j < i + 1 → (get_or rules j d).layer ≡ w0.layer
-  on_so_far j d ge below = elim (cases_eq j i) [
-    | inl e ↦ ap (λ (r : LayerRule). r.layer) (sym (same_entry j d e)) ∙ on_layer
-    | inr ne ↦ to.on j d ge (omega arith)
-  ]
+module _ (p : Parts) (rules : List LayerRule) (start i : ℕ) (s0 : List ℕ) (w0 : Work) (s : List ℕ) (w : Work) (to : FiringTo p rules start i s0 w0 s w) where
+  -- the next rule of the layer has open conditions or has fired, with those that hold because of it
+  pub one_more : i < length rules → layer_at rules i ≡ w0.layer → (s' : List ℕ) (w' : Work) → WorkGoesOn p s w s' w' → IsAtRest p s' w'
+      → (get_or w'.counters (get_or rules i (record { layer = 0; rule = 0 })).rule 0 ≡ 0 → get_or s' (rule_at p (get_or rules i (record { layer = 0; rule = 0 })).rule).var 0 ≡ (rule_at p (get_or rules i (record { layer = 0; rule = 0 })).rule).new)
+      → FiringTo p rules start (i + 1) s0 w0 s' w'
+  one_more lt on_layer s' w' more at_rest here = grind (arith, goes_on_more, cases_eq, rule_at, differs_true, get_or, get_or_default)
 
-  -- the next rule of the layer has fired
-  pub one_fired : (s' : List ℕ) (w' : Work) → All (λ (r : LayerRule). IsRuleOn p r.layer r.rule) rules → FiresRule p (get_or rules i (record { layer = 0; rule = 0 })).rule s w s' w' → FiringTo p rules start (i + 1) s0 w0 s' w'
-  one_fired s' w' only f = record {
-    goes_on = goes_on_more p s0 w0 s w s' w' to.goes_on f.goes_on;
-    same = f.counters ∙ to.same;
-    firing = f.firing to.firing;
-    counts = counts_seen p s s' w.stack.items w'.stack.items w0.counters f.seen to.counts;
-    from_start = omega (arith, to.from_start);
-    within = omega arith;
-    on = on_so_far;
-    fired = λ j d ge below none. elim (cases_eq j i) [
-      | inl e ↦ subst (λ (r : LayerRule). get_or s' (rule_at p r.rule).var 0 ≡ (rule_at p r.rule).new) (same_entry j d e) (f.fired here)
-      | inr ne ↦ (let before = to.fired j d ge (omega arith) none in
-          f.kept (rule_at p (get_or rules j d).rule).var (differs_true p s (rule_at p (get_or rules j d).rule).var (λ e. (only j d (omega arith)).can (sym before ∙ e))) ∙ before)
-    ];
-  }
-    where
-      here : IsRuleOn p w.layer (get_or rules i (record { layer = 0; rule = 0 })).rule
-      here = subst (λ m. IsRuleOn p m (get_or rules i (record { layer = 0; rule = 0 })).rule) (on_layer ∙ sym to.goes_on.layer) (only i (record { layer = 0; rule = 0 }) lt)
+  -- where the rules of the layer end, it is settled
+  module _ (are : AreReadyFrom p start w0.layer w0.counters rules) (begins : w0.layer ≡ layer_at rules start) (last : (d : LayerRule) → i < length rules → (get_or rules i d).layer ≡ w0.layer → ⊥) where
+    begins_on : (d : LayerRule) → (get_or rules start d).layer ≡ w0.layer
+    begins_on d = sym (begins ∙ ap (λ (r : LayerRule). r.layer) (get_or_default rules start (record { layer = 0; rule = 0 }) d are.within))
 
-  -- the next rule of the layer has open conditions
-  pub one_waits : (get_or w0.counters (get_or rules i (record { layer = 0; rule = 0 })).rule 0 ≡ 0 → ⊥) → FiringTo p rules start (i + 1) s0 w0 s w
-  one_waits waits = record {
-    goes_on = to.goes_on;
-    same = to.same;
-    firing = to.firing;
-    counts = to.counts;
-    from_start = omega (arith, to.from_start);
-    within = omega arith;
-    on = on_so_far;
-    fired = λ j d ge below none. elim (cases_eq j i) [
-      | inl e ↦ absurd (waits (subst (λ (r : LayerRule). get_or w0.counters r.rule 0 ≡ 0) (sym (same_entry j d e)) none))
-      | inr ne ↦ to.fired j d ge (omega arith) none
-    ];
-  }
+    pub layer_settled : SettlesLayer p w0.layer s0 s
+    layer_settled = record {
+      state = to.at_rest.at_work.firing.running.state;
+      off = to.goes_on.off;
+      settled = rw (sym to.goes_on.layer) (settled_when_empty p w.layer s w.counters to.at_rest.at_work.firing.running to.at_rest.at_work.counts (λ rule on none.
+          elim (to.each rule (rw (sym to.goes_on.layer) on) none) [
+            | inl e ↦ e
+            | inr stands ↦ (let d : LayerRule = record { layer = w0.layer; rule = rule } in
+                let its : (get_or rules stands.at d).layer ≡ w0.layer = ap (λ (r : LayerRule). r.layer) stands.is in
+                let low = are.ascending start i d to.from_start (omega (arith, stands.from_start, stands.within)) in
+                let high = are.ascending i stands.at d stands.from_start stands.within in
+                let begin = begins_on d in
+                absurd (last d (omega (arith, stands.from_start, stands.within)) (omega arith)))
+          ]));
+    }
+
+    pub layer_span : IsLayerSpan rules start w0.layer i
+    layer_span = grind (arith, cases_eq, get_or, begins_on)
 
 module _ (p : Parts) (rules : List LayerRule) (from place : ℕ) (rules_are : AreFirstRules p rules) (stands : LayerBeginsAt rules from place)
     (s counters : List ℕ) (layered : IsLayered p) (counts : AreCounted p s counters) where
@@ -116,7 +81,7 @@ module _ (p : Parts) (rules : List LayerRule) (from place : ℕ) (rules_are : Ar
       ])
 
   -- the first rule that doesn't wait begins its layer
-  module _ (ready : ℕ) (ge : place ≤ ready) (within : ready < length rules) (waiting : AreWaiting counters rules place ready) (is_ready : IsReadyAt counters rules ready) where
+  module _ (ready : ℕ) (ge : place ≤ ready) (within : ready < length rules) (waiting : AreWaiting counters rules place ready) where
     first : (d : LayerRule) → layer_at rules ready ≡ (get_or rules ready d).layer
     first d = ap (λ (r : LayerRule). r.layer) (get_or_default rules ready (record { layer = 0; rule = 0 }) d within)
 
@@ -136,7 +101,6 @@ module _ (p : Parts) (rules : List LayerRule) (from place : ℕ) (rules_are : Ar
     pub ready_from : AtDefault p (layer_at rules ready) s → AreReadyFrom p ready (layer_at rules ready) counters rules
     ready_from default = record {
       within = within;
-      first = is_ready;
       only = rules_are.only;
       each = λ rule is none.
           (let layer = layer_at rules ready in

@@ -1,5 +1,5 @@
 -- What is counted and noted goes on to fit the state.
-use Rattle.sas_axioms.proofs.Imports.{◌≡◌, ℕ, ◌≤◌, List, ◌++◌, length, get_or, set, is_some, sym, ap, ◌∙◌, subst, inl, inr, All, Contains, heap_items, All-contains, All-append, Reverse, Parts, rule_at, IsState, IsOnLayer, IsLayered, LooksDown, ChangedVariables, AddsTouched, StillCovers, looks_down, covers_set, SameOff, get_or-set_other, Agenda, Work, LayerRule, IsAwaited, RemovesFromAgenda, AreCounted, IsHolding, AsksAbout, CountsChange, IsOnTrack, KeepsRoom, IsRuleOn, no_effect}
+use Rattle.sas_axioms.proofs.Imports.{arith, ◌≡◌, ℕ, ◌≤◌, List, ◌++◌, length, get_or, set, is_some, sym, ap, ◌∙◌, All, Contains, heap_items, All-contains, All-append, Parts, rule_at, IsState, IsOnLayer, IsLayered, ChangedVariables, AddsTouched, StillCovers, looks_down, covers_set, SameOff, get_or-set_other, Agenda, Work, IsAwaited, RemovesFromAgenda, AreCounted, IsHolding, AsksAbout, CountsChange, IsOnTrack, KeepsRoom, IsRuleOn, no_effect}
 use Rattle.sas_axioms.proofs.Counters.{all_hold_when_none_open, none_open_when_all_hold}
 
 -- what holds of all elements of a list holds of those of one that has no others
@@ -15,10 +15,7 @@ zero_when_holding p layer rule s counters counts is hold = counts.exact layer ru
 
 -- a rule that is awaited is on the layer
 pub awaited_on : (p : Parts) (layer rule : ℕ) (s : List ℕ) (w : Work) → IsOnTrack p layer s w → IsAwaited w.agenda layer rule → IsRuleOn p layer rule
-awaited_on p layer rule s w track awaited = elim awaited [
-  | inl noted ↦ All-contains (λ (e : Reverse LayerRule). IsRuleOn p e.0.layer e.0.rule) (heap_items w.agenda.noted) (record { 0 = record { layer = layer; rule = rule } }) track.noted noted
-  | inr ready ↦ All-contains (λ (r : ℕ). IsRuleOn p layer r) w.agenda.ready.items rule track.ready ready
-]
+awaited_on p layer rule s w track awaited = grind (arith, heap_items)
 
 -- the work with another agenda
 abbrev pub with_agenda : Work → Agenda → Work
@@ -27,15 +24,7 @@ with_agenda w a = record { layer = w.layer; counters = w.counters; stack = w.sta
 -- a rule is taken off
 pub track_taken : (p : Parts) (layer rule : ℕ) (s : List ℕ) (w : Work) (a' : Agenda) → IsOnTrack p layer s w → RemovesFromAgenda layer rule w.agenda a'
     → IsOnTrack p layer s (with_agenda w a')
-track_taken p layer rule s w a' track takes = record {
-  state = track.state;
-  counts = track.counts;
-  places = track.places;
-  ordered = takes.ordered;
-  noted = all_still (λ (e : Reverse LayerRule). IsRuleOn p e.0.layer e.0.rule) (heap_items w.agenda.noted) (heap_items a'.noted) takes.still_noted track.noted;
-  from = all_still (λ (e : Reverse LayerRule). layer ≤ e.0.layer) (heap_items w.agenda.noted) (heap_items a'.noted) takes.still_noted track.from;
-  ready = all_still (λ (r : ℕ). IsRuleOn p layer r) w.agenda.ready.items a'.ready.items takes.still_ready track.ready;
-}
+track_taken p layer rule s w a' track takes = search (arith, all_still, heap_items)
 
 -- rules of the layer are made ready
 pub track_ready : (p : Parts) (layer : ℕ) (s : List ℕ) (w : Work) (a' : Agenda) (rules : List ℕ) → IsOnTrack p layer s w → All (λ (r : ℕ). IsRuleOn p layer r) rules
@@ -53,47 +42,22 @@ track_ready p layer s w a' rules track all ready noted = record {
 
 -- a rule that asks about a variable is on no lower layer
 pub asks_down : (p : Parts) (layer var : ℕ) → IsLayered p → IsOnLayer p layer var → (its rule : ℕ) → IsRuleOn p its rule → AsksAbout p var rule → layer ≤ its
-asks_down p layer var layered on its rule is asks =
-    let down : LooksDown p (rule_at p rule).var asks.0 = All-contains (LooksDown p (rule_at p rule).var) (rule_at p rule).conditions asks.0 (layered.rules rule no_effect is.exists is.can).order asks.1 in
-    looks_down p (rule_at p rule) asks.0 layer its down (subst (λ v. IsOnLayer p layer v) (sym asks.2) on) is.on
+asks_down p layer var layered on its rule is asks = grind (arith, rule_at, no_effect, looks_down)
 
 -- a variable changes about which no rule of a lower layer asks
 pub track_moved : (p : Parts) (layer var : ℕ) (s s' : List ℕ) (w w' : Work) → ((its rule : ℕ) → IsRuleOn p its rule → AsksAbout p var rule → layer ≤ its) → IsState p.variables s'
     → IsOnTrack p layer s w → CountsChange p var s w s' w' → length w'.sources ≡ length w.sources → IsOnTrack p layer s' w'
-track_moved p layer var s s' w w' down state track moves sources = record {
-  state = state;
-  counts = moves.counts;
-  places = sources ∙ track.places;
-  ordered = moves.notes.ordered;
-  noted = λ k d lt. elim (moves.notes.only k d lt) [
-    | inl there ↦ All-contains (λ (e : Reverse LayerRule). IsRuleOn p e.0.layer e.0.rule) (heap_items w.agenda.noted) (get_or (heap_items w'.agenda.noted) k d) track.noted there
-    | inr new ↦ new.0
-  ];
-  from = λ k d lt. elim (moves.notes.only k d lt) [
-    | inl there ↦ All-contains (λ (e : Reverse LayerRule). layer ≤ e.0.layer) (heap_items w.agenda.noted) (get_or (heap_items w'.agenda.noted) k d) track.from there
-    | inr new ↦ down (get_or (heap_items w'.agenda.noted) k d).0.layer (get_or (heap_items w'.agenda.noted) k d).0.rule new.0 new.1
-  ];
-  ready = rw moves.notes.ready track.ready;
-}
+track_moved p layer var s s' w w' down state track moves sources = grind (arith, heap_items, get_or)
 
 -- a source is set
 pub track_set : (p : Parts) (layer : ℕ) (s : List ℕ) (w : Work) (sources : List ℕ) → length sources ≡ length w.sources → IsOnTrack p layer s w
     → IsOnTrack p layer s (record { layer = w.layer; counters = w.counters; stack = w.stack; sources = sources; agenda = w.agenda })
-track_set p layer s w sources same track = record {
-  state = track.state;
-  counts = track.counts;
-  places = same ∙ track.places;
-  ordered = track.ordered;
-  noted = track.noted;
-  from = track.from;
-  ready = track.ready;
-}
+track_set p layer s w sources same track = grind arith
 
 -- ---- what a variable of the layer leaves alone
 
 pub off_step : (p : Parts) (layer at : ℕ) (s0 s s' : List ℕ) (var value : ℕ) → at ≡ layer → SameOff p layer s0 s → IsOnLayer p at var → s' ≡ set s var value → SameOff p layer s0 s'
-off_step p layer at s0 s s' var value same so_far on is v off = so_far v off ∙ rw is (sym (get_or-set_other s var v value 0 (λ e.
-    off (subst (λ n. IsOnLayer p n v) same (subst (λ u. IsOnLayer p at u) (sym e) on)))))
+off_step p layer at s0 s s' var value same so_far on is v off = grind (arith, get_or-set_other)
 
 -- ---- what is known of it
 

@@ -47,11 +47,6 @@ AreWaiting counters rules start end = (place : ℕ) (d : LayerRule) → start �
 abbrev pub layer_at : List LayerRule → ℕ → ℕ
 layer_at rules place = (slice_index_or rules place (record { layer = 0; rule = 0 })).layer
 
--- the rule at an index has no open conditions
-abbrev pub IsReadyAt : List ℕ → List LayerRule → ℕ → Type 0
-IsReadyAt counters rules place =
-    slice_index counters (slice_index_or rules place (record { layer = 0; rule = 0 })).rule ≡ 0
-
 -- the rule of the layer is at an index from `start` on
 pub record StandsFrom (rules : List LayerRule) (start layer rule : ℕ) : Type 0 where
   pub at : ℕ
@@ -61,11 +56,10 @@ pub record StandsFrom (rules : List LayerRule) (start layer rule : ℕ) : Type 0
       ≡ (let r : LayerRule = record { layer = layer; rule = rule } in r)
 
 -- rules that can fire, each with its layer, in ascending order of their layers; from index `start`
--- on, there are all rules of this layer that have no open conditions, the first of them there
+-- on, there are all rules of this layer that have no open conditions
 pub record AreReadyFrom (p : Parts) (start layer : ℕ) (counters : List ℕ) (rules : List LayerRule)
     : Type 0 where
   pub within : start < length rules
-  pub first : IsReadyAt counters rules start
   pub only : All (λ (r : LayerRule). IsRuleOn p r.layer r.rule) rules
   pub each : (rule : ℕ) → IsRuleOn p layer rule → slice_index counters rule ≡ 0
       → StandsFrom rules start layer rule

@@ -1,12 +1,12 @@
 -- How far a worklist has come on a layer, and what it needs.
-use Rattle.std.specs.Prelude.{◌≡◌, ℕ, ◌+◌, ◌*◌, ◌<◌, ◌≤◌, ◌==◌, if◌then◌else◌, IsTrue, List, [], length, slice_index, slice_index_or, vec_capacity}
+use Rattle.std.specs.Prelude.{◌≡◌, ◌⊎◌, ℕ, ◌+◌, ◌*◌, ◌<◌, ◌≤◌, ◌==◌, if◌then◌else◌, IsTrue, List, [], length, slice_index, slice_index_or, slice_set, vec_capacity}
 use Rattle.sas_core.specs.declared.parts.Parts.{Parts}
 use Rattle.sas_core.specs.Grounded.{rule_at}
 use Rattle.sas_core.specs.Variables.{IsState}
 use Rattle.sas_meaning.specs.Layers.{IsOnLayer, default_of}
-use Rattle.sas_meaning.specs.DerivedVariables.{AreDerived}
+use Rattle.sas_meaning.specs.DerivedVariables.{AreDerivedSpans}
 use Rattle.sas_meaning.specs.Settled.{differs}
-use Rattle.sas_meaning.specs.Forced.{OnlyForced, equal_places, SameOff}
+use Rattle.sas_meaning.specs.Forced.{OnlyForced, equal_places, SameOff, AtDefault}
 use Rattle.sas_axioms.specs.declared.firing.LayerSettler.{LayerSettler}
 use Rattle.sas_axioms.specs.declared.firing.Work.{Work}
 use Rattle.sas_axioms.specs.declared.layer_rules.LayerRule.{LayerRule}
@@ -36,11 +36,6 @@ abbrev pub AreCountedBy : Parts → (ℕ → ℕ) → List ℕ → Type 0
 AreCountedBy p value counters = (layer rule : ℕ) → IsRuleOn p layer rule
     → slice_index counters rule ≡ open_conditions value (rule_at p rule).conditions
 
--- each rule of the layer without open conditions has set its variable
-abbrev pub HaveFired : Parts → ℕ → List ℕ → List ℕ → Type 0
-HaveFired p layer s counters = (rule : ℕ) → IsRuleOn p layer rule
-    → slice_index counters rule ≡ 0 → slice_index s (rule_at p rule).var ≡ (rule_at p rule).new
-
 -- an upper bound of the remaining work
 abbrev pub left_to_do : Parts → List ℕ → List ℕ → ℕ
 left_to_do p s stack = 2 * equal_places s p.init + length stack
@@ -57,40 +52,50 @@ pub record IsFiring (p : Parts) (s stack : List ℕ) (w : Work) : Type 0 where
   pub running : IsRunning p w.layer s stack
   pub given : AreGiven p w.layer s w.sources
 
--- Rules of the current layer are being fired. Those without open conditions have fired, and the
--- conditions on the variables on the stack are still to be counted.
+-- rules of the current layer are being fired, and the conditions on the variables on the stack are
+-- still to be counted
 pub record IsAtWork (p : Parts) (s stack : List ℕ) (w : Work) : Type 0 where
   pub firing : IsFiring p s stack w
   pub counts : AreCountedBy p (value_seen p s stack) w.counters
-  pub fired : HaveFired p w.layer s w.counters
 
--- the work affects only its layer, and the bound of the remaining work doesn't grow
+-- no variable is on the stack
+pub record IsAtRest (p : Parts) (s : List ℕ) (w : Work) : Type 0 where
+  pub at_work : IsAtWork p s [] w
+  pub empty : w.stack.items ≡ []
+
+-- The work affects only its layer, on which variables that differ from their defaults keep their
+-- values. Each rule of the layer whose last open condition was met has set its variable.
 pub record WorkGoesOn (p : Parts) (s : List ℕ) (w : Work) (s' : List ℕ) (w' : Work) : Type 0 where
   pub layer : w'.layer ≡ w.layer
   pub off : SameOff p w.layer s s'
   pub sources : SameSourcesOff p w.layer w.sources w'.sources
-  pub left : left_to_do p s' w'.stack.items ≤ left_to_do p s w.stack.items
-
--- the rule fires if it is on the layer, unless it had fired before
-pub record FiresRule (p : Parts) (rule : ℕ) (s : List ℕ) (w : Work) (s' : List ℕ) (w' : Work)
-    : Type 0 where
-  pub goes_on : WorkGoesOn p s w s' w'
-  pub counters : w'.counters ≡ w.counters
-  pub firing : IsFiring p s w.stack.items w → IsFiring p s' w'.stack.items w'
-  pub seen : (var : ℕ) → value_seen p s' w'.stack.items var ≡ value_seen p s w.stack.items var
-  pub fired : IsRuleOn p w.layer rule → slice_index s' (rule_at p rule).var ≡ (rule_at p rule).new
   pub kept : (var : ℕ) → IsTrue (differs p s var) → slice_index s' var ≡ slice_index s var
+  pub fired : (rule : ℕ) → IsRuleOn p w.layer rule → slice_index w'.counters rule ≡ 0
+      → (slice_index s' (rule_at p rule).var ≡ (rule_at p rule).new)
+      ⊎ (slice_index w.counters rule ≡ 0)
 
--- the data for settling layers fit the task, and the stack is empty
+-- with this rule as the source of the variable
+abbrev pub with_source : Work → ℕ → ℕ → Work
+with_source w var rule = record {
+  layer = w.layer;
+  counters = w.counters;
+  stack = w.stack;
+  sources = slice_set w.sources var rule;
+  agenda = w.agenda;
+}
+
+-- the data for settling layers fit the task, the counters with which settling begins are those for
+-- the defaults, and the stack is empty
 pub record IsFiringReady (p : Parts) (f : LayerSettler) : Type 0 where
   pub counted : IsCounted p f.counted
+  pub default : (layer : ℕ) → AtDefault p layer f.counted.values
   pub rules_of : AreRulesOf p f.rules_of
   pub room : WorkHasRoom p f.work
   pub empty : f.work.stack.items ≡ []
 
 -- what a worklist holds fits the task
 pub record IsReadyFor (p : Parts) (w : Worklist) : Type 0 where
-  pub variables : AreDerived p w.derived.items
+  pub derived : AreDerivedSpans p w.derived.items
   pub rules : AreFirstRules p w.rules.items
   pub firing : IsFiringReady p w.firing
 

@@ -1,30 +1,29 @@
 // Settles one layer by counters: each rule counts its open conditions, and fires when none is left.
-ghost use Rattle.std.specs.Prelude.{◌≡◌, ℕ, ◌<◌, ◌≤◌, [], ◌∷◌, ◌++◌, List, length, All, IfOk, OnOk, IfSome, IfNone, IsTrue, IsFalse, slice_index};
+ghost use Rattle.std.specs.Prelude.{◌≡◌, ◌≢◌, ℕ, ◌<◌, ◌≤◌, [], ◌∷◌, ◌++◌, List, length, All, IfOk, OnOk, IfSome, IfNone, IsTrue, IsFalse, slice_index, slice_set};
 ghost use Rattle.sas_core.specs.Grounded.{rule_at};
 ghost use Rattle.sas_core.specs.Variables.{IsState};
-ghost use Rattle.sas_meaning.specs.States.{AllHold};
+ghost use Rattle.sas_meaning.specs.DerivedVariables.{AreDerivedSpans};
 ghost use Rattle.sas_meaning.specs.Forced.{AtDefault};
 ghost use Rattle.sas_meaning.specs.Following.{HaveGone};
 ghost use Rattle.sas_meaning.specs.Settled.{SameBasic};
 ghost use Rattle.sas_meaning.specs.ChangedVariables.{StillCovers};
 ghost use Rattle.sas_axioms.specs.ByLayers.{SettlesLayer};
 ghost use Rattle.sas_axioms.specs.declared.layer_rules.LayerRule.{LayerRule};
-ghost use Rattle.sas_axioms.specs.LayerRules.{IsRuleOn, IsLayerSpan, AreReadyFrom, AreWaiting, IsReadyAt, layer_at};
+ghost use Rattle.sas_axioms.specs.LayerRules.{IsRuleOn, IsLayerSpan, AreReadyFrom, AreWaiting, layer_at};
 ghost use Rattle.sas_axioms.specs.Conditions.{AreCounted};
-ghost use Rattle.sas_axioms.specs.Agenda.{IsEmpty};
 ghost use Rattle.sas_axioms.specs.Sources.{AreGiven, SameSourcesOff};
 ghost use Rattle.sas_axioms.specs.Following.{IsFollowed};
-ghost use Rattle.sas_axioms.specs.Worklist.{IsRunning, WorkHasRoom, IsFiring, IsAtWork, WorkGoesOn, FiresRule, IsFiringReady};
+ghost use Rattle.sas_axioms.specs.Worklist.{WorkHasRoom, IsAtRest, IsAtWork, WorkGoesOn, IsFiringReady, left_to_do, with_source};
 
 use crate::agenda::{Agenda, OverBudget};
 use crate::conditions::{ValueChange, count_after};
 use crate::counting::ConditionCounts;
-use crate::following::{count_gone, settle_noted};
+use crate::following::settle_gone;
 use crate::indexed_rules::IndexedRules;
 use crate::layer_rules::{LayerRule, rules_of_variables};
 use sas_core::{Fact, Grounded, Items};
 use sas_flat::Lists;
-use sas_meaning::{ChangedVariables, Layered, State};
+use sas_meaning::{ChangedVariables, Layered, State, VariableSpan};
 use std::alloc::{AllocError, Global};
 use std::mem::replace;
 
@@ -81,7 +80,7 @@ impl Work {
 /// Settles the layers of a task, one at a time.
 #[derive(Drop)]
 pub struct LayerSettler {
-    /// Makes the empty list that takes the place of the counters while they are set.
+    /// Makes the empty list that takes the place of values or counters while they are set.
     alloc: Global,
     /// The counters with which the settling of a state begins: those for its basic variables and the defaults of the derived ones.
     pub counted: ConditionCounts,
@@ -110,13 +109,24 @@ impl LayerSettler {
         })
     }
 
-    /// Sets all counters to those for this state. Must be called before the lowest layer is settled.
-    pub fn begin<T: Grounded>(&mut self, layered: &Layered<T>, state: &State)
+    /// Sets the derived variables, which are those in the spans, to their defaults, and all counters to those for this state. Must be called
+    /// before the lowest layer is settled.
+    pub fn begin<T: Grounded>(
+        &mut self,
+        layered: &Layered<T>,
+        derived: &[VariableSpan],
+        state: &mut State,
+    )
         requires prepared { IsFiringReady layered.now self.old }
-        requires state { IsState layered.now.variables state.now }
+        requires derived { AreDerivedSpans layered.now derived.now }
+        requires state { IsState layered.now.variables state.old }
         ensures prepared { IsFiringReady layered.now self.new }
-        ensures counts { AreCounted layered.now state.now self.new.work.counters }
+        ensures state { IsState layered.now.variables state.new }
+        ensures basic { SameBasic layered.now state.old state.new }
+        ensures default { (layer : ℕ) → AtDefault layered.now layer state.new }
+        ensures counts { AreCounted layered.now state.new self.new.work.counters }
     {
+        state.copy_spans(self.alloc, &self.counted.values, derived);
         self.counted.follow(layered, state);
         let mut counters = replace(&mut self.work.counters, Items::new(self.alloc)).into_vec();
         counters.copy_from_slice(self.counted.counters.as_slice());
@@ -127,8 +137,7 @@ impl LayerSettler {
     pub fn next_ready(&self, rules: &[LayerRule], start: usize) -> Option<usize>
         requires { All (λ (r : LayerRule). r.rule < length self.now.work.counters) rules.now }
         ensures some { IfSome result (λ ready. (start ≤ ready) × (ready < length rules.now)
-            × AreWaiting self.now.work.counters rules.now start ready
-            × IsReadyAt self.now.work.counters rules.now ready) }
+            × AreWaiting self.now.work.counters rules.now start ready) }
         ensures none { IfNone result
             (AreWaiting self.now.work.counters rules.now start (length rules.now)) }
     {
@@ -171,9 +180,7 @@ impl LayerSettler {
             waiting: &self.counted.index,
             setting: &self.rules_of,
         };
-        let end = fire_ready(&indexed, rules, start, &mut self.work, state);
-        empty_stack(&indexed, &mut self.work, state);
-        end
+        fire_ready(&indexed, rules, start, &mut self.work, state)
     }
 
     /// Updates the state, which must be settled except that the facts `gone` may have become false. The derived variables that it sets are
@@ -195,43 +202,19 @@ impl LayerSettler {
         ensures covered { StillCovers layered.now state.old touched.old state.new touched.new }
         ensures followed { OnOk result (IsFollowed layered.now state.new self.new.work) }
     {
-        self.work.agenda.begin();
-        let followed = self.follow_on(layered, gone, state, touched);
-        self.work.agenda.end(followed);
-        followed
-    }
-
-    /// Updates the state. The agenda must be empty.
-    fn follow_on<T: Grounded>(
-        &mut self,
-        layered: &Layered<T>,
-        gone: &[Fact],
-        state: &mut State,
-        touched: &mut ChangedVariables,
-    ) -> Result<(), OverBudget>
-        requires prepared { IsFiringReady layered.now self.old }
-        requires state { IsState layered.now.variables state.old }
-        requires follows { (s : List ℕ)
-            × IsFollowed layered.now s self.old.work × HaveGone layered.now gone.now s state.old }
-        requires empty { IsEmpty self.old.work.agenda }
-        ensures prepared { IsFiringReady layered.now self.new }
-        ensures state { IsState layered.now.variables state.new }
-        ensures basic { SameBasic layered.now state.old state.new }
-        ensures covered { StillCovers layered.now state.old touched.old state.new touched.new }
-        ensures followed { OnOk result (IsFollowed layered.now state.new self.new.work) }
-    {
         let indexed = IndexedRules {
             layered,
             waiting: &self.counted.index,
             setting: &self.rules_of,
         };
-        count_gone(&indexed, gone, &mut self.work, state)?;
-        settle_noted(&indexed, &mut self.work, state, touched)
+        let followed = settle_gone(&indexed, gone, &mut self.work, state, touched);
+        self.work.agenda.end(followed);
+        followed
     }
 }
 
-/// Fires the rules of the layer that have no open conditions. The first of them is at index `start`. Returns the index after the last rule
-/// of the layer.
+/// Settles the layer by firing its rules that have no open conditions. The first of them is at index `start`. Returns the index after the
+/// last rule of the layer.
 fn fire_ready<T: Grounded>(
     indexed: &IndexedRules<'_, '_, T>,
     rules: &[LayerRule],
@@ -241,62 +224,74 @@ fn fire_ready<T: Grounded>(
 ) -> usize
     requires layer { work.old.layer ≡ layer_at rules.now start }
     requires rules { AreReadyFrom indexed.now start work.old.layer work.old.counters rules.now }
-    requires firing { IsFiring indexed.now state.old work.old.stack.items work.old }
-    requires empty { work.old.stack.items ≡ [] }
-    requires counts { AreCounted indexed.now state.old work.old.counters }
-    ensures at_work { IsAtWork indexed.now state.new work.new.stack.items work.new }
+    requires at_rest { IsAtRest indexed.now state.old work.old }
+    ensures at_rest { IsAtRest indexed.now state.new work.new }
+    ensures settles { SettlesLayer indexed.now work.old.layer state.old state.new }
     ensures goes_on { WorkGoesOn indexed.now state.old work.old state.new work.new }
     ensures end { IsLayerSpan rules.now start work.old.layer result }
 {
-    fire(indexed.layered, rules[start].rule, work, state);
-    let mut next = start + 1;
+    let mut next = start;
     while next < rules.len() && rules[next].layer == work.layer {
         let rule = rules[next].rule;
         if work.counters.as_slice()[rule as usize] == 0 {
-            fire(indexed.layered, rule, work, state);
+            fire_on(indexed, rule, work, state);
         }
         next += 1;
     }
     next
 }
 
-/// Sets the variable of the rule, which is on the layer, to its new value. If this changes the variable, pushes it on the stack.
+/// Fires the rule, which is on the layer and has no open conditions, unless its variable has its new value already. Then fires the rules of
+/// the layer that have no open conditions any more, until there is none.
+fn fire_on<T: Grounded>(
+    indexed: &IndexedRules<'_, '_, T>,
+    rule: u32,
+    work: &mut Work,
+    state: &mut State,
+)
+    requires rule { IsRuleOn indexed.now work.old.layer rule }
+    requires none_open { slice_index work.old.counters rule ≡ 0 }
+    requires at_rest { IsAtRest indexed.now state.old work.old }
+    ensures at_rest { IsAtRest indexed.now state.new work.new }
+    ensures goes_on { WorkGoesOn indexed.now state.old work.old state.new work.new }
+    ensures fired { slice_index state.new (rule_at indexed.now rule).var
+        ≡ (rule_at indexed.now rule).new }
+{
+    let change = indexed.layered.rule_change(rule);
+    if state.value(change.var) == change.new {
+        return;
+    }
+    let mut var = fire(indexed.layered, rule, work, state);
+    loop {
+        release(indexed, var, work, state);
+        let Some(top) = work.stack.pop() else {
+            return;
+        };
+        var = top;
+    }
+}
+
+/// Sets the variable of the rule to its new value, with the rule as its source. Returns the variable.
 #[tactic(auto, using(crate::proofs::RuleChanges::change_within))]
-fn fire<T: Grounded>(layered: &Layered<T>, rule: u32, work: &mut Work, state: &mut State)
-    requires rule { IsRuleOn layered.now work.old.layer rule }
-    requires room { WorkHasRoom layered.now work.old }
-    requires running { IsRunning layered.now work.old.layer state.old work.old.stack.items }
-    requires hold { AllHold (slice_index state.old) (rule_at layered.now rule).conditions }
-    ensures { FiresRule layered.now rule state.old work.old state.new work.new }
+fn fire<T: Grounded>(layered: &Layered<T>, rule: u32, work: &mut Work, state: &mut State) -> u32
+    requires rule { rule < length layered.now.rules }
+    requires state { length state.old ≡ length layered.now.variables }
+    requires sources { length work.old.sources ≡ length layered.now.variables }
+    ensures var { result ≡ (rule_at layered.now rule).var }
+    ensures state { state.new ≡ slice_set state.old result (rule_at layered.now rule).new }
+    ensures work { work.new ≡ with_source work.old result rule }
 {
     let change = layered.task().rule_change(rule);
-    if state.value(change.var) != change.new {
-        state.set(Fact {
-            var: change.var,
-            value: change.new,
-        });
-        work.sources.set(change.var as usize, rule);
-        work.stack.push(change.var).unwrap();
-    }
+    state.set(Fact {
+        var: change.var,
+        value: change.new,
+    });
+    work.sources.set(change.var as usize, rule);
+    change.var
 }
 
-/// Updates the counters of the rules with conditions on the variables on the stack, until the stack is empty.
-fn empty_stack<T: Grounded>(indexed: &IndexedRules<'_, '_, T>, work: &mut Work, state: &mut State)
-    requires { IsAtWork indexed.now state.old work.old.stack.items work.old }
-    ensures settles { SettlesLayer indexed.now work.old.layer state.old state.new }
-    ensures room { WorkHasRoom indexed.now work.new }
-    ensures empty { work.new.stack.items ≡ [] }
-    ensures counts { AreCounted indexed.now state.new work.new.counters }
-    ensures given { AreGiven indexed.now work.old.layer state.new work.new.sources }
-    ensures sources { SameSourcesOff indexed.now work.old.layer work.old.sources work.new.sources }
-{
-    while let Some(var) = work.stack.pop() {
-        release(indexed, var, work, state);
-    }
-}
-
-/// Updates the counters of the rules with conditions on the variable, which was the last on the stack. Fires the rules of the layer whose
-/// counter becomes 0.
+/// Updates the counters of the rules with conditions on the variable, which has been set. Fires the rules of the layer whose counter
+/// becomes 0, and pushes their variables on the stack.
 #[tactic(auto, using(crate::proofs::Counters::top_within))]
 fn release<T: Grounded>(
     indexed: &IndexedRules<'_, '_, T>,
@@ -307,16 +302,20 @@ fn release<T: Grounded>(
     requires { IsAtWork indexed.now state.old (work.old.stack.items ++ var ∷ []) work.old }
     ensures at_work { IsAtWork indexed.now state.new work.new.stack.items work.new }
     ensures goes_on { WorkGoesOn indexed.now state.old work.old state.new work.new }
+    ensures left { left_to_do indexed.now state.new work.new.stack.items
+        ≤ left_to_do indexed.now state.old work.old.stack.items }
 {
     let moved = ValueChange {
         former: indexed.layered.initial_value(var),
         value: state.value(var),
     };
-    for condition in indexed.waiting.get(var as usize) {
-        if let Some(count) = count_after(*condition, moved, &work.counters) {
+    for waiting in indexed.waiting.get(var as usize) {
+        let condition = *waiting;
+        if let Some(count) = count_after(condition, moved, &work.counters) {
             work.counters.set(condition.rule as usize, count);
             if has_to_fire(indexed.layered, work.layer, condition.rule, count, state) {
-                fire(indexed.layered, condition.rule, work, state);
+                let fired = fire(indexed.layered, condition.rule, work, state);
+                work.stack.push(fired).unwrap();
             }
         }
     }
@@ -324,6 +323,7 @@ fn release<T: Grounded>(
 
 /// Returns whether a rule that can fire has to set its variable: it is on the layer and has no open conditions, and the variable doesn't
 /// have its new value yet. `count` is the number of its open conditions.
+#[tactic(auto, using(crate::proofs::RuleChanges::change_within))]
 fn has_to_fire<T: Grounded>(
     layered: &Layered<T>,
     layer: u32,
@@ -335,10 +335,15 @@ fn has_to_fire<T: Grounded>(
     requires state { IsState layered.now.variables state.now }
     ensures none { IsTrue result → count ≡ 0 }
     ensures on { IsTrue result → IsRuleOn layered.now layer rule }
+    ensures other { IsTrue result
+        → slice_index state.now (rule_at layered.now rule).var ≢ (rule_at layered.now rule).new }
     ensures no { IsFalse result → count ≡ 0 → IsRuleOn layered.now layer rule
         → slice_index state.now (rule_at layered.now rule).var ≡ (rule_at layered.now rule).new }
 {
+    if count != 0 {
+        return false;
+    }
     let task = layered.task();
     let change = task.rule_change(rule);
-    count == 0 && state.value(change.var) != change.new && task.layer(change.var) == Some(layer)
+    state.value(change.var) != change.new && task.layer(change.var) == Some(layer)
 }

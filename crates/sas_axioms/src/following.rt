@@ -27,7 +27,7 @@ use sas_core::{Fact, Grounded};
 use sas_meaning::{ChangedVariables, Layered, State};
 
 /// Updates the counters of the rules with conditions on the variables of `gone`, which are facts that may have become false.
-pub fn count_gone<T: Grounded>(
+fn count_gone<T: Grounded>(
     indexed: &IndexedRules<'_, '_, T>,
     gone: &[Fact],
     work: &mut Work,
@@ -38,9 +38,7 @@ pub fn count_gone<T: Grounded>(
         × IsFollowed indexed.now s work.old × HaveGone indexed.now gone.now s state.now }
     requires empty { IsEmpty work.old.agenda }
     ensures same { SameWork work.old work.new }
-    ensures between { OnOk result ((s : List ℕ) → IsFollowed indexed.now s work.old
-        → HaveGone indexed.now gone.now s state.now
-        → IsBetween indexed.now s 0 state.now work.new) }
+    ensures between { OnOk result ((s : List ℕ) × IsBetween indexed.now s 0 state.now work.new) }
 {
     for fact in gone {
         let moved = ValueChange {
@@ -54,14 +52,18 @@ pub fn count_gone<T: Grounded>(
     Ok(())
 }
 
-/// Settles the layers with noted rules, one by one.
-pub fn settle_noted<T: Grounded>(
+/// Updates the state, which must be settled except that the facts `gone` may have become false. Settles the layers with noted rules, one by
+/// one. The derived variables that it sets are added to `touched`.
+pub fn settle_gone<T: Grounded>(
     indexed: &IndexedRules<'_, '_, T>,
+    gone: &[Fact],
     work: &mut Work,
     state: &mut State,
     touched: &mut ChangedVariables,
 ) -> Result<(), OverBudget>
-    requires { (s : List ℕ) × IsBetween indexed.now s 0 state.old work.old }
+    requires state { IsState indexed.now.variables state.old }
+    requires follows { (s : List ℕ)
+        × IsFollowed indexed.now s work.old × HaveGone indexed.now gone.now s state.old }
     ensures state { IsState indexed.now.variables state.new }
     ensures basic { SameBasic indexed.now state.old state.new }
     ensures covered { StillCovers indexed.now state.old touched.old state.new touched.new }
@@ -70,6 +72,8 @@ pub fn settle_noted<T: Grounded>(
     ensures sources { length work.new.sources ≡ length work.old.sources }
     ensures followed { OnOk result (IsFollowed indexed.now state.new work.new) }
 {
+    work.agenda.begin();
+    count_gone(indexed, gone, work, state)?;
     while let Some(layer) = work.agenda.lowest() {
         work.layer = layer;
         fall(indexed, work, state, touched)?;
@@ -125,12 +129,9 @@ fn has_lost<T: Grounded>(layered: &Layered<T>, rule: u32, work: &Work, state: &S
 {
     let task = layered.task();
     let var = task.rule_change(rule).var;
-    if work.counters.as_slice()[rule as usize] == 0
-        || work.sources.as_slice()[var as usize] != rule
-    {
-        return false;
-    }
-    state.value(var) != task.initial_value(var)
+    work.counters.as_slice()[rule as usize] != 0
+        && work.sources.as_slice()[var as usize] == rule
+        && state.value(var) != task.initial_value(var)
 }
 
 /// Makes all these rules ready.

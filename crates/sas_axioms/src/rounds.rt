@@ -4,7 +4,6 @@ ghost use Rattle.sas_core.specs.Grounded.{rule_at};
 ghost use Rattle.sas_core.specs.Variables.{IsState};
 ghost use Rattle.sas_meaning.specs.Settled.{SameBasic};
 ghost use Rattle.sas_meaning.specs.Forced.{OnlyForced, equal_places, HasFired, Changes, SameOff, AtDefault, Occurs};
-ghost use Rattle.sas_axioms.specs.ByLayers.{SettlesLayer};
 
 use crate::by_layers::{ByLayers, settle_by_layers};
 use sas_core::{Fact, Grounded};
@@ -33,7 +32,7 @@ impl<T: Grounded> ByLayers<T> for Rounds {
 
     fn settle_next(&mut self, layered: &Layered<T>, from: u64, state: &mut State) -> Option<u32> {
         let layer = next_layer(layered, from)?;
-        settle_layer(layered, layer, state);
+        while go_round(layered, layer, state) {}
         Some(layer)
     }
 }
@@ -68,15 +67,6 @@ fn next_layer<T: Grounded>(layered: &Layered<T>, from: u64) -> Option<u32>
         }
     }
     lowest
-}
-
-/// Settles a layer. All its variables must have their defaults.
-fn settle_layer<T: Grounded>(layered: &Layered<T>, layer: u32, state: &mut State)
-    requires state { IsState layered.now.variables state.old }
-    requires default { AtDefault layered.now layer state.old }
-    ensures { SettlesLayer layered.now layer state.old state.new }
-{
-    while go_round(layered, layer, state) {}
 }
 
 /// Evaluates each rule of the layer once. Returns whether a value changed.

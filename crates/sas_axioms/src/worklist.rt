@@ -1,16 +1,12 @@
 // Settles states by counters: a rule is evaluated only when the number of its open conditions changes.
-ghost use Rattle.std.specs.Prelude.{ℕ, IfOk};
-ghost use Rattle.sas_core.specs.Variables.{IsState};
-ghost use Rattle.sas_meaning.specs.Settled.{SameBasic};
-ghost use Rattle.sas_meaning.specs.DerivedVariables.{AreDerived};
-ghost use Rattle.sas_meaning.specs.Forced.{AtDefault};
+ghost use Rattle.std.specs.Prelude.{IfOk};
 ghost use Rattle.sas_axioms.specs.Worklist.{IsReadyFor};
 
 use crate::by_layers::{ByLayers, settle_by_layers};
 use crate::firing::LayerSettler;
 use crate::layer_rules::{LayerRule, first_rules};
 use sas_core::{Fact, Grounded};
-use sas_meaning::{ChangedVariables, Layered, Settle, State, derived_variables};
+use sas_meaning::{ChangedVariables, Layered, Settle, State, VariableSpan, derived_spans};
 use std::alloc::{AllocError, Global};
 
 /// An evaluator for the states of one layered task. It keeps counts of the previous state to settle the next one faster, but it can settle
@@ -18,7 +14,7 @@ use std::alloc::{AllocError, Global};
 /// conditions, but not on the numbers of the layers.
 pub struct Worklist {
     /// The derived variables.
-    derived: Vec<u32>,
+    derived: Vec<VariableSpan>,
     /// The rules that can fire, without those that never fire first on their layer, in ascending order of their layers.
     rules: Vec<LayerRule>,
     /// The index of the first rule in `rules` whose layer isn't settled yet.
@@ -47,10 +43,13 @@ impl Worklist {
         ensures { IfOk result (λ w. IsReadyFor layered.now w) }
     {
         let rules = first_rules(alloc, layered)?;
-        let derived = derived_variables(alloc, layered)?;
+        let derived = derived_spans(alloc, layered)?;
+        let variables = derived
+            .iter()
+            .fold(0usize, |sum, span| sum.saturating_add(span.size()));
         // Settling a state from scratch goes through the derived variables and the rules, mostly in order. An update jumps between them, so
         // it may process half as many.
-        let share = derived.len().saturating_add(layered.rules() as usize) / 2;
+        let share = variables.saturating_add(layered.rules() as usize) / 2;
         Ok(Worklist {
             derived,
             rules,
@@ -102,8 +101,7 @@ impl<T: Grounded> ByLayers<T> for Worklist {
     ghost follows = { λ w p s. IsFollowed p s w.firing.work };
 
     fn begin(&mut self, layered: &Layered<T>, state: &mut State) {
-        reset_derived(layered, self.derived.as_slice(), state);
-        self.firing.begin(layered, state);
+        self.firing.begin(layered, self.derived.as_slice(), state);
         self.next = 0;
     }
 
@@ -113,22 +111,5 @@ impl<T: Grounded> ByLayers<T> for Worklist {
         let layer = rules[ready].layer;
         self.next = self.firing.settle_layer(layered, rules, ready, state);
         Some(layer)
-    }
-}
-
-/// Sets the derived variables, which are `derived`, to their default.
-fn reset_derived<T: Grounded>(layered: &Layered<T>, derived: &[u32], state: &mut State)
-    requires derived { AreDerived layered.now derived.now }
-    requires state { IsState layered.now.variables state.old }
-    ensures state { IsState layered.now.variables state.new }
-    ensures basic { SameBasic layered.now state.old state.new }
-    ensures default { (layer : ℕ) → AtDefault layered.now layer state.new }
-{
-    let task = layered.task();
-    for var in derived {
-        state.set(Fact {
-            var: *var,
-            value: task.initial_value(*var),
-        });
     }
 }

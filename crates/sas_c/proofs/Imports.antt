@@ -37,9 +37,9 @@ pub use Rattle.sas_requests.proofs.Outputs.{same_output}
 pub use Rattle.sas_requests.proofs.PlanOutputs.{Refuses, plain_refuses}
 pub use Rattle.sas_requests.specs.Headline.{Headline}
 pub use Rattle.sas_requests.specs.Invariants.{Invariants}
-pub use Rattle.sas_requests.specs.Output.{CheckOut, FileOut, TaskOut, UnlayeredAnswer, PlanOut, PlanOutBy, VerdictOut, plain_refusal}
+pub use Rattle.sas_requests.specs.Output.{Out, FileOut, TaskOut, UnlayeredAnswer, PlanOutBy, VerdictOut, plain_refusal}
 pub use Rattle.sas_requests.specs.declared.Request.{Request}
-pub use Rattle.sas_requests.specs.declared.Request.TheVariants.{Plan, Mutex}
+pub use Rattle.sas_requests.specs.declared.Request.TheVariants.{Check, Plan, Mutex}
 pub use Rattle.sas_requests.proofs.PlanLines.{IsLine, valid_plain, verdict_line, task_refused}
 pub use Rattle.sas_reader.proofs.Known.{known_answer}
 pub use Rattle.sas_reader.proofs.Plain.{plain}
@@ -54,15 +54,13 @@ pub use Rattle.sas_requests.specs.FileReasons.{PlanFileReasons}
 pub use Rattle.sas_requests.specs.TraceOut.{TraceOut}
 pub use Rattle.sas_requests.specs.Why.{OutWhy, WithReasons}
 pub use Rattle.sas_requests.specs.declared.question.PlanDetail.TheVariants.{Reasons}
-pub use Rattle.sas_requests.specs.declared.question.PlanDetail.{PlanDetail}
+pub use Rattle.sas_requests.specs.declared.question.Detail.TheVariants.{Plain}
 pub use Rattle.sas_task_file.specs.TaskFormat.{task_format}
 pub use Rattle.sas_plan_reasons.specs.Traced.{TraceVerdict}
 pub use Rattle.sas_plan_reasons.specs.Verdict.{WhyVerdict}
 pub use Rattle.sas_run.proofs.NumberVerdicts.{numbers_have_no_fault}
-pub use Rattle.sas_c.specs.Holding.{HoldsTask, HeldOut, NumbersOut}
+pub use Rattle.sas_c.specs.Holding.{HoldsTask, HeldOut, NumbersOut, owns_task}
 pub use Rattle.sas_c.specs.Reporting.{Returns, HeadlineByNumbers, SolvesByNumbers, ReturnsByNumbers, ReturnsHeadline, EndsInLine, ReturnsLastLine, ReturnsInvariants, number_of_fault, number_of_status}
-pub use Rattle.sas_c.specs.TaskPointers.{owns_task}
 pub use Rattle.sas_c.specs.Written.{IsWritten}
 pub use Rattle.sas_c.specs.contracts.box_pointer.BoxPointer.into_box.{ended, clauses}
-pub use Rattle.sas_c.specs.declared.answering.Call.{Call}
 pub use Rattle.sas_c.specs.declared.plans.PlanCall.{PlanCall}

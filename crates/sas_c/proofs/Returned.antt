@@ -1,8 +1,5 @@
 -- What is returned follows from how a run ended.
-use Rattle.sas_c.proofs.Imports.{◌≡◌, ℕ, ◌<◌, List, [], ◌++◌, length, take, drop, codes, arith, refl, sym, ap, subst, ◌∙◌, inr, Option, Some, None, Result, Ok, Err, IfSome, Appends, Parts, LayerFault, IsLayered, ReadsAs, most_bytes, task_format, Status, Yes, No, ToolFault, Memory, Read, TooLong, Write, Output, EndsCounting, layers_verdict, VerdictAnswer, Call, HoldsTask, IsWritten, Returns, ReturnsHeadline, EndsInLine, ReturnsLastLine, ReturnsInvariants, number_of_fault, number_of_status, PlanParts, WhyVerdict, TraceVerdict, Plan, Mutex, Headline, Invariants, CheckOut, FileOut, TaskOut, UnlayeredAnswer, plain_refusal, PlanOut, PlanOutBy, VerdictOut, same_output, ReportsValid, headline_of, Refuses, ReportsGroups, invariants_of, headline_why, invariants_why, judged_by, check_yes, check_no, task_refused, Reasons, PlanFileReasons, OutWhy, WithReasons, TraceOut}
-use Rattle.sas_requests.specs.Answering.{QuestionOut}
-use Rattle.sas_requests.specs.declared.question.Detail.TheVariants.{Plain}
-use Rattle.sas_requests.specs.declared.question.Question.{Question}
+use Rattle.sas_c.proofs.Imports.{◌≡◌, ℕ, ◌<◌, List, [], ◌++◌, length, take, drop, codes, arith, refl, sym, ap, subst, ◌∙◌, inr, Option, Some, None, Result, Ok, Err, IfSome, Appends, Parts, LayerFault, IsLayered, ReadsAs, most_bytes, task_format, Status, Yes, No, ToolFault, Memory, Read, TooLong, Write, Output, EndsCounting, layers_verdict, VerdictAnswer, HoldsTask, IsWritten, Returns, ReturnsHeadline, EndsInLine, ReturnsLastLine, ReturnsInvariants, number_of_fault, number_of_status, PlanParts, WhyVerdict, TraceVerdict, Plan, Mutex, Check, Headline, Invariants, Out, FileOut, TaskOut, UnlayeredAnswer, plain_refusal, PlanOutBy, VerdictOut, same_output, ReportsValid, headline_of, Refuses, ReportsGroups, invariants_of, headline_why, invariants_why, judged_by, check_yes, check_no, task_refused, Plain, Reasons, PlanFileReasons, OutWhy, WithReasons, TraceOut}
 use Rattle.sas_c.proofs.TracedPlans.{traced_headline}
 
 same_number : (s t : Status) → number_of_status s ≡ number_of_status t → s ≡ t
@@ -103,14 +100,6 @@ module _ (Out : Option Output → Type 0) (was items : List ℕ) (empty : was �
   pub reports_ended : (r : Result Status ToolFault) (before room : List ℕ) (size number : ℕ) → EndsCounting Out (Appends (Some was) (Some items)) r → Returns (IsWritten items r) before room size number → Returns Out before room size number
   reports_ended r before room size number ends = reports_by (IsWritten items r) Out (written r ends) before room size number
 
--- what is returned for a call is returned for its question and its bytes
-pub asked_reported : (call : Call) (question : Question) (b c before room : List ℕ) (size number : ℕ) → call.question ≡ question → call.task.now ≡ b → call.plan.now ≡ c
-    → Returns (QuestionOut call.question call.task.now call.plan.now) before room size number → Returns (QuestionOut question b c) before room size number
-asked_reported call question b c before room size number is same_task same_plan t =
-    subst (λ (q : Question). Returns (QuestionOut q b c) before room size number) is
-    (subst (λ (xs : List ℕ). Returns (QuestionOut call.question xs c) before room size number) same_task
-    (subst (λ (xs : List ℕ). Returns (QuestionOut call.question call.task.now xs) before room size number) same_plan t))
-
 -- ---- whether a plan solves a task
 
 pub headline_reported : (Verdict : Parts → PlanParts → Output → Type 0) (refused : Parts → LayerFault → Option Output) → ReportsValid Verdict → Refuses refused → (b c before room : List ℕ) (size number : ℕ) → Returns (PlanOutBy Verdict refused b c) before room size number → ReturnsHeadline b c room size number
@@ -139,8 +128,8 @@ module _ (For : Parts → Option Output → Type 0) (Out : Option Output → Typ
   held_reported (Some loaded) (reads, layered) t = reports_by (For loaded) Out (to loaded layered reads) before room size number t
 
 module _ (b c before room : List ℕ) (size number : ℕ) (held : Option Parts) (holds : HoldsTask b held) where
-  pub plan_reported : IfSome held (λ loaded. Returns (VerdictOut VerdictAnswer loaded c) before room size number) → Returns (PlanOut b c) before room size number
-  plan_reported t = held_reported (λ p. VerdictOut VerdictAnswer p c) (PlanOut b c) b before room size number (λ p layered reads o out. inr (p, reads, layered, out)) held holds t
+  pub plan_reported : IfSome held (λ loaded. Returns (VerdictOut VerdictAnswer loaded c) before room size number) → Returns (Out Plan b c) before room size number
+  plan_reported t = held_reported (λ p. VerdictOut VerdictAnswer p c) (Out Plan b c) b before room size number (λ p layered reads o out. inr (p, reads, layered, out)) held holds t
 
   abbrev PlanWhy : Parts → Option Output → Type 0
   PlanWhy p = WithReasons (VerdictOut WhyVerdict p c) (PlanFileReasons c)
@@ -167,11 +156,11 @@ invariants_why_reported b c before room size number t = λ status is.
 -- ---- a task that was read
 
 -- a layered task is reported as one
-pub layered_out : (p : Parts) (b : List ℕ) → ReadsAs task_format most_bytes b (Ok p) → IsLayered p → (o : Option Output) → o ≡ layers_verdict None → CheckOut b o
+pub layered_out : (p : Parts) (b : List ℕ) → ReadsAs task_format most_bytes b (Ok p) → IsLayered p → (o : Option Output) → o ≡ layers_verdict None → Out Check b [] o
 layered_out p b reads layered o is = (Ok p, reads, (_, check_yes Plain p layered, is))
 
 -- one that is refused is reported as by `check`, and never as layered
-refused_out : (b : List ℕ) (o : Option Output) → TaskOut (UnlayeredAnswer plain_refusal) b o → CheckOut b o
+refused_out : (b : List ℕ) (o : Option Output) → TaskOut (UnlayeredAnswer plain_refusal) b o → Out Check b [] o
 refused_out b o (Err fault, reads, is) = (Err fault, reads, is)
 refused_out b o (Ok p, reads, (answer, refused, is)) = (Ok p, reads, (answer, check_no Plain p answer refused, is))
 
@@ -179,8 +168,8 @@ module _ (b was items : List ℕ) (empty : was ≡ []) (r : Result Status ToolFa
   refused : Returns (TaskOut (UnlayeredAnswer plain_refusal) b) before room size number
   refused = reports_ended (TaskOut (UnlayeredAnswer plain_refusal) b) was items empty r before room size number ends written
 
-  pub refused_reported : Returns (CheckOut b) before room size number
-  refused_reported = reports_by (TaskOut (UnlayeredAnswer plain_refusal) b) (CheckOut b) (refused_out b) before room size number refused
+  pub refused_reported : Returns (Out Check b []) before room size number
+  refused_reported = reports_by (TaskOut (UnlayeredAnswer plain_refusal) b) (Out Check b []) (refused_out b) before room size number refused
 
   pub never_yes : number ≡ 0 → ⊥
   never_yes zero =

@@ -1,5 +1,5 @@
 -- Behind a trace stands, as its last line, whether the plan solves the task.
-use Rattle.sas_c.proofs.Imports.{◌≡◌, ℕ, List, [], ◌∷◌, ◌++◌, codes, decimal, refl, sym, ap, ◌∙◌, inl, inr, Some, same_from_push, lines, text, lines-append, lines-one, unfinished-text, plain, Output, VerdictAnswer, valid_line, Headline, PlanOut, plain_refusal, reports_valid, headline_of, plain_refuses, TraceOut, trace_ends, IsLine, valid_plain, verdict_line, task_refused, EndsInLine}
+use Rattle.sas_c.proofs.Imports.{◌≡◌, ℕ, List, [], ◌∷◌, ◌++◌, codes, decimal, refl, sym, ap, ◌∙◌, inl, inr, Some, same_from_push, lines, text, lines-append, lines-one, unfinished-text, plain, Output, VerdictAnswer, valid_line, Headline, Out, Plan, plain_refusal, reports_valid, headline_of, plain_refuses, TraceOut, trace_ends, IsLine, valid_plain, verdict_line, task_refused, EndsInLine}
 
 -- ---- the last line of a text
 
@@ -24,7 +24,7 @@ same_last front other a b is_a is_b e =
 valid_is_line : (steps cost : ℕ) → IsLine (valid_line steps cost)
 valid_is_line steps cost = record { line = codes "plan valid: " ++ decimal steps ++ codes " steps, cost " ++ decimal cost; plain = valid_plain steps cost; is = refl }
 
-plan_line : (b c : List ℕ) (o : Output) → PlanOut b c (Some o) → IsLine o.text
+plan_line : (b c : List ℕ) (o : Output) → Out Plan b c (Some o) → IsLine o.text
 plan_line b c o (inl refused) = let r = task_refused b o refused in record { line = r.line; plain = r.plain; is = r.is }
 plan_line b c o (inr (p, reads, layered, out)) = verdict_line p c o out
 

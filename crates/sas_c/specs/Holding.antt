@@ -1,5 +1,5 @@
 -- What is held of a task that was read, and what is answered about a plan of it.
-use Rattle.std.specs.Prelude.{◌≡◌, List, ℕ, Option, Some, None, Ok}
+use Rattle.std.specs.Prelude.{◌≡◌, List, ℕ, Option, Some, None, IfSome, IsNone, Ok, []}
 use Rattle.sas_core.specs.declared.parts.Parts.{Parts}
 use Rattle.sas_meaning.specs.Layers.{IsLayered}
 use Rattle.sas_reader.specs.Format.{ReadsAs}
@@ -7,10 +7,22 @@ use Rattle.sas_reader.specs.Limit.{most_bytes}
 use Rattle.sas_task_file.specs.TaskFormat.{task_format}
 use Rattle.sas_answers.specs.Ending.{Output}
 use Rattle.sas_answers.specs.NumberedPlans.{NumbersAnswer}
-use Rattle.sas_requests.specs.Answering.{PlanBy, VerdictBy}
-use Rattle.sas_requests.specs.Questions.{detail_of}
+use Rattle.sas_requests.specs.Answering.{PlanBy, VerdictBy, detail_of}
+use Rattle.sas_c.specs.Reporting.{Returns}
 use Rattle.sas_c.specs.declared.plans.PlanCall.{PlanCall}
 use Rattle.sas_c.specs.declared.plans.PlanCall.TheVariants.{Bytes, Numbers}
+use mir.Syntax.{impl, tnil, dnil}
+use base.Fml.{Fml, ftrue, fex}
+use denote.RattleType.{RattleType}
+use denote.RawPtr.{Ptr}
+use Rattle.std.specs.declared.alloc.Global.{Global}
+use Rattle.std.specs.contracts.impls.GlobalAllocator.TheImpl.{ghosts}
+use Rattle.std.specs.Box.Ownership.{box_owns}
+use Rattle.sas_flat.specs.contracts.task.FlatTask as flat
+use Rattle.sas_flat.specs.contracts.task.FlatTaskGrounded.TheImpl as grounded
+use Rattle.sas_axioms.specs.contracts.worklist.Worklist as worklist
+use Rattle.sas_axioms.specs.contracts.worklist.WorklistSettle.TheImpl as settle
+use Rattle.sas_run.specs.contracts.loaded_task.LoadedTask as loaded
 
 -- a task is held, the one that the bytes are a text of, and it is layered
 abbrev pub HoldsTask : List ℕ → Option Parts → Type 0
@@ -27,3 +39,23 @@ NumbersOut p operators cost output =
 abbrev pub HeldOut : PlanCall → Parts → Option Output → Type 0
 HeldOut (Bytes detail plan) p = PlanBy (detail_of detail) (VerdictBy detail p) plan.now
 HeldOut (Numbers plan) p = NumbersOut p plan.operators.now plan.cost
+
+-- What a call about the task that is held returns. `Out` holds of the right output for this task.
+pub record ReturnsHeld (Out : Parts → Option Output → Type 0) (held after : Option Parts)
+    (before room : List ℕ) (size number : ℕ) : Type 0 where
+  pub of_task : IfSome held (λ task. Returns (Out task) before room size number)
+  -- it stays held
+  pub same : after ≡ held
+  -- 5: none is held
+  pub none : IsNone held → (number ≡ 5) × (room ≡ before)
+
+-- the type of a task that is held, as the logic names it; `impl` stands for the code of the task's
+-- methods, which no ghost member reads
+abbrev pub the_row : RattleType
+the_row = loaded.the_row worklist.the_row flat.the_row
+    (settle.ghosts flat.the_row grounded.ghosts (impl [] tnil dnil)) grounded.ghosts
+
+-- the box of the task that it points to, or nothing
+abbrev pub owns_task : Ptr → Option Parts → Fml
+owns_task p None = ftrue
+owns_task p (Some task) = fex Global (λ a. box_owns (ghosts.dealloc_token a) the_row p task)

@@ -1,4 +1,3 @@
-pub mod TaskPointers
 pub mod Reporting
 pub mod Holding
 pub mod Written

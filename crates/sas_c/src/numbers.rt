@@ -34,8 +34,6 @@ pub fn fault_number(fault: ToolFault) -> u32
 {
     match fault {
         ToolFault::TooLong => INPUT_TOO_LONG,
-        ToolFault::Memory => OUT_OF_MEMORY,
-        ToolFault::Read => OUT_OF_MEMORY,
-        ToolFault::Write { .. } => OUT_OF_MEMORY,
+        ToolFault::Memory | ToolFault::Read | ToolFault::Write { .. } => OUT_OF_MEMORY,
     }
 }

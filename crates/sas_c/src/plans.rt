@@ -1,15 +1,15 @@
 // Plans of a task that is held. It stays held.
-ghost use Rattle.std.specs.Prelude.{◌≡◌, List, ℕ, IfSome, IsNone};
+ghost use Rattle.std.specs.Prelude.{◌≡◌, List, ℕ, IfSome};
 ghost use Rattle.sas_answers.specs.Answers.{VerdictAnswer};
 ghost use Rattle.sas_meaning.specs.Layers.{IsLayered};
 ghost use Rattle.sas_plan_reasons.specs.Verdict.{WhyVerdict};
-ghost use Rattle.sas_requests.specs.Output.{PlanOut, VerdictOut};
+ghost use Rattle.sas_requests.specs.Output.{Out, VerdictOut};
 ghost use Rattle.sas_plan_reasons.specs.Traced.{TraceVerdict};
 ghost use Rattle.sas_requests.specs.FileReasons.{PlanFileReasons};
 ghost use Rattle.sas_requests.specs.Why.{OutWhy, WithReasons};
 ghost use Rattle.sas_requests.specs.TraceOut.{TraceOut};
 ghost use Rattle.sas_c.specs.Reporting.{Returns, ReturnsByNumbers, ReturnsHeadline, ReturnsLastLine};
-ghost use Rattle.sas_c.specs.Holding.{HeldOut, HoldsTask, NumbersOut};
+ghost use Rattle.sas_c.specs.Holding.{HeldOut, HoldsTask, NumbersOut, ReturnsHeld};
 
 use crate::numbers::{NO_TASK, OUT_OF_MEMORY, fault_number};
 use crate::reporting::{report_ended, return_answer};
@@ -29,18 +29,14 @@ pub extern "C" fn sas_task_plan(
     room: &mut [u8],
     size: &mut usize,
 ) -> u32
-    ensures answers { IfSome task.old.pointer.task (λ loaded.
-        Returns (VerdictOut VerdictAnswer loaded plan.now)
-        room.old room.new size.new result) }
+    ensures answers { ReturnsHeld (λ loaded. VerdictOut VerdictAnswer loaded plan.now)
+        task.old.pointer.task task.new.pointer.task room.old room.new size.new result }
     ensures bytes { (b : List ℕ) → HoldsTask b task.old.pointer.task
-        → Returns (PlanOut b plan.now) room.old room.new size.new result }
+        → Returns (Out Request.Plan b plan.now) room.old room.new size.new result }
     ensures headline { (b : List ℕ) → HoldsTask b task.old.pointer.task
         → ReturnsHeadline b plan.now room.new size.new result }
-    ensures same { task.new.pointer.task ≡ task.old.pointer.task }
-    ensures none { IsNone task.old.pointer.task → (result ≡ 5) × (room.new ≡ room.old) }
 {
-    let detail = PlanDetail::Plain;
-    let call = PlanCall::Bytes { detail, plan };
+    let call = PlanCall::Bytes(PlanDetail::Plain, plan);
     answer_held(alloc, task, call, room, size)
 }
 
@@ -53,18 +49,15 @@ pub extern "C" fn sas_task_plan_why(
     room: &mut [u8],
     size: &mut usize,
 ) -> u32
-    ensures answers { IfSome task.old.pointer.task (λ loaded. Returns
-        (WithReasons (VerdictOut WhyVerdict loaded plan.now) (PlanFileReasons plan.now))
-        room.old room.new size.new result) }
+    ensures answers { ReturnsHeld (λ loaded.
+        WithReasons (VerdictOut WhyVerdict loaded plan.now) (PlanFileReasons plan.now))
+        task.old.pointer.task task.new.pointer.task room.old room.new size.new result }
     ensures bytes { (b : List ℕ) → HoldsTask b task.old.pointer.task
         → Returns (OutWhy Request.Plan b plan.now) room.old room.new size.new result }
     ensures headline { (b : List ℕ) → HoldsTask b task.old.pointer.task
         → ReturnsHeadline b plan.now room.new size.new result }
-    ensures same { task.new.pointer.task ≡ task.old.pointer.task }
-    ensures none { IsNone task.old.pointer.task → (result ≡ 5) × (room.new ≡ room.old) }
 {
-    let detail = PlanDetail::Reasons;
-    let call = PlanCall::Bytes { detail, plan };
+    let call = PlanCall::Bytes(PlanDetail::Reasons, plan);
     answer_held(alloc, task, call, room, size)
 }
 
@@ -77,18 +70,14 @@ pub extern "C" fn sas_task_trace(
     room: &mut [u8],
     size: &mut usize,
 ) -> u32
-    ensures answers { IfSome task.old.pointer.task (λ loaded.
-        Returns (VerdictOut TraceVerdict loaded plan.now)
-        room.old room.new size.new result) }
+    ensures answers { ReturnsHeld (λ loaded. VerdictOut TraceVerdict loaded plan.now)
+        task.old.pointer.task task.new.pointer.task room.old room.new size.new result }
     ensures bytes { (b : List ℕ) → HoldsTask b task.old.pointer.task
         → Returns (TraceOut b plan.now) room.old room.new size.new result }
     ensures headline { (b : List ℕ) → HoldsTask b task.old.pointer.task
         → ReturnsLastLine b plan.now room.new size.new result }
-    ensures same { task.new.pointer.task ≡ task.old.pointer.task }
-    ensures none { IsNone task.old.pointer.task → (result ≡ 5) × (room.new ≡ room.old) }
 {
-    let detail = PlanDetail::Trace;
-    let call = PlanCall::Bytes { detail, plan };
+    let call = PlanCall::Bytes(PlanDetail::Trace, plan);
     answer_held(alloc, task, call, room, size)
 }
 
@@ -102,12 +91,10 @@ pub extern "C" fn sas_task_plan_operators(
     room: &mut [u8],
     size: &mut usize,
 ) -> u32
-    ensures answers { IfSome task.old.pointer.task (λ loaded.
-        Returns (NumbersOut loaded operators.now cost) room.old room.new size.new result) }
+    ensures answers { ReturnsHeld (λ loaded. NumbersOut loaded operators.now cost)
+        task.old.pointer.task task.new.pointer.task room.old room.new size.new result }
     ensures headline { IfSome task.old.pointer.task (λ loaded.
         ReturnsByNumbers loaded operators.now cost room.new size.new result) }
-    ensures same { task.new.pointer.task ≡ task.old.pointer.task }
-    ensures none { IsNone task.old.pointer.task → (result ≡ 5) × (room.new ≡ room.old) }
 {
     let call = PlanCall::Numbers(NumberedPlan { operators, cost });
     answer_held(alloc, task, call, room, size)
@@ -116,8 +103,8 @@ pub extern "C" fn sas_task_plan_operators(
 /// What a call about a plan gives.
 #[derive(Clone, Copy)]
 pub enum PlanCall<'b> {
-    /// The bytes of the plan, and how much is reported.
-    Bytes { detail: PlanDetail, plan: &'b [u8] },
+    /// How much is reported, and the bytes of the plan.
+    Bytes(PlanDetail, &'b [u8]),
     /// The numbers of its operators, and its cost.
     Numbers(NumberedPlan<'b>),
 }
@@ -130,11 +117,9 @@ fn answer_held(
     room: &mut [u8],
     size: &mut usize,
 ) -> u32
-    ensures answers { IfSome task.old.pointer.task (λ loaded.
-        Returns (HeldOut call.entry loaded) room.old room.new size.new result) }
+    ensures answers { ReturnsHeld (HeldOut call.entry)
+        task.old.pointer.task task.new.pointer.task room.old room.new size.new result }
     ensures layered { IfSome task.old.pointer.task IsLayered }
-    ensures same { task.new.pointer.task ≡ task.old.pointer.task }
-    ensures none { IsNone task.old.pointer.task → (result ≡ 5) × (room.new ≡ room.old) }
 {
     match task.take(alloc) {
         Some(mut loaded) => {
@@ -163,14 +148,11 @@ fn answer_loaded(
     let _ = loaded.layered().task();
     match call {
         // The names and the evaluator of the loaded task serve all its plans.
-        PlanCall::Bytes {
-            detail: PlanDetail::Plain,
-            plan,
-        } => match judge_bytes(alloc, loaded, plan) {
+        PlanCall::Bytes(PlanDetail::Plain, plan) => match judge_bytes(alloc, loaded, plan) {
             Ok(answer) => return_answer(answer, room, size),
             Err(fault) => fault_number(fault),
         },
-        PlanCall::Bytes { detail, plan } => {
+        PlanCall::Bytes(detail, plan) => {
             let mut text = Watched::new(Vec::new(alloc));
             let layered = loaded.layered();
             let ended = answer_bytes(alloc, detail, layered, plan, &mut text);

@@ -1,12 +1,12 @@
 // The calls of the library about a task, a plan, or both. Each takes an input as a pointer that isn't null and a length, and writes the
 // answer to the front of `room`, and its length in bytes to `size`. Behind the answer the room stays as it was.
 ghost use Rattle.std.specs.Prelude.{[]};
-ghost use Rattle.sas_requests.specs.Output.{ShowOut, PrintOut, StepsOut, CheckOut, MutexOut, PlanOut};
+ghost use Rattle.sas_requests.specs.Output.{Out};
 ghost use Rattle.sas_requests.specs.Why.{OutWhy};
 ghost use Rattle.sas_requests.specs.TraceOut.{TraceOut};
 ghost use Rattle.sas_c.specs.Reporting.{Returns, ReturnsHeadline, ReturnsInvariants, ReturnsLastLine};
 
-use crate::answering::{Call, answer_call};
+use crate::answering::{Inputs, answer_call};
 use sas_requests::{Question, Request};
 use std::alloc::Global;
 
@@ -19,57 +19,57 @@ pub extern "C" fn sas_plan(
     room: &mut [u8],
     size: &mut usize,
 ) -> u32
-    ensures answers { Returns (PlanOut task.now plan.now) room.old room.new size.new result }
+    ensures answers { Returns (Out Request.Plan task.now plan.now) room.old room.new size.new result }
     ensures headline { ReturnsHeadline task.now plan.now room.new size.new result }
 {
-    let call = Call::new(Question::Answer(Request::Plan), task, plan);
-    answer_call(alloc, call, room, size)
+    let question = Question::Answer(Request::Plan);
+    answer_call(alloc, question, Inputs { task, plan }, room, size)
 }
 
 /// Answers whether the task is layered.
 #[unsafe(no_mangle)]
 pub extern "C" fn sas_check(alloc: Global, task: &[u8], room: &mut [u8], size: &mut usize) -> u32
-    ensures answers { Returns (CheckOut task.now) room.old room.new size.new result }
+    ensures answers { Returns (Out Request.Check task.now []) room.old room.new size.new result }
 {
-    let call = Call::new(Question::Answer(Request::Check), task, b"");
-    answer_call(alloc, call, room, size)
+    let question = Question::Answer(Request::Check);
+    answer_call(alloc, question, Inputs { task, plan: b"" }, room, size)
 }
 
 /// Answers which mutex groups of the task are exclusive.
 #[unsafe(no_mangle)]
 pub extern "C" fn sas_mutex(alloc: Global, task: &[u8], room: &mut [u8], size: &mut usize) -> u32
-    ensures answers { Returns (MutexOut task.now) room.old room.new size.new result }
+    ensures answers { Returns (Out Request.Mutex task.now []) room.old room.new size.new result }
     ensures invariants { ReturnsInvariants task.now room.new size.new result }
 {
-    let call = Call::new(Question::Answer(Request::Mutex), task, b"");
-    answer_call(alloc, call, room, size)
+    let question = Question::Answer(Request::Mutex);
+    answer_call(alloc, question, Inputs { task, plan: b"" }, room, size)
 }
 
 /// Answers with the summary of the task.
 #[unsafe(no_mangle)]
 pub extern "C" fn sas_show(alloc: Global, task: &[u8], room: &mut [u8], size: &mut usize) -> u32
-    ensures answers { Returns (ShowOut task.now) room.old room.new size.new result }
+    ensures answers { Returns (Out Request.Show task.now []) room.old room.new size.new result }
 {
-    let call = Call::new(Question::Answer(Request::Show), task, b"");
-    answer_call(alloc, call, room, size)
+    let question = Question::Answer(Request::Show);
+    answer_call(alloc, question, Inputs { task, plan: b"" }, room, size)
 }
 
 /// Answers with the task, printed again.
 #[unsafe(no_mangle)]
 pub extern "C" fn sas_print(alloc: Global, task: &[u8], room: &mut [u8], size: &mut usize) -> u32
-    ensures answers { Returns (PrintOut task.now) room.old room.new size.new result }
+    ensures answers { Returns (Out Request.Print task.now []) room.old room.new size.new result }
 {
-    let call = Call::new(Question::Answer(Request::Print), task, b"");
-    answer_call(alloc, call, room, size)
+    let question = Question::Answer(Request::Print);
+    answer_call(alloc, question, Inputs { task, plan: b"" }, room, size)
 }
 
 /// Answers with the steps of the plan and its cost, printed again.
 #[unsafe(no_mangle)]
 pub extern "C" fn sas_steps(alloc: Global, plan: &[u8], room: &mut [u8], size: &mut usize) -> u32
-    ensures answers { Returns (StepsOut plan.now) room.old room.new size.new result }
+    ensures answers { Returns (Out Request.Steps [] plan.now) room.old room.new size.new result }
 {
-    let call = Call::new(Question::Answer(Request::Steps), b"", plan);
-    answer_call(alloc, call, room, size)
+    let question = Question::Answer(Request::Steps);
+    answer_call(alloc, question, Inputs { task: b"", plan }, room, size)
 }
 
 /// Answers whether the plan solves the task, with the reasons for a no.
@@ -85,8 +85,8 @@ pub extern "C" fn sas_plan_why(
         room.old room.new size.new result }
     ensures headline { ReturnsHeadline task.now plan.now room.new size.new result }
 {
-    let call = Call::new(Question::Explanation(Request::Plan), task, plan);
-    answer_call(alloc, call, room, size)
+    let question = Question::Explanation(Request::Plan);
+    answer_call(alloc, question, Inputs { task, plan }, room, size)
 }
 
 /// Answers whether the task is layered, with the reasons for a no.
@@ -99,8 +99,8 @@ pub extern "C" fn sas_check_why(
 ) -> u32
     ensures answers { Returns (OutWhy Request.Check task.now []) room.old room.new size.new result }
 {
-    let call = Call::new(Question::Explanation(Request::Check), task, b"");
-    answer_call(alloc, call, room, size)
+    let question = Question::Explanation(Request::Check);
+    answer_call(alloc, question, Inputs { task, plan: b"" }, room, size)
 }
 
 /// Answers which mutex groups of the task are exclusive, with the reasons for a no.
@@ -114,8 +114,8 @@ pub extern "C" fn sas_mutex_why(
     ensures answers { Returns (OutWhy Request.Mutex task.now []) room.old room.new size.new result }
     ensures invariants { ReturnsInvariants task.now room.new size.new result }
 {
-    let call = Call::new(Question::Explanation(Request::Mutex), task, b"");
-    answer_call(alloc, call, room, size)
+    let question = Question::Explanation(Request::Mutex);
+    answer_call(alloc, question, Inputs { task, plan: b"" }, room, size)
 }
 
 /// Answers whether the plan solves the task, after a trace of its steps.
@@ -130,6 +130,6 @@ pub extern "C" fn sas_trace(
     ensures answers { Returns (TraceOut task.now plan.now) room.old room.new size.new result }
     ensures headline { ReturnsLastLine task.now plan.now room.new size.new result }
 {
-    let call = Call::new(Question::Trace, task, plan);
-    answer_call(alloc, call, room, size)
+    let question = Question::Trace;
+    answer_call(alloc, question, Inputs { task, plan }, room, size)
 }

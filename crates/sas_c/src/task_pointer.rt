@@ -1,6 +1,6 @@
 // A pointer to a task, as a program in C has it.
 ghost use Rattle.std.specs.Prelude.{◌≡◌, Option, Some, None, IsSome};
-ghost use Rattle.sas_c.specs.TaskPointers.{owns_task};
+ghost use Rattle.sas_c.specs.Holding.{owns_task};
 ghost use Rattle.sas_core.specs.declared.parts.Parts.{Parts};
 
 use crate::box_pointer::BoxPointer;

@@ -1,7 +1,7 @@
 // A task that is read once, for many plans.
-ghost use Rattle.std.specs.Prelude.{◌≡◌, Some, None, IfSome};
+ghost use Rattle.std.specs.Prelude.{◌≡◌, [], Some, None, IfSome};
 ghost use Rattle.sas_answers.specs.Answers.{layers_verdict};
-ghost use Rattle.sas_requests.specs.Output.{CheckOut};
+ghost use Rattle.sas_requests.specs.Output.{Out};
 ghost use Rattle.sas_c.specs.Reporting.{Returns};
 ghost use Rattle.sas_c.specs.Holding.{HoldsTask};
 
@@ -12,7 +12,7 @@ use sas_answers::Status;
 use sas_flat::FlatTask;
 use sas_lines::Watched;
 use sas_meaning::Layered;
-use sas_requests::{Detail, ReadTask, load, read_layered};
+use sas_requests::{Detail, ReadTask, Request, load, read_layered};
 use std::alloc::Global;
 
 /// Reads a task, and holds it if it is layered, in place of what was held before. Answers as `sas_check` does. Where the number
@@ -25,21 +25,16 @@ pub extern "C" fn sas_task_read(
     room: &mut [u8],
     size: &mut usize,
 ) -> u32
-    ensures answers { Returns (CheckOut bytes.now) room.old room.new size.new result }
+    ensures answers { Returns (Out Request.Check bytes.now []) room.old room.new size.new result }
     ensures held { result ≡ 0 → HoldsTask bytes.now task.new.pointer.task }
     ensures none { (result ≡ 0 → ⊥) → task.new.pointer.task ≡ None }
 {
-    let before = task.take(alloc);
-    drop(before);
+    sas_task_free(alloc, task);
     let mut device = Watched::new(bytes);
     let mut text = Watched::new(Vec::new(alloc));
-    let read = match read_layered(alloc, Detail::Plain, &mut device, &mut text) {
-        Ok(read) => read,
-        Err(fault) => return report_ended(Err(fault), text, room, size),
-    };
-    match read {
+    match read_layered(alloc, Detail::Plain, &mut device, &mut text) {
         ReadTask::Layered(layered) => hold(alloc, task, layered, room, size),
-        ReadTask::Refused(status) => report_ended(Ok(status), text, room, size),
+        ReadTask::Ended(ended) => report_ended(ended, text, room, size),
     }
 }
 

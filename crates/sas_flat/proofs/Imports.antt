@@ -35,4 +35,4 @@ pub use Rattle.sas_flat.specs.declared.operators.Head.{Head}
 pub use Rattle.sas_flat.specs.declared.operators.OperatorColumns.{OperatorColumns}
 pub use Rattle.sas_flat.specs.declared.variables.VariableColumns.{VariableColumns}
 unfoldable pub use Rattle.sas_flat.specs.ByKey.{items_of, start_of_key}
-unfoldable pub use Rattle.sas_flat.specs.Table.{table}
+unfoldable pub use Rattle.sas_flat.specs.ByKey.{table}

@@ -4,7 +4,7 @@ use Rattle.sas_core.specs.declared.grounded.Change.{Change}
 use Rattle.sas_core.specs.declared.parts.Fact.{Fact}
 use Rattle.sas_core.specs.declared.parts.Effect.{Effect}
 use Rattle.sas_core.specs.Grounded.{no_effect}
-use Rattle.sas_flat.specs.Table.{table}
+use Rattle.sas_flat.specs.ByKey.{table}
 
 -- the effect with this change and these conditions
 abbrev pub effect_with : Change → List Fact → Effect

@@ -1,4 +1,3 @@
-pub mod Table
 pub mod Lists
 pub mod ByKey
 pub mod Growing

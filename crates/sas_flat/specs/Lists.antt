@@ -1,7 +1,7 @@
 -- Lists that are stored one after another, each given by its end.
 use Rattle.std.specs.Prelude.{◌≡◌, ℕ, zero, suc, ◌<◌, ◌≤◌, List, length, drop, slice_index, slice_range}
 use Rattle.sas_flat.specs.declared.lists.ListColumns.{ListColumns}
-use Rattle.sas_flat.specs.Table.{table}
+use Rattle.sas_flat.specs.ByKey.{table}
 
 -- a list starts at the end of the previous list
 abbrev pub start_of : List ℕ → ℕ → ℕ

@@ -7,7 +7,7 @@ use Rattle.sas_core.specs.declared.parts.Operator.{Operator}
 use Rattle.sas_flat.specs.declared.operators.Head.{Head}
 use Rattle.sas_flat.specs.declared.operators.OperatorColumns.{OperatorColumns}
 use Rattle.sas_flat.specs.Lists.{list_at, items_after, AreEnds}
-use Rattle.sas_flat.specs.Table.{table}
+use Rattle.sas_flat.specs.ByKey.{table}
 
 abbrev pub operator : List ℕ → List Fact → List Effect → ℕ → Operator
 operator name prevail effects cost =

@@ -3,7 +3,7 @@ use Rattle.std.specs.Prelude.{◌≡◌, ℕ, List, [], length, slice_index_or, 
 use Rattle.sas_core.specs.declared.parts.Variable.{Variable}
 use Rattle.sas_flat.specs.declared.variables.VariableColumns.{VariableColumns}
 use Rattle.sas_flat.specs.Lists.{lists_of}
-use Rattle.sas_flat.specs.Table.{table}
+use Rattle.sas_flat.specs.ByKey.{table}
 
 abbrev pub variable : List ℕ → Option ℕ → List (List ℕ) → Variable
 variable name layer values = record { name = name; layer = layer; values = values }

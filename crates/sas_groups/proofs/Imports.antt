@@ -52,15 +52,13 @@ pub use Rattle.sas_groups.specs.Families.{MayBeExclusive, IsIn, IsGroupOf, IsGro
 pub use Rattle.sas_groups.specs.Groups.{IsExclusiveIn}
 pub use Rattle.sas_groups.specs.ByFact.{facts_below, fact_number, entries_of, AreFirstNumbers, AreByFact, HasFact, HasFactBeside, AreLarger, AreLargerOfEach, under}
 pub use Rattle.sas_groups.specs.Index.{IsIndexOf, groups_of, larger_groups_of}
-pub use Rattle.sas_groups.specs.Joint.{verdict_at, AreJointVerdicts, AreInvariants}
-pub use Rattle.sas_groups.specs.Kept.{family_of}
+pub use Rattle.sas_groups.specs.Verdicts.{verdict_at, AreJointVerdicts, AreInvariants, IsJointVerdict, IsFirstBreaking, IsVerdictAlone}
+pub use Rattle.sas_groups.specs.Runs.{family_of, AreOnOne, AreRuns}
 pub use Rattle.sas_groups.specs.Laws.{FamiliesUnite, GreatestIsOne, GreatestHasAlone, OutsideIsBroken, JointlyKeptIsInvariant, ExclusiveAloneIsInvariant, ExclusiveJointlyIsInvariant, GreatestExists, JointVerdictIsOne, SomeJointVerdict}
 pub use Rattle.sas_groups.specs.Lists.{known, known_on, known_left, facts_left}
 pub use Rattle.sas_groups.specs.Notes.{value_note, group_note, AreBlank, AreFrom, IsValueNote, IsOfGroup, IsOfGroupBeside, IsNoteOf, IsGroupNote, AreNotesOf}
 pub use Rattle.sas_groups.specs.Noting.{AreBelow, IsNotedToo, NotesForGroup, TakenBySome, ShareKept, ChangesAt, IsSetApart, IsSet, IsCompleted, Forgets, IsExcluded}
-pub use Rattle.sas_groups.specs.Runs.{AreOnOne, AreRuns}
 pub use Rattle.sas_groups.specs.VerdictLaws.{InitialIsNoInvariant, InvariantInFastDownward, ExclusiveInFastDownward}
-pub use Rattle.sas_groups.specs.Verdicts.{IsJointVerdict, IsFirstBreaking, IsVerdictAlone}
 pub use Rattle.sas_groups.specs.declared.index.Index.{Index}
 pub use Rattle.sas_groups.specs.declared.notes.GroupNote.{GroupNote}
 pub use Rattle.sas_groups.specs.declared.notes.GroupNote.TheVariants.{Nothing, One, Several}

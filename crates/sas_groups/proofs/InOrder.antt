@@ -1,16 +1,12 @@
 -- A sorted list without duplicates contains the same facts as the original list.
-use Rattle.sas_groups.proofs.Imports.{replicate, ◌-◌, Ordering, Less, Equal, Greater, ◌≡◌, ◌≢◌, ℕ, zero, suc, get_or, ap, ◌+◌, ◌<◌, ◌≤◌, Bool, true, List, [], ◌∷◌, ◌++◌, length, refl, sym, ◌∙◌, subst, inl, inr, arith, IsEquivalence, IsTotalOrder, eq_by_cmp, nat_cmp, ordering_reverse, ordering_then, Contains, IsFiltered, DiffersFromLast, IsPermutation, IsSorted, IsStrictlySortedBy, cases_eq, common_steps, own_or, facts_at, AreDistinct, IsBelow, cases_lt, get_or_append_left, get_or-append_right, get_or_push, get_or-replicate, length-append, length-replicate, length_push, get_or-eq_default, dedup_is, Contains-dedup, Contains-from_dedup, IsStrictlySortedBy-dedup, Less-from_sorted, Contains-get_or, Contains-permutation, IsPermutation-sym, length_permutation, Fact, Parts, group_at}
+use Rattle.sas_groups.proofs.Imports.{replicate, ◌-◌, Ordering, Less, Equal, Greater, ◌≡◌, ◌≢◌, ℕ, zero, suc, get_or, ◌+◌, ◌<◌, ◌≤◌, Bool, true, List, [], ◌∷◌, ◌++◌, length, refl, sym, ◌∙◌, subst, inl, inr, arith, IsEquivalence, IsTotalOrder, eq_by_cmp, nat_cmp, ordering_reverse, ordering_then, Contains, IsFiltered, DiffersFromLast, IsPermutation, IsSorted, IsStrictlySortedBy, cases_eq, common_steps, own_or, facts_at, AreDistinct, IsBelow, cases_lt, get_or_append_left, get_or-append_right, get_or_push, get_or-replicate, length-append, length-replicate, length_push, get_or-eq_default, dedup_is, Contains-dedup, Contains-from_dedup, IsStrictlySortedBy-dedup, Less-from_sorted, Contains-get_or, Contains-permutation, IsPermutation-sym, length_permutation, Fact, Parts, group_at}
 
 -- facts of which each is below the next one
 below_trans : (f g h : Fact) → IsBelow f g → IsBelow g h → IsBelow f h
-below_trans f g h (inl low) (inl lower) = inl (omega arith)
-below_trans f g h (inl low) (inr (on, lower)) = inl (omega arith)
-below_trans f g h (inr (on, low)) (inl lower) = inl (omega arith)
-below_trans f g h (inr (on, low)) (inr (too, lower)) = inr (omega arith, omega arith)
+below_trans f g h h1 h2 = grind arith
 
 not_below : (f g : Fact) → IsBelow f g → f ≢ g
-not_below f g (inl low) same = let on : f.var ≡ g.var = ap (λ (h : Fact). h.var) same in absurd (omega arith)
-not_below f g (inr (on, low)) same = let is : f.value ≡ g.value = ap (λ (h : Fact). h.value) same in absurd (omega arith)
+not_below f g h1 same = grind arith
 
 abbrev pub AreAscending : List Fact → ℕ → Type 0
 AreAscending facts count = (k : ℕ) (d : Fact) → k + 1 < count → IsBelow (get_or facts k d) (get_or facts (k + 1) d)

@@ -18,8 +18,7 @@ one_or_two f g = grind (arith, common_steps, cases_eq)
 
 -- a fact is the one apart, or it isn't
 pub apart_or_not : (apart : Option Fact) (f : Fact) → (apart ≡ Some f) ⊎ (apart ≢ Some f)
-apart_or_not None f = inr (λ e. absurd cc)
-apart_or_not (Some g) f = grind (arith, common_steps, one_or_two, same_Some)
+apart_or_not h1 f = grind (arith, one_or_two, same_Some)
 
 -- a note is nothing, or something
 pub a_note : {A : Type 0} (noted : Option A) → (noted ≡ None) ⊎ ((x : A) × (noted ≡ Some x))
@@ -27,18 +26,14 @@ a_note None = inl refl
 a_note (Some x) = inr (x, refl)
 
 nothing_or_not : (noted : GroupNote) → (noted ≡ Nothing) ⊎ (noted ≢ Nothing)
-nothing_or_not Nothing = inl refl
-nothing_or_not (One f) = inr (λ e. absurd cc)
-nothing_or_not Several = inr (λ e. absurd cc)
+nothing_or_not h1 = grind arith
 
 -- a fact that is noted twice is noted once
 one_again : (fact : Fact) (after : GroupNote) → IsNotedToo (One fact) fact after → after ≡ One fact
 one_again fact after too = grind (arith, common_steps)
 
 pub noted_again : (before now : GroupNote) (fact : Fact) (after : GroupNote) → IsNotedToo before fact now → IsNotedToo now fact after → IsNotedToo before fact after
-noted_again Nothing now fact after first second = one_again fact after (subst (λ noted. IsNotedToo noted fact after) first second)
-noted_again (One other) now fact after first second = grind (arith, common_steps, one_again)
-noted_again Several now fact after first second = subst (λ noted. IsNotedToo noted fact after) first second
+noted_again h1 now fact after first second = grind (arith, one_again)
 
 -- the groups that take a fact, one more of them
 module _ (groups : List ℕ) (kept : List Bool) (fact : Fact) (before now : List GroupNote) (some : TakenBySome groups kept fact before now)
@@ -79,9 +74,7 @@ pub no_note_shows : (Are : Fact → Type 0) (noted : GroupNote) → IsNoteOf Are
 no_note_shows Are noted is at = subst (IsNoteOf Are) at is
 
 pub some_note_shows : (Are : Fact → Type 0) (noted : GroupNote) → IsNoteOf Are noted → noted ≢ Nothing → (f : Fact) × Are f
-some_note_shows Are Nothing is some = absurd (some refl)
-some_note_shows Are (One f) is some = (f, is.0)
-some_note_shows Are Several is some = (is.0, is.2)
+some_note_shows h1 h2 is some = grind arith
 
 -- where not several facts are noted, two that are known are one
 pub at_most_one : (p : Parts) (facts : List Fact) (place : ℕ) (noted : GroupNote) → IsGroupNote p facts place noted → noted ≢ Several
@@ -99,14 +92,10 @@ value_note_of facts var (Some value) some none = record { some = some value refl
 module _ (Before After : Fact → Type 0) (fact : Fact) (too_then : (f : Fact) → Before f → After f) (either : (f : Fact) → After f → Before f ⊎ (fact ≡ f)) where
   -- it stays where no such fact is new
   pub note_stays : (noted : GroupNote) → ((f : Fact) → After f → Before f) → IsNoteOf Before noted → IsNoteOf After noted
-  note_stays Nothing back is = λ f of. is f (back f of)
-  note_stays (One one) back is = (too_then one is.0, λ other of. is.1 other (back other of))
-  note_stays Several back is = (is.0, is.1, too_then is.0 is.2, too_then is.1 is.3, is.4)
+  note_stays h1 back is = grind arith
 
   pub note_changes : (noted after : GroupNote) → After fact → IsNotedToo noted fact after → IsNoteOf Before noted → IsNoteOf After after
-  note_changes Nothing after its too is = grind (arith, common_steps)
-  note_changes (One one) after its too is = grind (arith, common_steps)
-  note_changes Several after its too is = subst (IsNoteOf After) (sym too) (is.0, is.1, too_then is.0 is.2, too_then is.1 is.3, is.4)
+  note_changes h1 after its too is = grind arith
 
 -- where a fact is refused another is noted, and where it isn't none is
 module _ (Before : Fact → Type 0) (fact : Fact) where
@@ -119,9 +108,7 @@ module _ (Before : Fact → Type 0) (fact : Fact) where
   ]
 
   pub no_other : (noted after : GroupNote) → IsNoteOf Before noted → IsNotedToo noted fact after → after ≢ Several → (f : Fact) → Before f → f ≡ fact
-  no_other Nothing after is too few f of = absurd (is f of)
-  no_other (One one) after is too few f of = grind (arith, common_steps)
-  no_other Several after is too few f of = absurd (few too)
+  no_other h1 after is too few f of = grind arith
 
 pub shared_turned : (index : Index) (kept : List Bool) (f g : Fact) → ShareKept index kept f g → ShareKept index kept g f
 shared_turned index kept f g share = record { place = share.place; first = share.second; second = share.first; kept_there = share.kept_there }

@@ -4,14 +4,12 @@ pub mod Index
 pub mod Distinct
 pub mod Runs
 pub mod ByVariable
-pub mod Kept
 pub mod Notes
 pub mod Noting
 pub mod Clashes
 pub mod Groups
 pub mod Families
 pub mod Verdicts
-pub mod Joint
 pub mod Laws
 pub mod VerdictLaws
 pub mod Lists

@@ -4,7 +4,7 @@ use Rattle.sas_core.specs.declared.parts.Fact.{Fact}
 use Rattle.sas_groups.specs.declared.notes.Notes.{Notes}
 use Rattle.sas_groups.specs.declared.notes.GroupNote.{GroupNote}
 use Rattle.sas_groups.specs.declared.notes.GroupNote.TheVariants.{Nothing, One, Several}
-use Rattle.sas_groups.specs.Kept.{family_of}
+use Rattle.sas_groups.specs.Runs.{family_of}
 use Rattle.sas_groups.specs.declared.index.Index.{Index}
 use Rattle.sas_groups.specs.Index.{groups_of}
 use Rattle.sas_groups.specs.Notes.{value_note, group_note}

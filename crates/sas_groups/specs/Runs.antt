@@ -1,5 +1,5 @@
 -- The runs of a group: consecutive facts on the same variable, without duplicates.
-use Rattle.std.specs.Prelude.{◌≡◌, ℕ, ◌<◌, ◌≤◌, List, [], ◌∷◌, length, take, drop, All, slice_index_or}
+use Rattle.std.specs.Prelude.{◌≡◌, ℕ, ◌<◌, ◌≤◌, List, [], ◌∷◌, length, take, drop, All, slice_index_or, Bool, false}
 use Rattle.sas_core.specs.declared.parts.Fact.{Fact}
 use Rattle.sas_core.specs.declared.parts.Parts.{Parts}
 use Rattle.sas_groups.specs.Distinct.{facts_at}
@@ -20,3 +20,7 @@ pub record AreRunsOf (p : Parts) (own : List (List Fact)) (runs : List (List ℕ
   pub one_each : length runs ≡ length p.groups
   pub are : (place : ℕ) → place < length p.groups
       → AreRuns (facts_at p own place) (slice_index_or runs place [])
+
+-- the family of the indexes at which the list is true
+abbrev pub family_of : List Bool → ℕ → Bool
+family_of kept place = slice_index_or kept place false

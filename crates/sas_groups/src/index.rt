@@ -18,6 +18,7 @@ const FEW_GROUPS: usize = 4;
 
 /// The groups that contain each fact, and the effects of large operators on each variable. Facts are numbered, variable by variable, so a
 /// lookup takes constant time.
+#[derive(Drop)]
 pub struct Index {
     /// For each variable, the number of its first fact.
     pub firsts: Vec<usize>,
@@ -34,25 +35,6 @@ pub struct Index {
     pub effects: Lists<u32>,
     ghost low: { AreLow firsts.items },
     ghost ascending: { (key : ℕ) → IsNonDecreasing (under groups key) },
-}
-
-impl Drop for Index {
-    fn drop(self) {
-        let Index {
-            firsts,
-            groups,
-            larger,
-            own_facts,
-            runs,
-            effects,
-        } = self;
-        drop(firsts);
-        drop(groups);
-        drop(larger);
-        drop(own_facts);
-        drop(runs);
-        drop(effects);
-    }
 }
 
 impl Index {

@@ -1,7 +1,7 @@
 // Facts recorded by variable and by group, so that another fact can be compared with all of them at once.
 ghost use Rattle.std.specs.Prelude.{◌≡◌, ◌≢◌, ◌<◌, ◌⊎◌, ◌↔◌, length, Some, None, IsTrue, IsFalse, IfOk, IfSome, All, Contains};
 ghost use Rattle.sas_core.specs.Variables.{FactExists};
-ghost use Rattle.sas_groups.specs.Kept.{family_of};
+ghost use Rattle.sas_groups.specs.Runs.{family_of};
 ghost use Rattle.sas_groups.specs.declared.notes.GroupNote.TheVariants.{Nothing, One, Several};
 ghost use Rattle.sas_groups.specs.Index.{groups_of};
 ghost use Rattle.sas_groups.specs.Notes.{AreBlank, AreFrom};
@@ -74,6 +74,7 @@ impl GroupNote {
 }
 
 /// Facts recorded by variable and by group. What is recorded for a group doesn't depend on whether the group is in the family.
+#[derive(Drop)]
 pub struct Notes {
     /// For each variable, the value of a recorded fact on it.
     pub values: Items<Option<u32>>,
@@ -86,20 +87,6 @@ pub struct Notes {
     pub spread: usize,
     /// Whether some fact of the task may be set apart. In most tasks no fact has so many groups. It is a hint, too.
     pub some_wide: bool,
-}
-
-impl Drop for Notes {
-    fn drop(self) {
-        let Notes {
-            values,
-            groups,
-            apart: _,
-            spread: _,
-            some_wide: _,
-        } = self;
-        drop(values);
-        drop(groups);
-    }
 }
 
 impl Notes {
@@ -138,10 +125,7 @@ impl Notes {
     pub fn is_apart(&self, fact: Fact) -> bool
         ensures { IsTrue result ↔ (self.now.apart ≡ Some fact) }
     {
-        match self.apart {
-            Some(apart) => apart == fact,
-            None => false,
-        }
+        self.apart == Some(fact)
     }
 }
 

@@ -1,7 +1,23 @@
 -- The first lines of some bytes.
-use Rattle.std.specs.Prelude.{◌≡◌, ℕ, ◌+◌, ◌≤◌, Bool, true, false, List, [], ◌∷◌, ◌++◌, length, take}
+use Rattle.std.specs.Prelude.{◌≡◌, ℕ, ◌+◌, ◌≤◌, Bool, true, false, List, [], ◌∷◌, ◌++◌, length, take, ◌≢◌, ◌⊎◌}
 use Rattle.sas_lines.specs.Lines.{lines, unfinished}
-use Rattle.sas_lines.specs.EndedLines.{NoEnd}
+use Rattle.std.specs.List.{AllByRecursion}
+
+-- the bytes contain no LF
+abbrev pub NoEnd : List ℕ → Type 0
+NoEnd bytes = AllByRecursion (λ b. b ≢ 10) bytes
+
+-- the bytes are these lines, each ended by LF or CR LF, followed by the rest
+abbrev pub EndedLines : List (List ℕ) → List ℕ → List ℕ → Type 0
+EndedLines [] rest bytes = bytes ≡ rest
+EndedLines (line ∷ more) rest bytes = (behind : List ℕ)
+    × ((bytes ≡ line ++ 10 ∷ behind) ⊎ (bytes ≡ line ++ 13 ∷ 10 ∷ behind))
+    × EndedLines more rest behind
+
+-- law: any bytes are their complete lines, each with its line end, followed by a rest without LF
+abbrev pub BytesAreEndedLines : Type 0
+BytesAreEndedLines = (bytes : List ℕ) → EndedLines (lines bytes) (unfinished bytes) bytes
+    × NoEnd (unfinished bytes)
 
 -- the bytes taken are those up to and including the first LF, or all if there is none
 abbrev pub TakesLine : List ℕ → ℕ → Bool → Type 0

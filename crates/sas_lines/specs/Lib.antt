@@ -1,7 +1,6 @@
 pub mod Segments
 pub mod Separators
 pub mod Lines
-pub mod EndedLines
 pub mod FirstLines
 pub mod Spelling
 pub mod SpellingLaw

@@ -1,8 +1,7 @@
 // Splits a stream that arrives in pieces into lines.
 ghost use Rattle.std.specs.Prelude.{◌≡◌, ◌<◌, [], ◌++◌, take, false, true, IfOk, OnErr, IfSome, IfNone, if◌then◌else◌};
 ghost use Rattle.sas_lines.specs.Lines.{lines, unfinished, without_return};
-ghost use Rattle.sas_lines.specs.EndedLines.{NoEnd, BytesAreEndedLines};
-ghost use Rattle.sas_lines.specs.FirstLines.{TakesLine, LineStandsFirst};
+ghost use Rattle.sas_lines.specs.FirstLines.{NoEnd, BytesAreEndedLines, TakesLine, LineStandsFirst};
 ghost use Rattle.sas_lines.specs.Progress.{completed};
 
 use crate::separators::first_place;
@@ -74,7 +73,7 @@ pub struct Lines {
 
 impl Model for Lines {
     ghost use Rattle.std.specs.Prelude.{[], if◌then◌else◌};
-    ghost use Rattle.sas_lines.specs.EndedLines.{NoEnd};
+    ghost use Rattle.sas_lines.specs.FirstLines.{NoEnd};
     ghost use Rattle.sas_lines.specs.Progress.{Progress};
 
     ghost Value = { Progress };

@@ -1,12 +1,13 @@
 -- What the proofs use of other crates, and of the definitions of this one.
 pub use Rattle.std.proofs.Common.{◌≡◌, ◌≢◌, ℕ, ◌+◌, ◌<◌, ◌≤◌, true, false, None, List, [], ◌∷◌, ◌++◌, length, refl, sym, subst, inl, inr, arith, zero, suc, ◌⊎◌, get_or, set, Option, Some, ◌∙◌, ◌==◌, Bool, take, slice_index, slice_index_or, slice_set, ap, cond, eqb-true, eq-eqb, below_more, ◌↔◌, nat_lt, nat_le, if◌then◌else◌, flat_map, not, ltb-true, lt-ltb, leb-true, le-leb, drop, add-one, ◌&&◌, ◌||◌, get_or-take, rules, Result, Ok, Err, ◌-◌}
+pub use Rattle.std.proofs.Math.ListN.{length-append}
 pub use Rattle.std.proofs.Math.Seq.{drop-cons, take-suc}
 pub use Rattle.std.proofs.lemmas.Grind.{common_steps}
 pub use Rattle.std.proofs.lemmas.Bool.{cases_eq, false_from_ne_true, cases_Bool, cases_lt}
 pub use Rattle.std.proofs.lemmas.Bool.Decides.{eqb_tells}
 pub use Rattle.std.proofs.lemmas.Grind.{same_number_lists, elements}
-pub use Rattle.std.proofs.lemmas.List.{get_or-set_same, get_or-set_other, get_or_default, length-set, drop_all, take_all, length-take-le}
-pub use Rattle.std.proofs.lemmas.List.Elements.{All-nil, All-push, Contains-append_left, Contains-push, All-cons, All-head, All-tail, Contains-append_right, Contains-get_or, All-contains}
+pub use Rattle.std.proofs.lemmas.List.{get_or-set_same, get_or-set_other, get_or_default, length-set, drop_all, take_all, length-take-le, length-drop, get_or-drop, get_or_append_left, get_or-append_right}
+pub use Rattle.std.proofs.lemmas.List.Elements.{All-nil, All-push, Contains-append_left, Contains-push, All-cons, All-head, All-tail, Contains-append_right, Contains-get_or, All-contains, All-weaker, Contains-push_cases}
 pub use Rattle.std.proofs.lemmas.List.FromFn.{get_or-enumerate_from, length-enumerate_from}
 pub use Rattle.std.proofs.lemmas.List.Kept.{AllPairs-cons}
 pub use Rattle.std.proofs.lemmas.List.Sums.{AllPass-from_list_all, list_all-from_AllPass}
@@ -29,7 +30,8 @@ pub use Rattle.sas_core.specs.declared.parts.Fact.{Fact}
 pub use Rattle.sas_core.specs.declared.parts.Operator.{Operator}
 pub use Rattle.sas_core.specs.declared.parts.Parts.{Parts}
 pub use Rattle.sas_core.specs.declared.parts.Variable.{Variable}
-pub use Rattle.sas_meaning.specs.DerivedVariables.{AreDerived}
+pub use Rattle.sas_meaning.specs.DerivedVariables.{AreDerived, AreDerivedSpans, AreSpansOf, CopiesSpans, IsSpanned}
+pub use Rattle.sas_meaning.specs.declared.state.VariableSpan.{VariableSpan}
 pub use Rattle.sas_meaning.specs.Following.{HaveGone}
 pub use Rattle.sas_meaning.specs.Forced.{OnlyForced, HasFired, Changes, SameOff, AtDefault, equal_places, Occurs}
 pub use Rattle.sas_meaning.specs.FastDownward.{FiresLast, FastDownwardStep, FastDownwardReachable, Start, Onward}

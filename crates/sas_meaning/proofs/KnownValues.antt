@@ -27,8 +27,7 @@ module _ (p : Parts) (place : ℕ) (values : List (Option ℕ)) (known : NewValu
     by_test value false is differ = false_from_ne_true _ (one_differs value is differ)
 
     agrees_by : (value : Option ℕ) → slice_index_or values rule.var None ≡ value → agrees_with p (take place p.rules) rule ≡ option_map_or (λ its. its == rule.new) value true
-    agrees_by None is = grind (arith, common_steps, agrees_with_earlier, value_of)
-    agrees_by (Some value) is = by_test value (value == rule.new) is refl
+    agrees_by h1 is = grind (arith, agrees_with_earlier, value_of, by_test)
 
     -- the test whether the rule agrees with the rules before the place, by the value that is known
     -- of its variable
@@ -44,16 +43,13 @@ module _ (p : Parts) (place : ℕ) (values : List (Option ℕ)) (known : NewValu
     written = slice_set values (rule_at p place).var (Some (rule_at p place).new)
 
     same_value : (value : Option ℕ) (new : ℕ) → option_map_or (λ its. its == (rule_at p place).new) value true ≡ true → Some new ≡ value → Some (rule_at p place).new ≡ Some new
-    same_value None new test is = absurd (cc)
-    same_value (Some value) new test is = let equal = eqb-true value (rule_at p place).new test in cc
+    same_value h1 new test is = grind (arith, eqb-true, rule_at)
 
     still : (k : ℕ) → k < place → CanFire p (rule_at p k) → ((rule_at p k).var ≡ (rule_at p place).var) ⊎ ((rule_at p k).var ≢ (rule_at p place).var) → slice_index_or written (rule_at p k).var None ≡ Some (rule_at p k).new
-    still k before can_too (inl same) = grind (arith, common_steps, get_or-set_same, same_value, value_of)
-    still k before can_too (inr other) = get_or-set_other values _ _ _ None other ∙ known.all k before can_too
+    still k before can_too h1 = grind (arith, get_or-set_same, same_value, value_of, get_or-set_other)
 
     only_known : (var value : ℕ) → slice_index_or written var None ≡ Some value → (var ≡ (rule_at p place).var) ⊎ (var ≢ (rule_at p place).var) → (k : ℕ) × IsGiverBefore p (place + 1) k var value
-    only_known var value is (inl same) = grind (arith, common_steps, get_or-set_same)
-    only_known var value is (inr other) = search (rules, arith, get_or-set_other, later)
+    only_known var value is h1 = grind (arith, get_or-set_same, rules, get_or-set_other, later)
 
     -- what is known behind it
     pub known_behind : NewValues p (place + 1) (slice_set values (rule_at p place).var (Some (rule_at p place).new))

@@ -45,8 +45,7 @@ module _ {A : Type 0} (checks_of : ℕ → A → List (Check LayerFault)) where
 -- ---- operators
 
 no_layer : (layer : Option ℕ) → (not (is_some layer) ≡ true) ↔ (layer ≡ None)
-no_layer None = (λ test. refl, λ none. refl)
-no_layer (Some n) = (λ test. absurd (cc), λ none. absurd (cc))
+no_layer h1 = grind arith
 
 effect_follows : (p : Parts) (operator effect : ℕ) (e : Effect) → Pass (effect_layer_checks p operator effect e) ↔ IsBasic p e.var
 effect_follows p operator effect e = grind (arith, common_steps, by_test, not, is_some, no_layer)
@@ -57,11 +56,7 @@ operator_follows p operator o = search (rules, arith, all_follow, effect_follows
 -- ---- rules
 
 old_is : (old : Option ℕ) (default : ℕ) → (option_map_or (λ its. its == default) old true ≡ true) ↔ ((value : ℕ) → old ≡ Some value → value ≡ default)
-old_is None default = (λ test value is. absurd (cc), λ each. refl)
-old_is (Some old) default = (
-  λ test value is. let equal = eqb-true old default test in cc,
-  λ each. eq-eqb old default (each old refl),
-)
+old_is h1 default = grind (arith, eqb-true, eq-eqb)
 
 module _ (here its value default : ℕ) where
   abbrev IsDown : Type 0
@@ -72,16 +67,7 @@ module _ (here its value default : ℕ) where
   is_down false differ = grind (arith, common_steps, leb-true, eq-eqb, le-leb)
 
 down_is : (here its : Option ℕ) (value default : ℕ) → (option_map_or (λ here. option_map_or (λ its. if value == default then nat_lt its here else nat_le its here) its true) here true ≡ true) ↔ ((h i : ℕ) → here ≡ Some h → its ≡ Some i → (i ≤ h) × (value ≡ default → i < h))
-down_is None its value default = (λ test h i here_is its_is. absurd (cc), λ each. refl)
-down_is (Some here) None value default = (λ test h i here_is its_is. absurd (cc), λ each. refl)
-down_is (Some here) (Some its) value default = (
-  λ test h i here_is its_is.
-      let down = (is_down here its value default (value == default) refl).0 test in
-      let same_here : here ≡ h = cc in
-      let same_its : its ≡ i = cc in
-      (omega (arith, down.0), λ same. let below = down.1 same in omega arith),
-  λ each. (is_down here its value default (value == default) refl).1 (each here its refl refl),
-)
+down_is h1 its value default = grind (arith, is_down)
 
 module _ (p : Parts) where
   conditions_follow : (place : ℕ) (rule : Effect) → Pass (numbered_checks (λ condition c. check (looks_down p rule.var c) (LayerOrder place condition)) rule.conditions) ↔ All (LooksDown p rule.var) rule.conditions
@@ -115,9 +101,7 @@ module _ (p : Parts) where
 
   -- two rules of a variable that can fire, of which one is before the other
   one_value : Followed → (place : ℕ) → place < length p.rules → CanFire p (rule_at p place) → (k : ℕ) → k < length p.rules → CanFire p (rule_at p k) → (rule_at p k).var ≡ (rule_at p place).var → (k < place) ⊎ ((place < k) ⊎ (k ≡ place)) → (rule_at p k).new ≡ (rule_at p place).new
-  one_value each place below can k k_below k_can same (inl before) = ((each place below).1 can).0.1 k before k_can same
-  one_value each place below can k k_below k_can same (inr (inl behind)) = sym (((each k k_below).1 k_can).0.1 place behind can (sym same))
-  one_value each place below can k k_below k_can same (inr (inr here)) = ap (λ n. (rule_at p n).new) here
+  one_value each place below can k k_below k_can same h1 = grind (arith, rule_at)
 
   order : (a b : ℕ) → (a < b) ⊎ ((b < a) ⊎ (a ≡ b))
   order a b = elim (cases_lt a b) [ inl before ↦ inl before | inr here ↦ elim (cases_lt b a) [ inl behind ↦ inr (inl behind) | inr there ↦ inr (inr (omega (arith, here, there))) ] ]

@@ -1,10 +1,9 @@
 -- Which variables the conditions of a layer's rules may mention.
-use Rattle.sas_meaning.proofs.Imports.{rules, ◌≡◌, ◌≢◌, ℕ, zero, suc, ◌<◌, ◌≤◌, ◌==◌, ◌⊎◌, Bool, true, false, cond, List, [], ◌∷◌, length, get_or, Option, None, Some, refl, sym, ◌∙◌, ap, inl, inr, arith, eqb_tells, slice_get, option_map_or, option_and_then, Variable, Fact, Effect, Parts, layer_of, IsBasic, IsOnLayer, default_of, LooksDown, IsLayered, is_on_layer, new_value_of, value_with, IsClosed, SameBasic}
+use Rattle.sas_meaning.proofs.Imports.{rules, ◌≡◌, ◌≢◌, ℕ, zero, suc, ◌<◌, ◌≤◌, ◌==◌, ◌⊎◌, Bool, true, false, cond, List, [], ◌∷◌, length, get_or, Option, None, Some, refl, sym, ◌∙◌, inl, inr, arith, eqb_tells, slice_get, option_map_or, option_and_then, Variable, Fact, Effect, Parts, layer_of, IsBasic, IsOnLayer, default_of, LooksDown, IsLayered, is_on_layer, new_value_of, value_with, IsClosed, SameBasic}
 
 -- a variable is on the layer or off it, and the test shows which
 option_shows : (o : Option ℕ) (layer : ℕ) → ((o ≡ Some layer) × (option_map_or (λ m. m == layer) o false ≡ true)) ⊎ ((o ≢ Some layer) × (option_map_or (λ m. m == layer) o false ≡ false))
-option_shows None layer = inr ((λ e. cc), refl)
-option_shows (Some m) layer = elim (eqb_tells m layer) [ inl w ↦ inl (ap Some w.1, w.0) | inr w ↦ inr ((λ e. let f : m ≡ layer = cc in w.1 f), w.0) ]
+option_shows h1 layer = grind (arith, eqb_tells)
 
 pub layer_decides : (t : Parts) (layer v : ℕ) → (IsOnLayer t layer v × (is_on_layer t layer v ≡ true)) ⊎ ((IsOnLayer t layer v → ⊥) × (is_on_layer t layer v ≡ false))
 layer_decides t layer v = option_shows (layer_of t.variables v) layer

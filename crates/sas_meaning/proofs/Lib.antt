@@ -14,6 +14,7 @@ pub mod KnownValues
 pub mod LayerChecksAreRules
 pub mod FiringRules
 pub mod DerivedVariables
+pub mod Spans
 pub mod Members
 pub mod Places
 mod Imports

@@ -1,5 +1,5 @@
 -- Two settled states with the same basic values are equal, layer by layer.
-use Rattle.sas_meaning.proofs.Imports.{rules, ◌≡◌, ◌≢◌, ℕ, zero, suc, ◌<◌, ◌⊎◌, true, false, not, List, get_or, refl, sym, ◌∙◌, ap, subst, inl, inr, arith, eqb_tells, same_number_lists, Parts, Effect, Operator, All-contains, SettledIsOne, StepIsOne, Fires, Step, IsOnLayer, default_of, IsLayered, differs, IsSettledAt, IsSettled, SameBasic}
+use Rattle.sas_meaning.proofs.Imports.{rules, ◌≡◌, ◌≢◌, ℕ, zero, suc, ◌<◌, ◌⊎◌, true, false, not, List, get_or, refl, sym, ◌∙◌, ap, subst, inl, inr, arith, eqb_tells, same_number_lists, Parts, Operator, SettledIsOne, StepIsOne, Step, IsOnLayer, default_of, IsLayered, differs, IsSettledAt, IsSettled, SameBasic}
 use Rattle.sas_meaning.proofs.Facts.{set_or_kept}
 use Rattle.sas_meaning.proofs.Layers.{AgreeBelow, agree_sym, closed_agrees, layer_cases}
 
@@ -37,13 +37,7 @@ settled_is_one t s p q layered a b = same_number_lists p q (a.state.one_each ∙
 
 -- what an operator does to a basic variable is one value
 step_on_basic : (t : Parts) (s : List ℕ) (o : Operator) (a b : List ℕ) → Step t s o a → Step t s o b → SameBasic t a b
-step_on_basic t s o a b p q v basic = elim (set_or_kept s o.effects v) [
-  | inr kept ↦ p.kept v basic kept ∙ sym (q.kept v basic kept)
-  | inl w ↦
-      (let to_a : get_or a w.effect.var 0 ≡ w.effect.new = All-contains (λ (e : Effect). Fires s e → get_or a e.var 0 ≡ e.new) o.effects w.effect p.set w.among w.fires in
-      let to_b : get_or b w.effect.var 0 ≡ w.effect.new = All-contains (λ (e : Effect). Fires s e → get_or b e.var 0 ≡ e.new) o.effects w.effect q.set w.among w.fires in
-      subst (λ x. get_or a x 0 ≡ get_or b x 0) w.on (to_a ∙ sym to_b))
-]
+step_on_basic t s o a b p q v basic = grind (arith, set_or_kept, get_or)
 
 pub step_is_one : StepIsOne
 step_is_one t s o a b layered p q =

@@ -1,8 +1,10 @@
 // The derived variables of a task.
-ghost use Rattle.std.specs.Prelude.{IfOk};
-ghost use Rattle.sas_meaning.specs.DerivedVariables.{AreDerived};
+ghost use Rattle.std.specs.Prelude.{IfOk, IsTrue, IsFalse};
+ghost use Rattle.sas_core.specs.Variables.{IsDerived};
+ghost use Rattle.sas_meaning.specs.DerivedVariables.{AreDerived, AreDerivedSpans};
 
 use crate::layered::Layered;
+use crate::state::VariableSpan;
 use sas_core::Grounded;
 use std::alloc::{AllocError, Global};
 
@@ -20,4 +22,32 @@ pub fn derived_variables<T: Grounded>(
         }
     }
     Ok(variables)
+}
+
+/// Returns the spans of derived variables, each as long as possible.
+pub fn derived_spans<T: Grounded>(
+    alloc: Global,
+    task: &Layered<T>,
+) -> Result<Vec<VariableSpan>, AllocError>
+    ensures { IfOk result (λ spans. AreDerivedSpans task.now spans.items) }
+{
+    let mut spans = Vec::new(alloc);
+    let mut start = 0;
+    for var in 0..task.variables() {
+        let end = var + 1;
+        if is_basic(task, var) {
+            start = end;
+        } else if is_basic(task, end) {
+            spans.push(VariableSpan { start, end })?;
+        }
+    }
+    Ok(spans)
+}
+
+/// Returns whether the variable isn't derived or doesn't exist.
+fn is_basic<T: Grounded>(task: &Layered<T>, var: u32) -> bool
+    ensures yes { IsTrue result → IsDerived task.now.variables var → ⊥ }
+    ensures no { IsFalse result → IsDerived task.now.variables var }
+{
+    var >= task.variables() || task.layer(var).is_none()
 }

@@ -12,10 +12,10 @@ mod state;
 mod steps;
 
 pub use changed_variables::ChangedVariables;
-pub use derived::derived_variables;
+pub use derived::{derived_spans, derived_variables};
 pub use laws::meaning_laws;
 pub use layered::{LayerFault, Layered};
 pub use preconditions::Preconditions;
 pub use settle::Settle;
-pub use state::{State, StateFault};
+pub use state::{State, StateFault, VariableSpan};
 pub use steps::step_laws;

@@ -3,10 +3,12 @@ ghost use Rattle.std.specs.Prelude.{◌≡◌, ◌<◌, ◌↔◌, List, ℕ, le
 ghost use Rattle.sas_core.specs.declared.parts.Fact.{Fact};
 ghost use Rattle.sas_core.specs.Variables.{IsState};
 ghost use Rattle.sas_meaning.specs.States.{Holds, AllHold};
+ghost use Rattle.sas_meaning.specs.DerivedVariables.{AreSpansOf, CopiesSpans};
 
 use sas_core::{Fact, Grounded, Items};
 use std::alloc::{AllocError, Global};
 use std::marker::Model;
+use std::mem::replace;
 
 /// A state: a value for each variable. In a contract it is the list of these values.
 #[derive(Debug, PartialEq, Eq, Drop)]
@@ -20,6 +22,20 @@ impl Model for State {
     ghost view = { λ s. s.values };
 
     ghost inverse = { λ values. record { values = values } };
+}
+
+/// Variables one after another: those from `start` up to but not including `end`.
+#[derive(Clone, Copy, Debug, PartialEq, Eq)]
+pub struct VariableSpan {
+    pub start: u32,
+    pub end: u32,
+}
+
+impl VariableSpan {
+    /// Returns the number of variables.
+    pub fn size(&self) -> usize {
+        self.end.saturating_sub(self.start) as usize
+    }
 }
 
 /// Why a list of values is not a state.
@@ -109,6 +125,30 @@ impl State {
         ensures { self.new ≡ slice_set self.old fact.var fact.value }
     {
         self.values.set(fact.var as usize, fact.value);
+    }
+
+    /// Sets the variables in these spans to their values in another state of the same task. `alloc` isn't asked for memory.
+    pub fn copy_spans(&mut self, alloc: Global, other: &State, spans: &[VariableSpan])
+        requires known { length other.now ≡ length self.old }
+        requires fit { AreSpansOf (length self.old) spans.now }
+        ensures { CopiesSpans spans.now other.now self.old self.new }
+    {
+        let mut values = replace(&mut self.values, Items::new(alloc)).into_vec();
+        copy_spans(values.as_mut_slice(), other.values(), spans);
+        self.values = Items::from_vec(values);
+    }
+}
+
+/// Sets the items in these spans to those of `other`.
+fn copy_spans(values: &mut [u32], other: &[u32], spans: &[VariableSpan])
+    requires known { length other.now ≡ length values.old }
+    requires fit { AreSpansOf (length values.old) spans.now }
+    ensures { CopiesSpans spans.now other.now values.old values.new }
+{
+    for span in spans {
+        let start = span.start as usize;
+        let end = span.end as usize;
+        values[start..end].copy_from_slice(&other[start..end]);
     }
 }
 

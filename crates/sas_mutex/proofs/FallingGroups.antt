@@ -14,8 +14,7 @@ none_right [] ys none = none
 none_right (x ∷ xs) ys none = cc
 
 none_of_length : (xs : List ℕ) → length xs ≡ 0 → xs ≡ []
-none_of_length [] none = refl
-none_of_length (x ∷ xs) none = absurd (omega arith)
+none_of_length h1 none = grind (arith, common_steps)
 
 module _ {p : Parts} where
   -- ---- groups that fell in one turn after another

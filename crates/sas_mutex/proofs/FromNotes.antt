@@ -88,8 +88,7 @@ module _ (at : EffectPlace) (index : Index) {change : Change} (fits : IsFiring a
     apart_clashes (one, is_apart, share) = shared_clashes one (are.noted.one_apart one is_apart) share
 
     pub beside_clashes : (g : Fact) → Contains before g → ShareOne p kept g fact → Clash (IsKept p kept) with
-    beside_clashes g known_g share =
-        shared_clashes g known_g (shared_turned index kept g fact (share_kept p index kept g fact indexed (there g known_g) exists share))
+    beside_clashes g known_g share = search (arith, shared_clashes, shared_turned, share_kept, indexed, there)
 
     shares_with : (g : Fact) → Contains before g → Contradict (IsKept p kept) fact g → (h : Fact) × Contains before h × ShareKept index kept fact h
     shares_with g known_g contradict = (g, known_g, contradicts_shares p index kept fact g indexed exists (there g known_g) (not_on g known_g) contradict)
@@ -143,8 +142,7 @@ module _ (at : EffectPlace) (index : Index) {change : Change} (fits : IsFiring a
 
   -- a condition that exists is met if it is one of the facts that are known then
   met_is_in : (c : Fact) → FactExists p.variables c → IsMet notes fact c → Contains with c
-  met_is_in c real (inl e) = subst (λ (x : Fact). Contains with x) (sym e) itself
-  met_is_in c real (inr at) = also c (value_note_shows before c.var c.value (value_note notes.values c.var) (are.noted.values c.var (variable_below p c real)) at)
+  met_is_in c real h1 = grind (arith, itself, also, value_note_shows, value_note, are, variable_below)
 
   in_is_met : (c : Fact) → FactExists p.variables c → Contains with c → IsMet notes fact c
   in_is_met c real in_all = elim (either c in_all) [

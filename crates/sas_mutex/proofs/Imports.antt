@@ -1,6 +1,6 @@
 -- What the proofs use of other crates, and of the definitions of this one.
 pub use Rattle.std.proofs.lemmas.Option.{same_Some}
-pub use Rattle.std.proofs.Common.{◌≡◌, ℕ, ◌+◌, ◌≤◌, Bool, true, false, List, [], ◌∷◌, length, get_or, set, sym, zero, suc, arith, ◌<◌, ◌++◌, drop, refl, ◌∙◌, ap, subst, inl, inr, append-nil, ◌≢◌, ◌⊎◌, None, Some, take, Option, IfSome, vec_capacity, ◌↔◌, IsTrue, ◌^◌, ◌-◌, below_more, rules, IsFalse, replicate}
+pub use Rattle.std.proofs.Common.{◌≡◌, ℕ, ◌+◌, ◌≤◌, Bool, true, false, List, [], ◌∷◌, length, get_or, set, sym, zero, suc, arith, ◌<◌, ◌++◌, drop, refl, ◌∙◌, ap, subst, inl, inr, append-nil, ◌≢◌, ◌⊎◌, None, Some, take, Option, IfSome, vec_capacity, ◌↔◌, IsTrue, ◌^◌, ◌-◌, ◌||◌, below_more, rules, IsFalse, replicate}
 pub use Rattle.std.proofs.Math.ListN.{get_or-eq_default}
 pub use Rattle.std.proofs.Math.Seq.{get_or-append_seam}
 pub use Rattle.std.proofs.lemmas.Bool.{true≢false, cases_eq, cases_Bool, both_ways, cases_lt, and_parts}
@@ -39,13 +39,11 @@ pub use Rattle.sas_groups.specs.Distinct.{AreDistinct}
 pub use Rattle.sas_groups.specs.Families.{IsIn, IsGroupOf, IsGroupOfOr, IsKeptJointly, IsGreatest, MayBeExclusive}
 pub use Rattle.sas_groups.specs.ByFact.{HasFact, HasFactBeside}
 pub use Rattle.sas_groups.specs.Index.{IsIndexOf, groups_of, larger_groups_of}
-pub use Rattle.sas_groups.specs.Joint.{verdict_at, AreJointVerdicts, AreInvariants}
-pub use Rattle.sas_groups.specs.Kept.{family_of}
+pub use Rattle.sas_groups.specs.Verdicts.{verdict_at, AreJointVerdicts, AreInvariants, IsJointVerdict}
+pub use Rattle.sas_groups.specs.Runs.{family_of, AreOnOne, AreRuns}
 pub use Rattle.sas_groups.specs.Lists.{known, known_left, known_on}
 pub use Rattle.sas_groups.specs.Notes.{value_note, group_note, IsOfGroupBeside, IsWide, AreBlank, AreFrom, IsValueNote, IsOfGroup, IsNoteOf, IsGroupNote}
 pub use Rattle.sas_groups.specs.Noting.{HasOtherValue, HasNotedGroup, ShareKept, SharesApart, NotesForGroup, IsContradicted, ChangesAt, IsThere, NotesFirstFact, IsSetApart, AreBelow}
-pub use Rattle.sas_groups.specs.Runs.{AreOnOne, AreRuns}
-pub use Rattle.sas_groups.specs.Verdicts.{IsJointVerdict}
 pub use Rattle.sas_groups.specs.declared.index.Index.{Index}
 pub use Rattle.sas_groups.specs.declared.notes.GroupNote.{GroupNote}
 pub use Rattle.sas_groups.specs.declared.notes.GroupNote.TheVariants.{Nothing, One, Several}
@@ -55,15 +53,15 @@ pub use Rattle.sas_groups.specs.declared.verdict.Verdict.TheVariants.{Derived, I
 pub use Rattle.sas_meaning.specs.Steps.{preconditions, old_fact}
 pub use Rattle.sas_mutex.specs.Basis.{AreNotedWith, IsPartOf, Excludes, HasGrown, IsBasis, IsOfNone, SetsNone}
 pub use Rattle.sas_mutex.specs.ByNotes.{IsNotedAt, ShareOne, AreKnown, IsMet, RemovesByNotes, SomeRemoves, IsNotedFor, known_at, IsUnknownAt, IsGoneAt, IsDecidedByFirst, NeverFires, NotBothAt, BothClashAt, SetsBeside, IsApartAt, IsSingleOn, ClashesAt, SetsOtherValue, EffectKeepsGroupWithItself, EffectKeepsGroup, AreGoneAt}
-pub use Rattle.sas_mutex.specs.Effects.{IsKept, KeepsAt, KeepsWithItself, IsUnconditional}
+pub use Rattle.sas_mutex.specs.Effects.{IsKept, KeepsAt, KeepsWithItself, IsUnconditional, EffectPlace, operator_of, effect_of}
 pub use Rattle.sas_mutex.specs.Falling.{count, IsAtRest, AreCandidates, newly, Falls, FamilyHasRoom, RestsOn, IsWithin}
-pub use Rattle.sas_mutex.specs.Firing.{EffectPlace, operator_of, effect_of}
-pub use Rattle.sas_mutex.specs.Judging.{AreFirstVerdicts, IsUndecided, KeptSoFar, IsVerdictSoFar, AreVerdictsSoFar}
-pub use Rattle.sas_mutex.specs.Looking.{ForPairs, Looked, IsPair, IsOfEffect, IsOfOperator, IsOfAlike, IsOfUnconditional}
+pub use Rattle.sas_mutex.specs.Judging.{AreFirstVerdicts, IsUndecided, KeptSoFar, IsVerdictSoFar, AreVerdictsSoFar, AreJudged, IsJudgedAt}
+pub use Rattle.sas_mutex.specs.Looking.{IsIdle, IsChecking, ForPairs, Looked, IsPair, IsOfEffect, IsOfOperator, IsOfAlike, IsOfUnconditional}
 pub use Rattle.sas_mutex.specs.Marks.{IsNotedFrom, IsClean}
 pub use Rattle.sas_mutex.specs.Watching.{watch_at, IsLastBelow, AreChained, AreMore, WatchesMore, HasWatchFrom, since_of, IsWatchOf, RestsBy, IsOver, IsUnwatched, AreFallen, AreUnwatched, AreWatched, IsWatchedAnew, FallenAreUnwatched, StayUnwatched, AreLooseAtRest, IsReady}
 pub use Rattle.sas_mutex.specs.declared.family.Excluding.{Excluding}
 pub use Rattle.sas_mutex.specs.declared.family.Family.{Family}
+pub use Rattle.sas_mutex.specs.declared.looking.Checker.{Checker}
 pub use Rattle.sas_mutex.specs.declared.marks.Marks.{Marks}
 pub use Rattle.sas_mutex.specs.declared.watches.Watch.{Watch}
 pub use Rattle.sas_mutex.specs.declared.watches.Watches.{Watches}

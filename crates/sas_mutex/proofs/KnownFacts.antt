@@ -16,12 +16,10 @@ none_if_not_one p facts place Counts counts apart Several is not_one f of = apar
 
 -- facts contradict each other, whichever is named first
 pub contradict_turned : (Counts : List Fact → Type 0) (f g : Fact) → Contradict Counts f g → Contradict Counts g f
-contradict_turned Counts f g (inl (var, value)) = inl (sym var, λ e. value (sym e))
-contradict_turned Counts f g (inr one) = grind (arith, common_steps)
+contradict_turned h1 f g h2 = grind arith
 
 pub not_itself : (Counts : List Fact → Type 0) (f : Fact) → Contradict Counts f f → ⊥
-not_itself Counts f (inl (var, value)) = value refl
-not_itself Counts f (inr one) = one.differ refl
+not_itself h1 f h2 = grind arith
 
 -- two facts of which a group that is kept has both
 pub shares_contradicts : (p : Parts) (index : Index) (kept : List Bool) (f g : Fact) → IsIndexOf p index → FactExists p.variables f → FactExists p.variables g
@@ -105,8 +103,7 @@ share_kept p index kept f g indexed f_exists g_exists share = record {
 -- at first one fact is known at most: the one apart
 module _ (p : Parts) (kept : List Bool) (old new : Notes) (blank : AreBlank p old) where
   pub known_apart : (apart : Option Fact) → IsSetApart apart old new → ((f : Fact) → apart ≡ Some f → FactExists p.variables f) → AreKnown p kept (option_to_list apart) new
-  known_apart None is_set exists = grind (arith, common_steps, value_note_of, none_or_some, contains_none)
-  known_apart (Some one) is_set exists = search (rules, arith, cases_eq, value_note_of, same_Some, none_or_some, not_itself, Contains-push_cases, contains_none, get_or-set_same, variable_below, get_or-set_other)
+  known_apart h1 is_set exists = grind (arith, value_note_of, none_or_some, contains_none, rules, cases_eq, same_Some, not_itself, get_or-set_same, variable_below, get_or-set_other)
 
 module _ (p : Parts) (index : Index) (kept : List Bool) (before : List Fact) (old : Notes) (indexed : IsIndexOf p index) (wide : IsWide p old)
     (there : (f : Fact) → Contains before f → FactExists p.variables f)

@@ -1,5 +1,5 @@
 -- Checks of effects, one after another.
-use Rattle.sas_mutex.proofs.Imports.{common_steps, rules, ◌≡◌, ◌⊎◌, ◌<◌, ◌≤◌, ℕ, Bool, true, false, List, [], ◌∷◌, ◌++◌, length, get_or, set, arith, ap, subst, sym, ◌∙◌, inl, inr, All-contains, vec_capacity, both_ways, get_or_default, get_or-set_same, length-set, length_push, All-nil, Contains, Fact, Parts, operator_at, effect_at, group_at, Clash, sets, known, HasFactBeside, EffectKeeps, IsIn, IsGroupOfOr, family_of, Family, Marks, SetsNone, IsKept, KeepsAt, KeepsWithItself, IsUnconditional, EffectPlace, IsNotedFor, NeverFires, known_at, HasGrown, FamilyHasRoom, RestsOn, count, ForPairs, Looked, IsPair, IsOfEffect, IsOfOperator, IsOfAlike}
+use Rattle.sas_mutex.proofs.Imports.{common_steps, rules, ◌≡◌, ◌⊎◌, ◌<◌, ◌≤◌, ℕ, Bool, true, false, List, [], ◌∷◌, ◌++◌, length, get_or, set, arith, ap, subst, sym, ◌∙◌, inl, inr, All-contains, vec_capacity, both_ways, get_or_default, get_or-set_same, length-set, length_push, All-nil, Contains, Fact, Parts, operator_at, effect_at, group_at, Clash, sets, known, HasFactBeside, EffectKeeps, IsIn, IsGroupOfOr, family_of, Family, Marks, SetsNone, Checker, IsChecking, IsKept, KeepsAt, KeepsWithItself, IsUnconditional, EffectPlace, IsNotedFor, NeverFires, known_at, HasGrown, IsBasis, FamilyHasRoom, RestsOn, count, ForPairs, Looked, IsPair, IsOfEffect, IsOfOperator, IsOfAlike}
 use Rattle.sas_mutex.proofs.Counting.{count_fell}
 use Rattle.sas_mutex.proofs.Keeping.{keeps_if_beside}
 use Rattle.sas_mutex.proofs.FallingGroups.{falls_then, one_fell, never_jointly, none_first, none_then, keeps_still, basis_keeps, basis_grows}
@@ -14,29 +14,32 @@ pub alike_notes : (p : Parts) (operator of effect : ℕ) (kept : List Bool) (mar
     → IsNotedFor p kept operator of marks → IsNotedFor p kept operator effect marks
 alike_notes p operator of effect kept marks plain also noted = grind (arith, common_steps, same_known)
 
+pub alike_checking : (p : Parts) (operator of effect : ℕ) (checker : Checker) → IsUnconditional p operator of → IsUnconditional p operator effect
+    → IsChecking (record { task = p; operator = operator; effect = of }) checker → IsChecking (record { task = p; operator = operator; effect = effect }) checker
+alike_checking p operator of effect checker plain also checking = grind (arith, alike_notes)
+
 pub alike_never_fires : (f : EffectPlace) (kept : List Bool) (effect place : ℕ) → IsOfAlike f effect place → NeverFires f kept
     → Clash (IsKept f.task kept) (known_at f.task f.operator effect)
-alike_never_fires f kept effect place (inl is) never = subst (λ n. Clash (IsKept f.task kept) (known_at f.task f.operator n)) (sym is) never
-alike_never_fires f kept effect place (inr (plain, of)) never = grind (arith, common_steps, same_known)
+alike_never_fires f kept effect place h1 never = grind (arith, known_at, same_known)
 
 -- ---- checks
 
 module _ {p : Parts} {operator : ℕ} where
   -- no group is removed, and the effects preserve the groups
-  pub looked_grown : {Pairs : ℕ → ℕ → Type 0} {before after : Family} {alone : Bool} → HasGrown before after → FamilyHasRoom p after
+  pub looked_grown : {Pairs : ℕ → ℕ → Type 0} {before after : Family} {alone : Bool} → HasGrown before after
       → ForPairs p operator before.kept Pairs (KeepsAt p before.kept operator)
       → (alone ≡ true → ForPairs p operator before.kept Pairs (KeepsWithItself p after.basis operator)) → Looked p operator Pairs before after alone
-  looked_grown {Pairs} {before} {after} {alone} grown room keeps by_basis = grind (arith, common_steps, grown_falls)
+  looked_grown {Pairs} {before} {after} {alone} grown keeps by_basis = grind (arith, common_steps, grown_falls)
 
-  pub looked_pair : (of at : ℕ) {before after : Family} {alone : Bool} → HasGrown before after → FamilyHasRoom p after
+  pub looked_pair : (of at : ℕ) {before after : Family} {alone : Bool} → HasGrown before after
       → (IsIn p (family_of before.kept) at → KeepsAt p before.kept operator of at) → (alone ≡ true → KeepsWithItself p after.basis operator of at)
       → Looked p operator (IsPair of at) before after alone
-  looked_pair of at {before} {after} {alone} grown room keeps by_basis = grind (arith, common_steps, looked_grown)
+  looked_pair of at {before} {after} {alone} grown keeps by_basis = grind (arith, common_steps, looked_grown)
 
   -- none of the pairs counts
-  pub looked_none : {Pairs : ℕ → ℕ → Type 0} {family : Family} {alone : Bool} → FamilyHasRoom p family
+  pub looked_none : {Pairs : ℕ → ℕ → Type 0} {family : Family} {alone : Bool}
       → ForPairs p operator family.kept Pairs (λ effect place. ⊥) → Looked p operator Pairs family family alone
-  looked_none {Pairs} {family} {alone} room none = grind (arith, common_steps, looked_grown, same_grown)
+  looked_none {Pairs} {family} {alone} none = grind (arith, common_steps, looked_grown, same_grown)
 
   -- each pair is one of those checked first, or one of those checked then
   pub looked_then : {First Second Both : ℕ → ℕ → Type 0} {a b c : Family} {x y z : Bool} → Looked p operator First a b x → Looked p operator Second b c y
@@ -44,7 +47,6 @@ module _ {p : Parts} {operator : ℕ} where
       → (z ≡ true → (x ≡ true) × (y ≡ true)) → Looked p operator Both a c z
   looked_then {First} {Second} {Both} {a} {b} {c} {x} {y} {z} first second either both = record {
     falls = falls_then first.falls second.falls;
-    room = second.room;
     grows = λ place is. second.grows place (first.grows place is);
     keeps = λ none effect place pair w has. elim (either effect place pair) [
       | inl early ↦ keeps_still operator effect place second.falls (none_then first.falls second.falls none)
@@ -65,9 +67,9 @@ module _ {p : Parts} {operator : ℕ} where
   looked_by {Pairs} {Others} {before} {after} {x} {y} looked among more = grind (arith, common_steps)
 
   -- the effect sets no fact of a group in the family that has another one
-  pub looked_unset : (of : ℕ) {family : Family} {alone : Bool} → FamilyHasRoom p family → SetsNone p family.kept operator of
+  pub looked_unset : (of : ℕ) {family : Family} {alone : Bool} → SetsNone p family.kept operator of
       → Looked p operator (IsOfEffect of) family family alone
-  looked_unset of {family} {alone} room none = looked_grown (same_grown family) room (unset (IsKept p family.kept))
+  looked_unset of {family} {alone} none = looked_grown (same_grown family) (unset (IsKept p family.kept))
       (λ _ effect place is w has. unset (IsGroupOfOr p (family_of family.basis) (group_at p place)) effect place is w has)
     where
       unset : (Counts : List Fact → Type 0) (effect place : ℕ) → effect ≡ of → IsIn p (family_of family.kept) place
@@ -82,7 +84,6 @@ module _ {p : Parts} {operator : ℕ} where
       → Looked p operator (IsOfEffect of) before after alone
   looked_all of groups count {before} {after} {alone} all within looked = record {
     falls = looked.falls;
-    room = looked.room;
     grows = looked.grows;
     keeps = λ none effect place is w has. keeps_if_beside p (IsKept p after.kept) (operator_at p operator) place (effect_at (operator_at p operator) effect) w.exists has
         (λ beside. looked.keeps none effect place (of_first effect place is beside) w has);
@@ -99,18 +100,18 @@ module _ {p : Parts} {operator : ℕ} where
 
   -- an operator that was checked with a basis is at rest as long as the groups of the basis are in
   -- the family
-  pub rests_on : {before after : Family} {alone : Bool} → Looked p operator (IsOfOperator p operator) before after alone → alone ≡ true
+  pub rests_on : {before after : Family} {alone : Bool} → IsBasis (length p.groups) after → Looked p operator (IsOfOperator p operator) before after alone → alone ≡ true
       → RestsOn p after.kept after.supports operator
-  rests_on {before} {after} {alone} looked t smaller inside all effect below place w has =
+  rests_on {before} {after} {alone} is_basis looked t smaller inside all effect below place w has =
       basis_keeps after.basis smaller operator effect place
-      (λ n in_basis. All-contains (IsIn p (family_of smaller)) after.supports n all (looked.room.basis.only n in_basis.chosen)) w
+      (λ n in_basis. All-contains (IsIn p (family_of smaller)) after.supports n all (is_basis.only n in_basis.chosen)) w
       (looked.by_basis t effect place below (inside place w) has)
 
 -- the effect doesn't preserve the group, which is removed
 module _ (p : Parts) (operator of at : ℕ) (before after : Family) (kept : after.kept ≡ set before.kept at false) (fallen : after.fallen.items ≡ before.fallen.items ++ at ∷ [])
     (basis : after.basis ≡ before.basis) (supports : after.supports ≡ before.supports) (none : after.excluding ≡ []) (capacity : vec_capacity before.fallen ≤ vec_capacity after.fallen)
     (room : FamilyHasRoom p before) (here : IsIn p (family_of before.kept) at) where
-  removed_room : FamilyHasRoom p after
+  pub removed_room : FamilyHasRoom p after
   removed_room = grind (arith, common_steps, count_fell, length_push, length-set, All-nil)
 
   removed : (place : ℕ) → place ≡ at → IsIn p (family_of after.kept) place → ⊥
@@ -121,7 +122,6 @@ module _ (p : Parts) (operator of at : ℕ) (before after : Family) (kept : afte
       → Looked p operator (IsPair of at) before after true
   looked_removed exists within has broken = record {
     falls = one_fell before after at kept fallen here.exists (never_jointly before.kept operator of at exists within has broken) room.one_each;
-    room = removed_room;
     grows = λ place is. subst (λ (xs : List Bool). family_of xs place ≡ true) (sym basis) is;
     keeps = λ _ effect place pair w _. absurd (removed place pair.1 w);
     by_basis = λ _ effect place pair w _. absurd (removed place pair.1 w);

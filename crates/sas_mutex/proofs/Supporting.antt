@@ -1,5 +1,5 @@
 -- Growing the basis and emptying it.
-use Rattle.sas_mutex.proofs.Imports.{arith, common_steps, rules, ◌≡◌, ℕ, ◌<◌, Bool, true, false, List, [], length, set, refl, sym, subst, inl, inr, cases_eq, cases_lt, true≢false, get_or-set_same, get_or-set_other, get_or_past, get_or, All-nil, All-contains, All, Contains-get_or, Parts, family_of, Excluding, Family, AreNotedWith, IsBasis, IsOfNone, Excludes, HasGrown, Falls, FamilyHasRoom}
+use Rattle.sas_mutex.proofs.Imports.{arith, common_steps, rules, ◌≡◌, ℕ, ◌<◌, Bool, true, false, List, [], length, set, refl, sym, subst, inl, inr, cases_eq, cases_lt, true≢false, get_or-set_same, get_or-set_other, get_or_past, get_or, All-nil, All-contains, All, Contains-get_or, Parts, family_of, Excluding, Family, AreNotedWith, IsBasis, IsOfNone, Excludes, HasGrown, Falls, FamilyHasRoom, EffectPlace, Checker, IsChecking}
 use Rattle.sas_mutex.proofs.FallingGroups.{none_fell}
 
 -- a place at which a list is true is one of its places
@@ -30,6 +30,10 @@ same_excluding p before after same room = subst (All (Excludes p before.kept)) (
 -- the basis has grown, and the same facts are noted as excluding others
 pub basis_room : (p : Parts) (before after : Family) → HasGrown before after → after.excluding ≡ before.excluding → FamilyHasRoom p before → FamilyHasRoom p after
 basis_room p before after grown same room = grown_room p before after grown (same_excluding p before after same room) room
+
+pub grown_checking : (f : EffectPlace) (checker : Checker) (after : Family) → HasGrown checker.family after → All (Excludes f.task checker.family.kept) after.excluding
+    → IsChecking f checker → IsChecking f (record { family = after; marks = checker.marks })
+grown_checking f checker after grown excluding checking = grind (arith, grown_room)
 
 -- one more is noted
 pub more_excluding : (p : Parts) (kept : List Bool) (before after : List Excluding) (found : Excluding) → All (Excludes p kept) before → Excludes p kept found

@@ -1,5 +1,5 @@
 -- All facts that a task mentions exist.
-use Rattle.sas_mutex.proofs.Imports.{arith, common_steps, ℕ, ◌<◌, [], length, List, ◌∷◌, ◌++◌, Option, None, Some, All, Contains, cons_option, All-nil, All-cons, All-append, All-from_recursion, All-contains, All-head, All-tail, Fact, Effect, Parts, operator_at, effect_at, group_at, FactExists, MayHaveValue, WellRanged, EffectFits, holds_at, old_fact, preconditions, known, operator_fits, effect_fits}
+use Rattle.sas_mutex.proofs.Imports.{arith, common_steps, ℕ, ◌<◌, [], length, List, ◌∷◌, ◌++◌, Option, All, Contains, cons_option, All-nil, All-append, All-from_recursion, All-contains, All-head, All-tail, Fact, Effect, Parts, operator_at, effect_at, group_at, FactExists, MayHaveValue, WellRanged, EffectFits, holds_at, old_fact, preconditions, known, operator_fits, effect_fits}
 use Rattle.std.specs.Prelude.{filter_map}
 
 module _ (p : Parts) (ranged : WellRanged p) where
@@ -15,8 +15,7 @@ module _ (p : Parts) (ranged : WellRanged p) where
 
     old_exists : (var : ℕ) (old : Option ℕ) (conditions : List Fact) (new : ℕ) (rest : List Fact) → MayHaveValue p.variables var old → All (FactExists p.variables) rest
         → All (FactExists p.variables) (cons_option (old_fact (record { conditions = conditions; var = var; old = old; new = new })) rest)
-    old_exists var None conditions new rest may all = all
-    old_exists var (Some value) conditions new rest may all = All-cons (FactExists p.variables) (record { var = var; value = value }) rest may all
+    old_exists var h1 conditions new rest may all = grind arith
 
     olds_exist : (effects : List Effect) → All (EffectFits p.variables) effects → All (FactExists p.variables) (filter_map old_fact effects)
     olds_exist [] fit = All-nil (FactExists p.variables)

@@ -29,10 +29,7 @@ module _ (p : Parts) where
 
   -- nothing speaks against a group so far where it may be exclusive
   exclusive_may : (place : ℕ) (verdict : Verdict) → IsFirstVerdict p (group_at p place) verdict → (verdict ≡ Exclusive) ↔ MayBeExclusive p (group_at p place)
-  exclusive_may place Exclusive is = (λ e. is, λ may. refl)
-  exclusive_may place Derived is = (λ e. absurd cc, λ may. absurd (is may.basic))
-  exclusive_may place Initial is = (λ e. absurd cc, λ may. absurd (is.1 may.initial))
-  exclusive_may place (Broken operator) is = absurd is
+  exclusive_may place h1 is = grind arith
 
   pub candidates_from : (verdicts : List Verdict) (kept : List Bool) → AreFirstVerdicts p verdicts
       → ((place : ℕ) → place < length verdicts → IsTrue (family_of kept place) ↔ (verdict_at verdicts place ≡ Exclusive)) → AreCandidates p kept
@@ -109,19 +106,13 @@ module _ (p : Parts) (kept : List Bool) where
   -- a verdict that isn't exclusive is judged for good
   pub decided_for_good : (operator effect operator' effect' place : ℕ) (verdict : Verdict) → (verdict ≢ Exclusive)
       → IsVerdictSoFar p kept operator effect place verdict → IsVerdictSoFar p kept operator' effect' place verdict
-  decided_for_good operator effect operator' effect' place Exclusive ne is = absurd (ne refl)
-  decided_for_good operator effect operator' effect' place Derived ne is = is
-  decided_for_good operator effect operator' effect' place Initial ne is = is
-  decided_for_good operator effect operator' effect' place (Broken breaking) ne is = is
+  decided_for_good operator effect operator' effect' place h1 ne is = grind arith
 
   -- what is kept so far, said again further on
   pub so_far_by : (operator effect operator' effect' place : ℕ) (verdict : Verdict)
       → ((IsIn p (family_of kept) place → ⊥) → KeptSoFar p kept operator effect place → KeptSoFar p kept operator' effect' place)
       → IsVerdictSoFar p kept operator effect place verdict → IsVerdictSoFar p kept operator' effect' place verdict
-  so_far_by operator effect operator' effect' place Exclusive more is = (is.0, λ out. more out (is.1 out))
-  so_far_by operator effect operator' effect' place Derived more is = is
-  so_far_by operator effect operator' effect' place Initial more is = is
-  so_far_by operator effect operator' effect' place (Broken breaking) more is = is
+  so_far_by operator effect operator' effect' place h1 more is = grind arith
 
   -- an effect that keeps the group, or sets no fact of it
   pub one_effect_more : (operator effect place : ℕ)

@@ -7,8 +7,7 @@ watch_still made more place lt = get_or_append_left made more (record { group = 
 
 -- and so does the last one of a group below a place
 pub last_still : (made more : List Watch) (below group : ℕ) (last : Option ℕ) → below ≤ length made → IsLastBelow made below group last → IsLastBelow (made ++ more) below group last
-last_still made more below group None within none = grind (arith, common_steps, watch_still)
-last_still made more below group (Some at) within (lt, its, none) = grind (arith, common_steps, watch_still)
+last_still made more below group h1 within none = grind (arith, watch_still)
 
 module _ (made : List Watch) (new : Watch) where
   last_is : watch_at (made ++ new ∷ []) (length made) ≡ new
@@ -24,8 +23,7 @@ module _ (made : List Watch) (new : Watch) where
   -- and of no other
   last_elsewhere : (group : ℕ) (last : Option ℕ) → new.group ≢ group → IsLastBelow made (length made) group last
       → IsLastBelow (made ++ new ∷ []) (length (made ++ new ∷ [])) group last
-  last_elsewhere group None ne none = grind (arith, common_steps, cases_lt, watch_still, last_is, at_end)
-  last_elsewhere group (Some at) ne (lt, its, none) = grind (arith, common_steps, length_push, watch_still, cases_lt, last_is, at_end)
+  last_elsewhere group h1 ne none = grind (arith, cases_lt, watch_still, last_is, at_end, length_push)
 
   pub chained_more : (last last' : List (Option ℕ)) → new.group < length last → new.before ≡ get_or last new.group None
       → last' ≡ set last new.group (Some (length made)) → AreChained made last → AreChained (made ++ new ∷ []) last'
@@ -54,15 +52,7 @@ module _ (made : List Watch) (new : Watch) where
 
 -- a watch that was made is there still
 pub has_still : (made more : List Watch) (operator start group : ℕ) → HasWatchFrom made operator start group → HasWatchFrom (made ++ more) operator start group
-has_still made more operator start group (place, is, its) = (
-  place,
-  record {
-    exists = let len = length-append made more in let lt = is.exists in omega arith;
-    from = is.from;
-    its = ap (λ (w : Watch). w.operator) (watch_still made more place is.exists) ∙ is.its;
-  },
-  ap (λ (w : Watch). w.group) (watch_still made more place is.exists) ∙ its,
-)
+has_still made more operator start group h1 = grind (arith, length-append, watch_still)
 
 -- and so is one that is made now
 pub has_now : (made : List Watch) (new : Watch) (start : ℕ) → start ≤ length made → HasWatchFrom (made ++ new ∷ []) new.operator start new.group

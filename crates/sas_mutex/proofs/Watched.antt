@@ -116,8 +116,7 @@ module _ (p : Parts) where
   linked_on : (w : Watches) (group at : ℕ) (next : Option ℕ) → at < length w.made
       → ((place : ℕ) → at ≤ place → place < length w.made → (watch_at w.made place).group ≡ group → IsOver w place)
       → IsLastBelow w.made at group next → IsUnwatchedBehind w group next
-  linked_on w group at None lt over none = grind (arith, common_steps, cases_lt)
-  linked_on w group at (Some k) lt over (lt', its, none) = grind (arith, common_steps, cases_lt)
+  linked_on w group at h1 lt over none = grind (arith, cases_lt)
 
   module _ (b c : Family) (w after : Watches) (operator : ℕ) (falls : Falls p b c) (one_each : length c.kept ≡ length p.groups)
       (anew : IsWatchedAnew operator c.kept w after) where

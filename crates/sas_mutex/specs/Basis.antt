@@ -10,7 +10,7 @@ use Rattle.sas_groups.specs.Families.{IsIn}
 use Rattle.sas_mutex.specs.declared.family.Family.{Family}
 use Rattle.sas_mutex.specs.declared.family.Excluding.{Excluding}
 use Rattle.sas_mutex.specs.Effects.{IsKept}
-use Rattle.sas_groups.specs.Kept.{family_of}
+use Rattle.sas_groups.specs.Runs.{family_of}
 
 -- no group of the family contains the fact that the effect sets and another one
 abbrev pub SetsNone : Parts → List Bool → ℕ → ℕ → Type 0

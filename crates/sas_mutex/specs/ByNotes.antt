@@ -12,13 +12,12 @@ use Rattle.sas_groups.specs.Lists.{known}
 use Rattle.sas_mutex.specs.declared.marks.Marks.{Marks}
 use Rattle.sas_groups.specs.declared.notes.Notes.{Notes}
 use Rattle.sas_groups.specs.Checks.{NotBoth, IsGone, HasNoPartner, AreGone}
-use Rattle.sas_mutex.specs.Effects.{IsKept, KeepsAt, KeepsWithItself}
+use Rattle.sas_mutex.specs.Effects.{IsKept, KeepsAt, KeepsWithItself, EffectPlace, operator_of, effect_of}
 use Rattle.sas_groups.specs.ByVariable.{variable_of}
-use Rattle.sas_mutex.specs.Firing.{EffectPlace, operator_of, effect_of}
 use Rattle.sas_groups.specs.Notes.{value_note, AreNotesOf}
 use Rattle.sas_mutex.specs.Marks.{IsNotedFrom}
 use Rattle.sas_groups.specs.Families.{IsIn}
-use Rattle.sas_groups.specs.Kept.{family_of}
+use Rattle.sas_groups.specs.Runs.{family_of}
 
 -- a group of the family contains both facts
 pub record ShareOne (p : Parts) (kept : List Bool) (f g : Fact) : Type 0 where

@@ -1,11 +1,13 @@
--- What the check of one effect decides.
+-- An effect of a task, and what its check decides.
 use Rattle.std.specs.Prelude.{◌≡◌, ℕ, Bool, List, []}
 use Rattle.sas_core.specs.declared.parts.Fact.{Fact}
 use Rattle.sas_core.specs.declared.parts.Parts.{Parts}
 use Rattle.sas_core.specs.Grounded.{operator_at, effect_at, group_at}
 use Rattle.sas_groups.specs.Families.{IsGroupOf, IsGroupOfOr}
 use Rattle.sas_groups.specs.Checks.{EffectKeeps}
-use Rattle.sas_groups.specs.Kept.{family_of}
+use Rattle.sas_groups.specs.Runs.{family_of}
+use Rattle.sas_core.specs.declared.parts.Effect.{Effect}
+use Rattle.sas_core.specs.declared.parts.Operator.{Operator}
 
 -- the groups of the family
 abbrev pub IsKept : Parts → List Bool → List Fact → Type 0
@@ -25,3 +27,16 @@ KeepsWithItself p kept operator effect place =
 -- the effect with this index has no conditions
 abbrev pub IsUnconditional : Parts → ℕ → ℕ → Type 0
 IsUnconditional p operator effect = (effect_at (operator_at p operator) effect).conditions ≡ []
+
+-- the task, and the effect by the indexes of its operator and of itself
+pub record EffectPlace : Type 0 where
+  pub task : Parts
+  pub operator : ℕ
+  pub effect : ℕ
+
+-- the operator and its effect
+abbrev pub operator_of : EffectPlace → Operator
+operator_of f = operator_at f.task f.operator
+
+abbrev pub effect_of : EffectPlace → Effect
+effect_of f = effect_at (operator_at f.task f.operator) f.effect

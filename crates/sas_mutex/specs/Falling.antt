@@ -5,7 +5,7 @@ use Rattle.sas_core.specs.Grounded.{operator_at, effect_at, group_at}
 use Rattle.sas_groups.specs.Clashes.{sets}
 use Rattle.sas_groups.specs.Families.{IsIn, IsKeptJointly, MayBeExclusive}
 use Rattle.sas_mutex.specs.declared.family.Family.{Family}
-use Rattle.sas_groups.specs.Kept.{family_of}
+use Rattle.sas_groups.specs.Runs.{family_of}
 use Rattle.sas_mutex.specs.Effects.{KeepsAt}
 use Rattle.sas_mutex.specs.Basis.{IsBasis, Excludes}
 

@@ -1,16 +1,16 @@
 -- How the verdicts on all groups of a task are determined.
-use Rattle.std.specs.Prelude.{Bool, ◌≡◌, ℕ, ◌<◌, List, length, Contains, IsFalse}
+use Rattle.std.specs.Prelude.{Bool, ◌≡◌, ℕ, ◌+◌, ◌<◌, List, length, Contains, IsFalse}
 use Rattle.sas_core.specs.declared.parts.Parts.{Parts}
 use Rattle.sas_core.specs.Grounded.{operator_at, effect_at, group_at}
 use Rattle.sas_groups.specs.declared.verdict.Verdict.{Verdict}
 use Rattle.sas_groups.specs.declared.verdict.Verdict.TheVariants.{Exclusive, Derived, Initial, Broken}
 use Rattle.sas_groups.specs.Clashes.{sets, Keeps}
-use Rattle.sas_groups.specs.Families.{IsIn, IsGroupOfOr, MayBeExclusive}
-use Rattle.sas_groups.specs.Verdicts.{IsJointVerdict}
+use Rattle.sas_groups.specs.Families.{IsIn, IsGreatest, IsGroupOfOr, MayBeExclusive}
+use Rattle.sas_groups.specs.Verdicts.{IsJointVerdict, verdict_at}
 use Rattle.sas_groups.specs.Checks.{IsFirstVerdict}
-use Rattle.sas_groups.specs.Kept.{family_of}
-use Rattle.sas_mutex.specs.Effects.{KeepsWithItself}
-use Rattle.sas_groups.specs.Joint.{verdict_at}
+use Rattle.sas_groups.specs.Runs.{family_of}
+use Rattle.sas_mutex.specs.declared.family.Family.{Family}
+use Rattle.sas_mutex.specs.Effects.{KeepsWithItself, EffectPlace}
 
 -- the verdict on each group before operators are checked
 pub record AreFirstVerdicts (p : Parts) (verdicts : List Verdict) : Type 0 where
@@ -49,3 +49,14 @@ pub record AreVerdictsSoFar (p : Parts) (kept : List Bool) (operator effect : �
   pub one_each : length verdicts ≡ length p.groups
   pub are : (place : ℕ) → place < length p.groups
       → IsVerdictSoFar p kept operator effect place (verdict_at verdicts place)
+
+-- the same by the greatest family
+pub record AreJudged (p : Parts) (operator effect : ℕ) (family : Family) (verdicts : List Verdict)
+    : Type 0 where
+  pub greatest : IsGreatest p (family_of family.kept)
+  pub so_far : AreVerdictsSoFar p family.kept operator effect verdicts
+
+-- the verdict on the group considers this effect, too
+abbrev pub IsJudgedAt : EffectPlace → List Bool → List Verdict → ℕ → Type 0
+IsJudgedAt f kept verdicts place =
+    IsVerdictSoFar f.task kept f.operator (f.effect + 1) place (verdict_at verdicts place)

@@ -8,7 +8,6 @@ pub use Rattle.sas_groups.specs.VerdictLaws
 pub use Rattle.sas_groups.specs.Lists
 pub mod Judging
 pub mod Marks
-pub mod Firing
 pub mod Effects
 pub mod Basis
 pub mod ByNotes

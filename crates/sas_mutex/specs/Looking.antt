@@ -4,12 +4,24 @@ use Rattle.sas_core.specs.declared.parts.Parts.{Parts}
 use Rattle.sas_core.specs.Grounded.{operator_at, effect_at, group_at}
 use Rattle.sas_groups.specs.Clashes.{sets}
 use Rattle.sas_groups.specs.Families.{IsIn}
-use Rattle.sas_groups.specs.Kept.{family_of}
+use Rattle.sas_groups.specs.Runs.{family_of}
 use Rattle.sas_mutex.specs.declared.family.Family.{Family}
+use Rattle.sas_mutex.specs.declared.looking.Checker.{Checker}
 use Rattle.sas_mutex.specs.Basis.{IsPartOf}
-use Rattle.sas_mutex.specs.Effects.{KeepsAt, KeepsWithItself, IsUnconditional}
+use Rattle.sas_mutex.specs.ByNotes.{IsNotedAt}
+use Rattle.sas_mutex.specs.Effects.{KeepsAt, KeepsWithItself, IsUnconditional, EffectPlace}
 use Rattle.sas_mutex.specs.Falling.{FamilyHasRoom, Falls, newly}
-use Rattle.sas_mutex.specs.Firing.{EffectPlace}
+use Rattle.sas_mutex.specs.Marks.{IsClean}
+
+-- between two checks: room for all groups that may be removed, and nothing is recorded
+pub record IsIdle (p : Parts) (checker : Checker) : Type 0 where
+  pub room : FamilyHasRoom p checker.family
+  pub clean : IsClean p checker.marks
+
+-- while the effect is checked: the same room, and its known facts are recorded and don't clash
+pub record IsChecking (f : EffectPlace) (checker : Checker) : Type 0 where
+  pub room : FamilyHasRoom f.task checker.family
+  pub notes : IsNotedAt f checker.family.kept checker.marks
 
 -- the property holds for each of these pairs of an effect of the operator and a group of the family
 -- that contains the fact that the effect sets
@@ -25,7 +37,6 @@ ForPairs p operator kept Pairs Property = (effect place : ℕ) → Pairs effect 
 pub record Looked (p : Parts) (operator : ℕ) (Pairs : ℕ → ℕ → Type 0) (before after : Family)
     (alone : Bool) : Type 0 where
   pub falls : Falls p before after
-  pub room : FamilyHasRoom p after
   pub grows : IsPartOf before.basis after.basis
   pub keeps : newly before after ≡ []
       → ForPairs p operator after.kept Pairs (KeepsAt p after.kept operator)

@@ -5,10 +5,10 @@ use Rattle.sas_groups.specs.Families.{IsIn}
 use Rattle.sas_mutex.specs.declared.family.Family.{Family}
 use Rattle.sas_mutex.specs.declared.watches.Watch.{Watch}
 use Rattle.sas_mutex.specs.declared.watches.Watches.{Watches}
-use Rattle.sas_groups.specs.Kept.{family_of}
-use Rattle.sas_mutex.specs.declared.marks.Marks.{Marks}
-use Rattle.sas_mutex.specs.Marks.{IsClean}
-use Rattle.sas_mutex.specs.Falling.{FamilyHasRoom, IsWithin, IsAtRest}
+use Rattle.sas_groups.specs.Runs.{family_of}
+use Rattle.sas_mutex.specs.declared.greatest.Search.{Search}
+use Rattle.sas_mutex.specs.Falling.{IsWithin, IsAtRest}
+use Rattle.sas_mutex.specs.Looking.{IsIdle}
 
 -- the watch with this index
 abbrev pub watch_at : List Watch → ℕ → Watch
@@ -96,11 +96,10 @@ pub record AreWatched (p : Parts) (family : Family) (w : Watches) : Type 0 where
   pub rest : (operator start : ℕ) → since_of w.since operator ≡ Some start
       → RestsBy p family.kept w.made operator start
 
--- between two checks: the above, room for all that may be removed, and nothing is recorded
-pub record IsReady (p : Parts) (family : Family) (w : Watches) (marks : Marks) : Type 0 where
-  pub watched : AreWatched p family w
-  pub room : FamilyHasRoom p family
-  pub clean : IsClean p marks
+-- the same between two checks
+pub record IsReady (p : Parts) (search : Search) : Type 0 where
+  pub watched : AreWatched p search.checker.family search.watches
+  pub idle : IsIdle p search.checker
 
 -- ---- steps
 

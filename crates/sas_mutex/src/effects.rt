@@ -9,9 +9,9 @@ ghost use Rattle.sas_groups.specs.Families.{IsIn};
 ghost use Rattle.sas_groups.specs.ByFact.{HasFactBeside};
 ghost use Rattle.sas_groups.specs.ByVariable.{AreOn};
 ghost use Rattle.sas_groups.specs.Index.{groups_of};
-ghost use Rattle.sas_groups.specs.Runs.{AreOnOne};
-ghost use Rattle.sas_groups.specs.Kept.{family_of};
-ghost use Rattle.sas_mutex.specs.Firing.{operator_of, effect_of};
+ghost use Rattle.sas_groups.specs.Lists.{known_left};
+ghost use Rattle.sas_groups.specs.Runs.{AreOnOne, family_of};
+ghost use Rattle.sas_mutex.specs.Effects.{operator_of, effect_of, IsKept};
 ghost use Rattle.sas_groups.specs.Notes.{IsWide, IsGroupNote};
 ghost use Rattle.sas_mutex.specs.ByNotes.{IsMet, SomeRemoves, RemovesByNotes, known_at};
 ghost use Rattle.sas_mutex.specs.ByNotes.{IsNotedAt, EffectKeepsGroup, EffectKeepsGroupWithItself, BothClashAt, NotBothAt};
@@ -19,14 +19,14 @@ ghost use Rattle.sas_mutex.specs.ByNotes.{ClashesAt, SharesBesideAt};
 ghost use Rattle.sas_mutex.specs.ByNotes.{HasNoPartnerAt, IsSingleOn, BeginsRun, IsOnVariableBefore, SetsBeside, SetsOtherValue};
 ghost use Rattle.sas_mutex.specs.ByNotes.{IsGoneAt, AreGoneAt, IsUnknownAt, IsDecidedByFirst, NeverFires};
 ghost use Rattle.sas_mutex.specs.Basis.{SetsNone, Excludes};
-ghost use Rattle.sas_mutex.specs.Effects.{IsKept};
 ghost use Rattle.sas_mutex.specs.Marks.{IsClean, IsNotedFrom};
 
 use crate::family::Excluding;
-use crate::marks::{Marks, facts_clash, forget_known, note_known};
+use crate::marks::{Marks, facts_clash};
 use sas_core::{Change, Fact, Grounded, Items};
 use sas_groups::{
-    GroupNote, Index, IndexedTask, Known, Notes, Premises, has_noted, shares_apart, some_has,
+    GroupNote, Index, IndexedTask, Known, Notes, Premises, forget, has_noted, note, set_apart,
+    shares_apart, some_has, wider,
 };
 use sas_meaning::Layered;
 use std::marker::Model;
@@ -50,7 +50,7 @@ impl<'a, 'b, T: Grounded> Model for FiringEffect<'a, 'b, T> {
     ghost use Rattle.sas_core.specs.Grounded.{operator_at, effect_at};
     ghost use Rattle.sas_core.specs.WellRanged.{WellRanged};
     ghost use Rattle.sas_groups.specs.Index.{IsIndexOf};
-    ghost use Rattle.sas_mutex.specs.Firing.{EffectPlace};
+    ghost use Rattle.sas_mutex.specs.Effects.{EffectPlace};
 
     ghost Value = { EffectPlace };
 
@@ -121,7 +121,8 @@ impl<'a, 'b, T: Grounded> FiringEffect<'a, 'b, T> {
         false
     }
 
-    /// Records the known facts and returns whether they clash, so that the effect never fires. If they do, not all of them are recorded.
+    /// Records the known facts and returns whether they clash, so that the effect never fires. If they do, not all of them are recorded. A
+    /// known fact that many groups contain may be set apart.
     #[inline(always)]
     pub fn note(&self, kept: &[bool], marks: &mut Marks) -> bool
         requires one_each { length kept.now ≡ length self.now.task.groups }
@@ -131,16 +132,16 @@ impl<'a, 'b, T: Grounded> FiringEffect<'a, 'b, T> {
         ensures from { let f = self.now in
             IsNotedFrom f.task (known_at f.task f.operator f.effect) marks.new }
     {
-        let premises = Premises {
-            operator: self.operator,
-            first: self.task.effect_conditions(self.operator, self.effect),
-            second: &[],
-        };
-        let indexed = IndexedTask {
-            task: self.task,
-            index: self.index,
-        };
-        note_known(&indexed, kept, &premises, marks)
+        let widest = self.widest_known(marks.known.some_wide);
+        // All effects are visited to find the preconditions.
+        marks.known.spread = self.task.effects(self.operator) as usize;
+        set_apart(widest, &mut marks.known);
+        for fact in self.known() {
+            if !note(self.index, kept, fact, &mut marks.known, &marks.deciding) {
+                return true;
+            }
+        }
+        false
     }
 
     /// Removes what is recorded for the known facts.
@@ -150,16 +151,39 @@ impl<'a, 'b, T: Grounded> FiringEffect<'a, 'b, T> {
             IsNotedFrom f.task (known_at f.task f.operator f.effect) marks.old }
         ensures { IsClean self.now.task marks.new }
     {
+        for fact in self.known() {
+            forget(self.index, fact, &mut marks.known);
+        }
+        marks.known.apart = None;
+        marks.known.spread = 0;
+    }
+
+    /// Returns the known fact with the most groups among those with many groups. Returns `None` if there is none, or if `some_wide` is false.
+    fn widest_known(&self, some_wide: bool) -> Option<Fact>
+        ensures { let f = self.now in
+            IfSome result (Contains (known_at f.task f.operator f.effect)) }
+    {
+        if !some_wide {
+            return None;
+        }
+        let mut widest = None;
+        for fact in self.known() {
+            widest = wider(self.index, fact, widest);
+        }
+        widest
+    }
+
+    /// Returns an iterator over the known facts.
+    #[inline(always)]
+    fn known(&self) -> Known<'a, 'a, T>
+        ensures { let f = self.now in known_left result ≡ known_at f.task f.operator f.effect }
+    {
         let premises = Premises {
             operator: self.operator,
             first: self.task.effect_conditions(self.operator, self.effect),
             second: &[],
         };
-        let indexed = IndexedTask {
-            task: self.task,
-            index: self.index,
-        };
-        forget_known(&indexed, &premises, marks);
+        Known::new(self.task, &premises)
     }
 
     /// Returns whether the effect preserves the group, which must be in the family. The known facts must be recorded and must not clash.
@@ -465,12 +489,7 @@ impl<'a, 'b, T: Grounded> FiringEffect<'a, 'b, T> {
             let noted = marks.known.groups.as_slice();
             return has_noted(groups, kept, noted, &marks.deciding);
         }
-        let premises = Premises {
-            operator: self.operator,
-            first: self.task.effect_conditions(self.operator, self.effect),
-            second: &[],
-        };
-        for known in Known::new(self.task, &premises) {
+        for known in self.known() {
             if !marks.known.is_apart(known)
                 && some_has(self.index, kept, known, fact, &marks.deciding)
             {

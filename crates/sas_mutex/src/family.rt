@@ -1,6 +1,6 @@
 // The family: the groups that may still be preserved jointly.
 ghost use Rattle.std.specs.Prelude.{◌≡◌, ◌≤◌, ◌+◌, ◌++◌, [], ◌∷◌, false, ℕ, ◌<◌, length, IsTrue, All, slice_set, vec_capacity};
-ghost use Rattle.sas_groups.specs.Kept.{family_of};
+ghost use Rattle.sas_groups.specs.Runs.{family_of};
 ghost use Rattle.sas_mutex.specs.Falling.{count};
 ghost use Rattle.sas_mutex.specs.Basis.{AreNotedWith, IsBasis, IsPartOf, HasGrown, IsOfNone, IsWithout};
 
@@ -19,6 +19,7 @@ pub struct Excluding {
 pub const MOST_EXCLUDING: usize = 8;
 
 /// The groups that may still be preserved jointly, and those that were removed.
+#[derive(Drop)]
 pub struct Family {
     /// For each group, whether it is in the family.
     pub kept: Items<bool>,
@@ -36,24 +37,6 @@ pub struct Family {
     pub excluding: Items<Excluding>,
 }
 
-impl Drop for Family {
-    fn drop(self) {
-        let Family {
-            kept,
-            fallen,
-            basis,
-            supports,
-            is_short: _,
-            excluding,
-        } = self;
-        drop(kept);
-        drop(fallen);
-        drop(basis);
-        drop(supports);
-        drop(excluding);
-    }
-}
-
 /// Removes these groups from a family.
 fn take_out(list: &mut Items<bool>, groups: &[u32])
     requires low { All (λ (group : ℕ). group < length list.old) groups.now }
@@ -62,16 +45,6 @@ fn take_out(list: &mut Items<bool>, groups: &[u32])
     for group in groups {
         list.set(*group as usize, false);
     }
-}
-
-/// Appends one to those that are noted. If they are too many, these are removed before.
-fn note(noted: &mut Items<Excluding>, found: Excluding)
-    ensures { AreNotedWith found noted.old noted.new }
-{
-    if noted.len() >= MOST_EXCLUDING {
-        noted.clear();
-    }
-    let _ = noted.push(found);
 }
 
 impl Family {
@@ -125,12 +98,16 @@ impl Family {
         self.basis.set(group as usize, true);
     }
 
-    /// Notes that a fact excludes others.
+    /// Notes that a fact excludes others. If too many are noted, these are removed before.
     pub fn note_excluding(&mut self, found: Excluding)
         ensures grown { HasGrown self.old self.new }
         ensures excluding { AreNotedWith found self.old.excluding self.new.excluding }
     {
-        note(&mut self.excluding, found);
+        let noted = &mut self.excluding;
+        if noted.len() >= MOST_EXCLUDING {
+            noted.clear();
+        }
+        let _ = noted.push(found);
     }
 
     /// Removes all groups from the basis.

@@ -4,21 +4,20 @@ ghost use Rattle.sas_groups.specs.Clashes.{sets};
 ghost use Rattle.sas_groups.specs.Families.{IsGreatest};
 ghost use Rattle.sas_groups.specs.declared.verdict.Verdict.{Verdict};
 ghost use Rattle.sas_groups.specs.declared.verdict.Verdict.TheVariants.{Exclusive};
-ghost use Rattle.sas_groups.specs.Kept.{family_of};
-ghost use Rattle.sas_mutex.specs.Firing.{effect_of};
+ghost use Rattle.sas_groups.specs.Runs.{family_of};
+ghost use Rattle.sas_mutex.specs.Effects.{effect_of};
 ghost use Rattle.sas_groups.specs.ByFact.{HasFact};
-ghost use Rattle.sas_mutex.specs.Marks.{IsClean};
 ghost use Rattle.sas_groups.specs.Noting.{AreBelow};
-ghost use Rattle.sas_mutex.specs.ByNotes.{IsNotedAt};
-ghost use Rattle.sas_groups.specs.Joint.{verdict_at, AreJointVerdicts, AreInvariants};
-ghost use Rattle.sas_mutex.specs.Judging.{AreFirstVerdicts, IsUndecided, IsVerdictSoFar, AreVerdictsSoFar};
+ghost use Rattle.sas_groups.specs.Verdicts.{verdict_at, AreJointVerdicts, AreInvariants};
+ghost use Rattle.sas_mutex.specs.Judging.{AreFirstVerdicts, IsUndecided, AreJudged, IsJudgedAt};
 ghost use Rattle.sas_mutex.specs.Basis.{IsOfNone};
-ghost use Rattle.sas_mutex.specs.Falling.{FamilyHasRoom};
+ghost use Rattle.sas_mutex.specs.Falling.{AreCandidates};
+ghost use Rattle.sas_mutex.specs.Looking.{IsIdle, IsChecking};
 
 use crate::effects::FiringEffect;
 use crate::family::{Family, MOST_EXCLUDING};
-use crate::greatest::find_greatest;
-use crate::looking::keeps_removed;
+use crate::greatest::Search;
+use crate::looking::Checker;
 use crate::marks::Marks;
 use crate::watches::Watches;
 use sas_core::{Grounded, Items};
@@ -62,15 +61,29 @@ fn judge_indexed<T: Grounded>(
     requires { AreFirstVerdicts indexed.now verdicts.old }
     ensures { IfOk result (λ _. AreJointVerdicts indexed.now verdicts.new) }
 {
-    let mut family = candidates(alloc, verdicts.as_slice())?;
-    let mut marks = Marks::new(alloc, indexed)?;
-    let mut watches = Watches::new(alloc, indexed.task.groups(), indexed.task.operators())?;
-    find_greatest(indexed, &mut watches, &mut family, &mut marks);
-    find_breaking(indexed, &mut family, verdicts, &mut marks);
-    drop(watches);
-    drop(marks);
-    drop(family);
+    let watches = Watches::new(alloc, indexed.task.groups(), indexed.task.operators())?;
+    let checker = first_checker(alloc, indexed, verdicts.as_slice())?;
+    let mut search = Search { checker, watches };
+    search.find_greatest(indexed);
+    find_breaking(indexed, &mut search.checker, verdicts);
+    drop(search);
     Ok(())
+}
+
+/// Returns a checker that assumes all groups that may be exclusive.
+fn first_checker<T: Grounded>(
+    alloc: Global,
+    indexed: &IndexedTask<'_, '_, T>,
+    verdicts: &[Verdict],
+) -> Result<Checker, AllocError>
+    requires { AreFirstVerdicts indexed.now verdicts.now }
+    ensures idle { IfOk result (λ checker. IsIdle indexed.now checker) }
+    ensures candidates { IfOk result (λ checker. AreCandidates indexed.now checker.family.kept) }
+    ensures none { IfOk result (λ checker. checker.family.fallen.items ≡ []) }
+{
+    let marks = Marks::new(alloc, indexed)?;
+    let family = candidates(alloc, verdicts)?;
+    Ok(Checker { family, marks })
 }
 
 /// Returns the verdict on each group before operators are checked.
@@ -131,27 +144,25 @@ fn some_exclusive(verdicts: &[Verdict]) -> bool
         .any(|verdict| *verdict == Verdict::Exclusive)
 }
 
-/// Finds, for each removed group, the first operator that doesn't preserve it, assuming the greatest family and the group itself. `family`
-/// must be the greatest family.
+/// Finds, for each removed group, the first operator that doesn't preserve it, assuming the greatest family and the group itself. The
+/// family of the checker must be the greatest one.
 fn find_breaking<T: Grounded>(
     indexed: &IndexedTask<'_, '_, T>,
-    family: &mut Family,
+    checker: &mut Checker,
     verdicts: &mut Items<Verdict>,
-    marks: &mut Marks,
 )
-    requires greatest { IsGreatest indexed.now (family_of family.old.kept) }
-    requires room { FamilyHasRoom indexed.now family.old }
+    requires greatest { IsGreatest indexed.now (family_of checker.old.family.kept) }
     requires first { AreFirstVerdicts indexed.now verdicts.old }
-    requires clean { IsClean indexed.now marks.old }
+    requires idle { IsIdle indexed.now checker.old }
     ensures { AreJointVerdicts indexed.now verdicts.new }
 {
     let groups = indexed.task.groups();
     // Usually no group is left.
-    if !some_fell(groups, family.kept.as_slice(), verdicts.as_slice()) {
+    if !some_fell(groups, checker.family.kept.as_slice(), verdicts.as_slice()) {
         return;
     }
     for operator in 0..indexed.task.operators() {
-        find_broken_by(indexed, operator, family, verdicts, marks);
+        find_broken_by(indexed, operator, checker, verdicts);
     }
 }
 
@@ -174,23 +185,18 @@ fn some_fell(groups: u32, kept: &[bool], verdicts: &[Verdict]) -> bool
 fn find_broken_by<T: Grounded>(
     indexed: &IndexedTask<'_, '_, T>,
     operator: u32,
-    family: &mut Family,
+    checker: &mut Checker,
     verdicts: &mut Items<Verdict>,
-    marks: &mut Marks,
 )
     requires operator { operator < length indexed.now.operators }
-    requires greatest { IsGreatest indexed.now (family_of family.old.kept) }
-    requires room { FamilyHasRoom indexed.now family.old }
-    requires so_far { AreVerdictsSoFar indexed.now family.old.kept operator 0 verdicts.old }
-    requires clean { IsClean indexed.now marks.old }
-    ensures so_far { AreVerdictsSoFar indexed.now family.old.kept (operator + 1) 0 verdicts.new }
-    ensures kept { family.new.kept ≡ family.old.kept }
-    ensures room { FamilyHasRoom indexed.now family.new }
-    ensures clean { IsClean indexed.now marks.new }
+    requires judged { AreJudged indexed.now operator 0 checker.old.family verdicts.old }
+    requires idle { IsIdle indexed.now checker.old }
+    ensures judged { AreJudged indexed.now (operator + 1) 0 checker.new.family verdicts.new }
+    ensures idle { IsIdle indexed.now checker.new }
 {
     for effect in 0..indexed.task.effects(operator) {
         let firing = FiringEffect::new(indexed, operator, effect);
-        find_broken_by_effect(&firing, family, verdicts, marks);
+        find_broken_by_effect(&firing, checker, verdicts);
     }
 }
 
@@ -198,29 +204,25 @@ fn find_broken_by<T: Grounded>(
 /// are recorded once for all groups. If they clash, the effect never fires.
 fn find_broken_by_effect<T: Grounded>(
     firing: &FiringEffect<'_, '_, T>,
-    family: &mut Family,
+    checker: &mut Checker,
     verdicts: &mut Items<Verdict>,
-    marks: &mut Marks,
 )
-    requires greatest { IsGreatest firing.now.task (family_of family.old.kept) }
-    requires room { FamilyHasRoom firing.now.task family.old }
-    requires so_far { let f = firing.now in
-        AreVerdictsSoFar f.task family.old.kept f.operator f.effect verdicts.old }
-    requires clean { IsClean firing.now.task marks.old }
-    ensures so_far { let f = firing.now in
-        AreVerdictsSoFar f.task family.old.kept f.operator (f.effect + 1) verdicts.new }
-    ensures kept { family.new.kept ≡ family.old.kept }
-    ensures room { FamilyHasRoom firing.now.task family.new }
-    ensures clean { IsClean firing.now.task marks.new }
+    requires judged { let f = firing.now in
+        AreJudged f.task f.operator f.effect checker.old.family verdicts.old }
+    requires idle { IsIdle firing.now.task checker.old }
+    ensures judged { let f = firing.now in
+        AreJudged f.task f.operator (f.effect + 1) checker.new.family verdicts.new }
+    ensures idle { IsIdle firing.now.task checker.new }
 {
     let groups = firing.groups();
-    if !some_undecided(groups, family.kept.as_slice(), verdicts.as_slice()) {
+    let kept = checker.family.kept.as_slice();
+    if !some_undecided(groups, kept, verdicts.as_slice()) {
         return;
     }
-    if !firing.note(family.kept.as_slice(), marks) {
-        judge_groups(firing, groups, family, verdicts, marks);
+    if !firing.note(kept, &mut checker.marks) {
+        judge_groups(firing, groups, checker, verdicts);
     }
-    firing.forget(marks);
+    firing.forget(&mut checker.marks);
 }
 
 /// Returns whether one of these groups was removed and no operator that breaks it was found yet.
@@ -251,28 +253,21 @@ fn is_undecided(group: u32, kept: &[bool], verdicts: &[Verdict]) -> bool
 fn judge_groups<T: Grounded>(
     firing: &FiringEffect<'_, '_, T>,
     groups: &[u32],
-    family: &mut Family,
+    checker: &mut Checker,
     verdicts: &mut Items<Verdict>,
-    marks: &mut Marks,
 )
     requires have { All (λ (place : ℕ). HasFact firing.now.task place
         (sets (effect_of firing.now))) groups.now }
-    requires greatest { IsGreatest firing.now.task (family_of family.old.kept) }
-    requires room { FamilyHasRoom firing.now.task family.old }
-    requires so_far { let f = firing.now in
-        AreVerdictsSoFar f.task family.old.kept f.operator f.effect verdicts.old }
-    requires notes { IsNotedAt firing.now family.old.kept marks.old }
-    ensures so_far { let f = firing.now in
-        AreVerdictsSoFar f.task family.old.kept f.operator f.effect verdicts.new }
+    requires judged { let f = firing.now in
+        AreJudged f.task f.operator f.effect checker.old.family verdicts.old }
+    requires checking { IsChecking firing.now checker.old }
     ensures judged { let f = firing.now in
-        All (λ (place : ℕ). IsVerdictSoFar f.task family.old.kept f.operator (f.effect + 1) place
-        (verdict_at verdicts.new place)) groups.now }
-    ensures kept { family.new.kept ≡ family.old.kept }
-    ensures room { FamilyHasRoom firing.now.task family.new }
-    ensures notes { IsNotedAt firing.now family.old.kept marks.new }
+        AreJudged f.task f.operator f.effect checker.new.family verdicts.new }
+    ensures these { All (IsJudgedAt firing.now checker.new.family.kept verdicts.new) groups.now }
+    ensures checking { IsChecking firing.now checker.new }
 {
     for group in groups {
-        judge_group(firing, *group, family, verdicts, marks);
+        judge_group(firing, *group, checker, verdicts);
     }
 }
 
@@ -281,29 +276,23 @@ fn judge_groups<T: Grounded>(
 fn judge_group<T: Grounded>(
     firing: &FiringEffect<'_, '_, T>,
     group: u32,
-    family: &mut Family,
+    checker: &mut Checker,
     verdicts: &mut Items<Verdict>,
-    marks: &mut Marks,
 )
     requires has { HasFact firing.now.task group (sets (effect_of firing.now)) }
-    requires greatest { IsGreatest firing.now.task (family_of family.old.kept) }
-    requires room { FamilyHasRoom firing.now.task family.old }
-    requires so_far { let f = firing.now in
-        AreVerdictsSoFar f.task family.old.kept f.operator f.effect verdicts.old }
-    requires notes { IsNotedAt firing.now family.old.kept marks.old }
-    ensures so_far { let f = firing.now in
-        AreVerdictsSoFar f.task family.old.kept f.operator f.effect verdicts.new }
+    requires judged { let f = firing.now in
+        AreJudged f.task f.operator f.effect checker.old.family verdicts.old }
+    requires checking { IsChecking firing.now checker.old }
     ensures judged { let f = firing.now in
-        IsVerdictSoFar f.task family.old.kept f.operator (f.effect + 1) group
-        (verdict_at verdicts.new group) }
+        AreJudged f.task f.operator f.effect checker.new.family verdicts.new }
+    ensures this { IsJudgedAt firing.now checker.new.family.kept verdicts.new group }
     ensures others { (place : ℕ) → place ≢ group
         → verdict_at verdicts.new place ≡ verdict_at verdicts.old place }
-    ensures kept { family.new.kept ≡ family.old.kept }
-    ensures room { FamilyHasRoom firing.now.task family.new }
-    ensures notes { IsNotedAt firing.now family.old.kept marks.new }
+    ensures kept { checker.new.family.kept ≡ checker.old.family.kept }
+    ensures checking { IsChecking firing.now checker.new }
 {
-    if is_undecided(group, family.kept.as_slice(), verdicts.as_slice())
-        && !keeps_removed(firing, group, family, marks)
+    if is_undecided(group, checker.family.kept.as_slice(), verdicts.as_slice())
+        && !checker.keeps_removed(firing, group)
     {
         let operator = firing.operator;
         verdicts.set(group as usize, Verdict::Broken { operator });

@@ -1,21 +1,19 @@
 // Records facts while effects are checked, and decides whether facts clash.
-ghost use Rattle.std.specs.Prelude.{◌≡◌, ◌<◌, ◌↔◌, length, IsTrue, IsFalse, IfOk, IfSome, All, Contains};
+ghost use Rattle.std.specs.Prelude.{◌↔◌, IsTrue, IfOk, All};
 ghost use Rattle.sas_core.specs.Variables.{FactExists};
 ghost use Rattle.sas_groups.specs.Clashes.{Clash};
-ghost use Rattle.sas_groups.specs.Lists.{known_on};
 ghost use Rattle.sas_mutex.specs.Effects.{IsKept};
 ghost use Rattle.sas_groups.specs.Notes.{AreBlank, AreFrom};
-ghost use Rattle.sas_mutex.specs.ByNotes.{AreKnown};
-ghost use Rattle.sas_mutex.specs.Marks.{IsClean, IsNotedFrom};
+ghost use Rattle.sas_mutex.specs.Marks.{IsClean};
 
 use sas_core::{Fact, Grounded};
 use sas_groups::{
-    DecidingGroups, IndexedTask, Known, Notes, Premises, forget, forget_facts, has_wide, note,
-    set_apart, wider, widest_of,
+    DecidingGroups, IndexedTask, Notes, forget_facts, has_wide, note, set_apart, widest_of,
 };
 use std::alloc::{AllocError, Global};
 
 /// The facts that are recorded while effects are checked.
+#[derive(Drop)]
 pub struct Marks {
     /// The known facts of the current effect.
     pub known: Notes,
@@ -23,19 +21,6 @@ pub struct Marks {
     pub others: Notes,
     /// The groups that were used in tests.
     pub deciding: DecidingGroups,
-}
-
-impl Drop for Marks {
-    fn drop(self) {
-        let Marks {
-            known,
-            others,
-            deciding,
-        } = self;
-        drop(known);
-        drop(others);
-        drop(deciding);
-    }
 }
 
 impl Marks {
@@ -53,73 +38,6 @@ impl Marks {
             deciding: DecidingGroups::new(),
         })
     }
-}
-
-/// Records the known facts and returns whether they clash. If they do, not all of them are recorded. A fact that many groups contain may be
-/// set apart.
-pub fn note_known<T: Grounded>(
-    indexed: &IndexedTask<'_, '_, T>,
-    kept: &[bool],
-    premises: &Premises<'_>,
-    marks: &mut Marks,
-) -> bool
-    requires one_each { length kept.now ≡ length indexed.now.groups }
-    requires operator { premises.now.operator < length indexed.now.operators }
-    requires exist { All (FactExists indexed.now.variables) (known_on indexed.now premises.now) }
-    requires clean { IsClean indexed.now marks.old }
-    ensures yes { IsTrue result
-        → Clash (IsKept indexed.now kept.now) (known_on indexed.now premises.now) }
-    ensures known { IsFalse result
-        → AreKnown indexed.now kept.now (known_on indexed.now premises.now) marks.new.known }
-    ensures from { IsNotedFrom indexed.now (known_on indexed.now premises.now) marks.new }
-{
-    let widest = widest_known(indexed, premises, marks.known.some_wide);
-    // All effects are visited to find the preconditions.
-    marks.known.spread = indexed.task.effects(premises.operator) as usize;
-    set_apart(widest, &mut marks.known);
-    for fact in Known::new(indexed.task, premises) {
-        if !note(indexed.index, kept, fact, &mut marks.known, &marks.deciding) {
-            return true;
-        }
-    }
-    false
-}
-
-/// Returns the known fact with the most groups among those with many groups. Returns `None` if there is none, or if `some_wide` is false.
-fn widest_known<T: Grounded>(
-    indexed: &IndexedTask<'_, '_, T>,
-    premises: &Premises<'_>,
-    some_wide: bool,
-) -> Option<Fact>
-    requires { premises.now.operator < length indexed.now.operators }
-    ensures { IfSome result (Contains (known_on indexed.now premises.now)) }
-{
-    if !some_wide {
-        return None;
-    }
-    let mut widest = None;
-    for fact in Known::new(indexed.task, premises) {
-        widest = wider(indexed.index, fact, widest);
-    }
-    widest
-}
-
-/// Removes what is recorded for the known facts.
-pub fn forget_known<T: Grounded>(
-    indexed: &IndexedTask<'_, '_, T>,
-    premises: &Premises<'_>,
-    marks: &mut Marks,
-)
-    requires operator { premises.now.operator < length indexed.now.operators }
-    requires exist { All (FactExists indexed.now.variables) (known_on indexed.now premises.now) }
-    requires from { IsNotedFrom indexed.now (known_on indexed.now premises.now) marks.old }
-    ensures { IsClean indexed.now marks.new }
-{
-    for fact in Known::new(indexed.task, premises) {
-        forget(indexed.index, fact, &mut marks.known);
-    }
-    marks.known.apart = None;
-    marks.known.spread = 0;
 }
 
 /// Returns whether the facts clash. `notes` must be empty, and is empty again on return.

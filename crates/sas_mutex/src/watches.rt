@@ -16,6 +16,7 @@ pub struct Watch {
 }
 
 /// All watches in the order in which they were added. The watches of each group form a linked list.
+#[derive(Drop)]
 pub struct Watches {
     pub made: Items<Watch>,
     /// For each group, the index of its last watch.
@@ -25,20 +26,6 @@ pub struct Watches {
     pub since: Items<Option<u32>>,
     /// The maximum number of watches.
     pub room: usize,
-}
-
-impl Drop for Watches {
-    fn drop(self) {
-        let Watches {
-            made,
-            last,
-            since,
-            room: _,
-        } = self;
-        drop(made);
-        drop(last);
-        drop(since);
-    }
 }
 
 /// The number of watches reserved per operator. Reserved memory that isn't used isn't taken from the system.

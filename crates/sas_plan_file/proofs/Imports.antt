@@ -22,7 +22,7 @@ pub use Rattle.sas_lines.proofs.Splitting.{return_length}
 pub use Rattle.sas_lines.proofs.Words.{NoSpace, NoSpace-decimal, joined-words}
 pub use Rattle.sas_lines.specs.Spelling.{joined}
 pub use Rattle.sas_lines.specs.Lines.{text, without_return}
-pub use Rattle.sas_lines.specs.EndedLines.{EndedLines}
+pub use Rattle.sas_lines.specs.FirstLines.{EndedLines}
 pub use Rattle.sas_lines.proofs.Beginnings.{front_of_lines}
 unfoldable pub use Rattle.sas_lines.specs.Lines.{lines}
 pub use Rattle.sas_reader.proofs.About.{about_laws_of}
@@ -52,8 +52,7 @@ pub use Rattle.sas_reader.specs.declared.fault.Fault.{Fault}
 pub use Rattle.sas_reader.specs.declared.found.Excerpt.{Excerpt}
 pub use Rattle.sas_reader.specs.declared.fault.Kind.{Kind}
 pub use Rattle.sas_reader.specs.declared.fault.Kind.TheVariants.{Keyword, Name, Shape}
-pub use Rattle.sas_plan_file.specs.PlanFormat.{step, plan_line_bytes, plan_format, PlanLineFits, cost, plan_texts, PlanLine, plan_layout, cost_front, cost_words, like_step, like_cost, like_none, BeginsWith, PlanKind}
-pub use Rattle.sas_plan_file.specs.PlanLaws.{PlanIsFilled, filling_cost_line}
+pub use Rattle.sas_plan_file.specs.PlanFormat.{step, plan_line_bytes, plan_format, PlanLineFits, cost, plan_texts, PlanLine, plan_layout, cost_front, cost_words, like_step, like_cost, like_none, BeginsWith, PlanKind, PlanIsFilled, filling_cost_line}
 pub use Rattle.sas_plan_file.specs.PlanLine.{StepStandsFirst, Names, Costs}
 pub use Rattle.sas_plan_file.specs.PlanMachine.{plan_line_ok, PlanState, going, closed, plan_node, plan_start, plan_next, HasCostLine, plan_behavior, plan_state, StepsOn}
 pub use Rattle.sas_plan_file.specs.PlanReader.{plan_view}

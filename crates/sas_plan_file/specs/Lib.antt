@@ -1,6 +1,5 @@
 pub mod PlanTexts
 pub mod PlanFormat
-pub mod PlanLaws
 pub mod PlanMachine
 pub mod PlanLine
 pub mod PlanReader

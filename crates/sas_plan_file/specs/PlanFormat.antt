@@ -1,11 +1,14 @@
 -- What is wrong with a line of a plan file, and the format of plan files.
-use Rattle.std.specs.Prelude.{◌≡◌, ℕ, List, length, take, codes}
+use Rattle.std.specs.Prelude.{◌≡◌, ℕ, List, length, take, codes, ◌⊎◌, [], ◌∷◌, ◌++◌}
 use Rattle.sas_core.specs.PlanParts.{PlanParts}
 use Rattle.sas_core.specs.Numbers.{IsPlanCost}
 use Rattle.sas_reader.specs.declared.fault.Kind.{Kind}
 use Rattle.sas_reader.specs.declared.fault.Kind.TheVariants.{Keyword, Name, Shape}
-use Rattle.sas_reader.specs.Format.{Format}
+use Rattle.sas_reader.specs.Format.{Format, IsBegun}
 pub use Rattle.sas_plan_file.specs.PlanTexts.{PlanLine, step, cost, cost_words, cost_front, plan_line_bytes, plan_layout, plan_texts}
+use Rattle.sas_core.specs.declared.plan.CostKind.TheVariants as costs
+use Rattle.sas_core.specs.WellNamed.{WellNamed}
+use Rattle.sas_reader.specs.Texts.{lines_of}
 
 -- a cost is at most 18,446,744,073,709,551,615
 abbrev pub PlanLineFits : PlanLine → Type 0
@@ -30,3 +33,14 @@ plan_format = record {
   slot_of = λ _. tt;
   KindOf = λ _ line kind. PlanKind line kind;
 }
+
+-- the line `; cost = 0 (unit cost)`
+abbrev pub filling_cost_line : List ℕ
+filling_cost_line = plan_line_bytes (cost 0 costs.Unit)
+
+-- lines that begin a plan are all lines of some plan, with or without the filling at the end
+abbrev pub PlanIsFilled : Type 0
+PlanIsFilled = (begun : List (List ℕ)) → IsBegun plan_format begun → (p : PlanParts)
+    × WellNamed p
+    × ((lines_of plan_texts p ≡ begun)
+    ⊎ (lines_of plan_texts p ≡ begun ++ filling_cost_line ∷ []))

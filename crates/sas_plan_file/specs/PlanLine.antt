@@ -4,7 +4,7 @@ use Rattle.std.specs.Fmt.{decimal}
 use Rattle.sas_core.specs.declared.plan.CostKind.{CostKind}
 use Rattle.sas_core.specs.Names.{IsName}
 use Rattle.sas_core.specs.Numbers.{IsPlanCost}
-use Rattle.sas_lines.specs.EndedLines.{EndedLines}
+use Rattle.sas_lines.specs.FirstLines.{EndedLines}
 use Rattle.sas_reader.specs.declared.fault.Kind.{Kind}
 use Rattle.sas_plan_file.specs.declared.plan_line.PlanLine as code
 use Rattle.sas_plan_file.specs.declared.plan_line.PlanLine.TheVariants as variants

@@ -2,8 +2,7 @@
 ghost use Rattle.sas_reader.specs.Laws.{Laws};
 ghost use Rattle.sas_reader.specs.System.{Grammar};
 ghost use Rattle.sas_reader.specs.About.{AboutLaws};
-ghost use Rattle.sas_plan_file.specs.PlanFormat.{plan_format, PlanLineFits};
-ghost use Rattle.sas_plan_file.specs.PlanLaws.{PlanIsFilled};
+ghost use Rattle.sas_plan_file.specs.PlanFormat.{plan_format, PlanLineFits, PlanIsFilled};
 ghost use Rattle.sas_plan_file.specs.PlanMachine.{plan_node, plan_start};
 
 /// Ensures the laws of plan files. No byte list is a text of two plans. The texts of a plan are its lines, each ended by LF or by CR LF.

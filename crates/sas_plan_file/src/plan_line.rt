@@ -7,7 +7,7 @@ ghost use Rattle.sas_plan_file.specs.PlanLine.{Names, Costs, JudgesPlanLine, Ste
 
 use sas_core::{CostKind, is_name};
 use sas_lines::cost;
-use sas_reader::{Kind, behind_line, plain_end};
+use sas_reader::{Kind, LineEnd, plain_end};
 
 /// The content of a line of a plan file: the name of a step, or the cost.
 #[derive(Clone, Copy, Debug, PartialEq, Eq)]
@@ -105,11 +105,11 @@ fn in_parentheses(line: &[u8]) -> Option<&[u8]>
 /// Returns the name of the step on the first line of the bytes, and the bytes after the line, if its end is at the first byte that is at
 /// most CR. Otherwise returns `None`, and the line has to be read by `plan_line`.
 #[inline(always)]
-pub fn step_ahead(bytes: &[u8]) -> Option<(&[u8], &[u8])>
+pub fn step_ahead<E: LineEnd>(bytes: &[u8]) -> Option<(&[u8], &[u8])>
     ensures { IfSome result (λ a. StepStandsFirst bytes.now a.0.now a.1.now) }
 {
     let end = plain_end(bytes)?;
     let name = in_parentheses(&bytes[..end])?;
-    let rest = behind_line(bytes, end)?;
+    let rest = E::behind(bytes, end)?;
     Some((name, rest))
 }

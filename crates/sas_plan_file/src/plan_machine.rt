@@ -6,7 +6,7 @@ use crate::plan_line::{PlanLine, plan_line, step_ahead};
 use crate::step_names::NameList;
 use sas_core::{CostKind, Items, Plan};
 use sas_flat::{FlatPlan, Lists};
-use sas_reader::{Front, Kind, Machine};
+use sas_reader::{Front, Kind, LineEnd, Machine};
 use std::alloc::Global;
 use std::marker::Model;
 
@@ -133,10 +133,10 @@ impl<S: NameList> Machine for PlanMachine<S> {
         }
     }
 
-    fn accept_ahead(&mut self, bytes: &[u8]) -> Result<Front, Kind> {
+    fn accept_ahead<E: LineEnd>(&mut self, bytes: &[u8]) -> Result<Front, Kind> {
         let mut lines = 0;
         let mut rest = bytes;
-        while let Some((name, behind)) = step_ahead(rest) {
+        while let Some((name, behind)) = step_ahead::<E>(rest) {
             self.add_step(name)?;
             lines += 1;
             rest = behind;

@@ -3,7 +3,7 @@ ghost use Rattle.std.specs.Prelude.{◌≡◌, ◌<◌, [], ◌∷◌, ◌++◌,
 
 use crate::plan_line::{PlanLine, plan_line, step_ahead};
 use sas_lines::push_line;
-use sas_reader::{Front, Kind, Machine};
+use sas_reader::{Front, Kind, LineEnd, Machine};
 use std::alloc::Global;
 
 /// The lines so far, each ended by LF, and whether the cost has been read.
@@ -46,6 +46,7 @@ impl PlanText {
     }
 
     /// Appends the line that consists of the first `count` bytes. It is appended with the byte after it, which is LF, or a CR that becomes LF.
+    #[inline(always)]
     fn keep_first(&mut self, bytes: &[u8], count: usize) -> Result<(), Kind>
         requires { count < length bytes.now }
         ensures ok { OnOk result (self.new.text.items
@@ -81,10 +82,10 @@ impl Machine for PlanText {
         Ok(())
     }
 
-    fn accept_ahead(&mut self, bytes: &[u8]) -> Result<Front, Kind> {
+    fn accept_ahead<E: LineEnd>(&mut self, bytes: &[u8]) -> Result<Front, Kind> {
         let mut lines = 0;
         let mut rest = bytes;
-        while let Some((name, behind)) = step_ahead(rest) {
+        while let Some((name, behind)) = step_ahead::<E>(rest) {
             self.keep_first(rest, name.len() + 2)?;
             lines += 1;
             rest = behind;

@@ -1,6 +1,6 @@
 -- What is known of a run that was retraced up to a fault.
 use Rattle.std.proofs.lemmas.Grind.{common_steps}
-use Rattle.sas_plan_reasons.proofs.Imports.{◌≡◌, ℕ, ◌-◌, List, [], ◌∷◌, ◌++◌, length, take, Option, None, Some, refl, sym, ◌∙◌, ap, subst, inl, inr, arith, append-nil, take-append_seam, Parts, PlanParts, operator_at, IsState, IsLayered, IsSettled, Agree, Conflict, LeadsTo, ComesTo, IsFaultOf, leads_one_way, Line, Run, last_state, StepsSucceed, leads_to_last, OtherOperator, PlanHistory, IsOtherIfAny, Retraces, IsBehind, ReportsOnce, last_rests, AreCouldBeLines, AreFaultLines, IsWhy}
+use Rattle.sas_plan_reasons.proofs.Imports.{◌≡◌, ℕ, zero, suc, ◌-◌, ◌<◌, List, [], ◌∷◌, ◌++◌, length, take, get_or, Option, None, Some, refl, sym, ◌∙◌, ap, subst, inl, inr, arith, append-nil, take-append_seam, Parts, PlanParts, operator_at, IsState, IsLayered, IsSettled, Agree, NoOperator, Conflict, IsNamed, LeadFrom, LeadsTo, ComesTo, IsFaultOf, leads_one_way, Line, Run, last_state, StepsSucceed, leads_to_last, OtherOperator, PlanHistory, IsOtherIfAny, Retraces, ComesUnambiguously, IsBehind, ReportsOnce, last_rests, AreCouldBeLines, AreFaultLines, IsWhy, Executed, IsFound, HaveNoNamesakes, PlanFault, step_at, nameless_lines, with_lines}
 use Rattle.sas_answers.specs.declared.line.Line.TheVariants as line
 
 module _ (p : Parts) (plan : PlanParts) (history : PlanHistory) (run : Run) (r : Retraces p plan history run) where
@@ -39,6 +39,41 @@ module _ (p : Parts) (plan : PlanParts) (history : PlanHistory) (run : Run) (r :
       at None e = why [] (inr (subst (IsOtherIfAny p run) e r.other, refl)) (none e ∙ sym (append-nil lines))
       at (Some other) e = why (line.CouldBe other.step other.operator ∷ [])
           (inl (other.step, other.operator, subst (IsOtherIfAny p run) e r.other, refl)) (some other e)
+
+-- ---- no other operator
+
+-- each step has the name of its operator
+named_along : (p : Parts) (s : List ℕ) (names : List (List ℕ)) (operators last : List ℕ) → LeadFrom p s names operators last
+    → (k : ℕ) → k < length names → IsNamed p (get_or names k []) (get_or operators k 0)
+named_along p s [] operators last goes k lt = absurd (omega (arith, lt))
+named_along p s (name ∷ names) [] last goes k lt = absurd goes
+named_along p s (name ∷ names) (operator ∷ operators) last goes zero lt = (let chosen = goes.1 in chosen.of_name)
+named_along p s (name ∷ names) (operator ∷ operators) last goes (suc k) lt = named_along p goes.0 names operators last goes.3 k (omega (arith, lt))
+
+none_other : (p : Parts) (run : Run) → StepsSucceed p run → HaveNoNamesakes p run.operators → IsOtherIfAny p run None
+none_other p run through none k operator is =
+    let leads = leads_to_last p run through in
+    let named = named_along p leads.initial run.steps run.operators (last_state run) leads.goes k is.exists in
+    none k operator (omega (arith, is.exists, through.operators)) is.above (subst (λ name. IsNamed p name operator) (sym named.named) is.of_name)
+
+-- the run of an execution that found the fault
+pub comes_unambiguously : (p : Parts) (plan : PlanParts) (fault : PlanFault) (e : Executed) (found : IsFound p plan (Some fault) e) → HaveNoNamesakes e.task e.operators
+    → ComesUnambiguously p plan fault found.run
+comes_unambiguously p plan fault e found none = grind (arith, none_other)
+
+-- the reasons where no operator has the step's name
+pub unknown_why : (p : Parts) (plan : PlanParts) (step : ℕ) (run : Run) (lines : List Line) → ComesUnambiguously p plan (NoOperator step) run
+    → ReportsOnce lines (λ its. its ≡ nameless_lines p plan step (step_at plan (step - 1))) → IsWhy p plan (NoOperator step) lines
+unknown_why p plan step run lines comes reported = record {
+  run = run;
+  went = comes.ends.1;
+  through = comes.through;
+  reasons = reported.0;
+  are = reported.1;
+  others = [];
+  may = inr (comes.none, refl);
+  whole = reported.2 ∙ sym (append-nil (with_lines [] reported.0));
+}
 
 -- ---- the state before a step
 

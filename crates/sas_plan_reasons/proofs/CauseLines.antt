@@ -1,7 +1,7 @@
 -- The rules that concern a fact that doesn't hold. A fact has exactly one cause.
 use Rattle.std.proofs.Common.{arith}
 use Rattle.std.proofs.lemmas.Grind.{common_steps}
-use Rattle.sas_plan_reasons.proofs.Imports.{IsDerived, IsTrue, can_be_given, ◌≡◌, ℕ, ◌<◌, Bool, true, false, List, [], ◌∷◌, ◌++◌, length, get_or, slice_index, Some, refl, sym, ◌∙◌, ap, subst, inl, inr, ◌==◌, ◌&&◌, find, map, false≢true, and_parts, eqb-true, not-true, eqb-false, eqb_tells, Decides-eqb, Decides-not, All-nil, All-cons, Any-from_list_any, Fact, Effect, Parts, rule_at, Holds, AllHold, IsOnLayer, default_of, CanFire, fails, is_derived, is_given, AreDerivationLines, since_line, missing_lines, IsCause, can_fire, IsLayered, new_value_of, differs, IsSettled, hold_or_not, layer_cases, new_value_is, differs_decides, differs_not, can_give, Line, Run, last_state}
+use Rattle.sas_plan_reasons.proofs.Imports.{IsDerived, IsTrue, can_be_given, ◌≡◌, ℕ, ◌<◌, Bool, true, false, List, [], ◌∷◌, ◌++◌, length, get_or, slice_index, Some, refl, sym, ◌∙◌, ap, subst, inl, inr, ◌==◌, ◌&&◌, find, map, false≢true, and_parts, eqb-true, not-true, eqb-false, eqb_tells, Decides-eqb, Decides-not, All-nil, All-cons, Any-from_list_any, Fact, Effect, Parts, rule_at, Holds, AllHold, IsOnLayer, default_of, CanFire, fails, is_given, AreDerivationLines, since_line, missing_lines, IsCause, can_fire, IsLayered, new_value_of, differs, IsSettled, hold_or_not, layer_cases, new_value_is, differs_decides, differs_not, can_give, Line, Run, last_state, is_some, layer_of}
 use Rattle.sas_answers.specs.declared.line.Line.TheVariants as line
 use Rattle.sas_plan_reasons.proofs.Derivation.{value_is}
 use Rattle.sas_plan_reasons.proofs.Derivations.{some_derivation}
@@ -9,7 +9,7 @@ use Rattle.sas_plan_reasons.proofs.Sorting.{one_derivation}
 use Rattle.sas_plan_reasons.proofs.Since.{some_since, one_since}
 
 -- a derived variable is on a layer
-pub on_some_layer : (p : Parts) (var : ℕ) → is_derived p var ≡ true → (layer : ℕ) × IsOnLayer p layer var
+pub on_some_layer : (p : Parts) (var : ℕ) → is_some (layer_of p.variables var) ≡ true → (layer : ℕ) × IsOnLayer p layer var
 on_some_layer p var derived = grind (arith, common_steps, layer_cases, false≢true)
 
 pub default_if_not_given : (p : Parts) (s : List ℕ) (fact : Fact) → IsLayered p → IsSettled p s → IsDerived p.variables fact.var → IsTrue (can_be_given p fact)
@@ -79,7 +79,7 @@ some_givers : (b : Bool) (p : Parts) (s : List ℕ) (var : ℕ) → IsLayered p 
     → (lines : List Line) × AreDerivationLines b p s var lines
 some_givers false p s var layered settled is = ([], refl)
 some_givers true p s var layered settled is =
-    let both = and_parts (is_derived p var) (differs p s var) (is refl) in
+    let both = and_parts (is_some (layer_of p.variables var)) (differs p s var) (is refl) in
     let on = on_some_layer p var both.0 in
     let w = some_derivation p s on.0 var layered settled on.1 both.1 in
     (map line.RuleDerives w.0, (w.0, w.1, refl))

@@ -1,6 +1,6 @@
 -- The texts of the first numbers, one after the other; and so the changes that were printed so far,
 -- in the order of the variables.
-use Rattle.sas_plan_reasons.proofs.Imports.{◌≡◌, ℕ, zero, suc, ◌+◌, ◌<◌, ◌≤◌, List, [], ◌∷◌, ◌++◌, map, flat_map, append_assoc, sym, ◌∙◌, ap, arith, range_with_len, flat_map-append, flat_map-map, map-range_with_len_more, ◌-◌, Bool, true, false, not, ◌==◌, length, filter, get_or, refl, subst, inl, inr, if◌then◌else◌, slice_set, cond, Contains, IsNonDecreasing, cases_eq, cases_lt, cases_Bool, eq-eqb, variables_of, is_changed, change_line, change_lines, change_text, ListCoversChanges, eqb-true, same_number_lists, Parts, get_or_default, text}
+use Rattle.sas_plan_reasons.proofs.Imports.{◌≡◌, ℕ, zero, suc, ◌+◌, ◌<◌, ◌≤◌, List, [], ◌∷◌, ◌++◌, map, flat_map, append_assoc, sym, ◌∙◌, ap, arith, range_with_len, flat_map-append, flat_map-map, map-range_with_len_more, ◌-◌, Bool, true, false, not, ◌==◌, length, filter, get_or, refl, inl, inr, if◌then◌else◌, slice_set, cond, Contains, IsNonDecreasing, cases_eq, cases_lt, cases_Bool, eq-eqb, is_changed, change_line, change_lines, change_text, ListCoversChanges, eqb-true, same_number_lists, Parts, get_or_default, text}
 use Rattle.std.proofs.Common.{append-nil, get_or-set_other, get_or-set_same, length-set}
 use Rattle.std.proofs.lemmas.Grind.{common_steps}
 
@@ -68,7 +68,7 @@ module _ (p : Parts) (s s' : List ℕ) where
   texts (var ∷ vars) = one_text (is_changed s s' var) var (filter (is_changed s s') vars) ∙ ap (λ (l : List ℕ). says var ++ l) (texts vars)
 
   all_texts : text (change_lines p s s') ≡ said says (length p.variables)
-  all_texts = texts (variables_of p)
+  all_texts = texts (range_with_len 0 (length p.variables))
 
   -- ---- the text of one
 
@@ -100,23 +100,7 @@ module _ (p : Parts) (s s' : List ℕ) where
   module _ (printed : List ℕ) (b : ℕ) (up : PrintedUpTo printed b) where
     module _ (var : ℕ) (next : IsNext b var) where
       pub printed_next : PrintedUpTo (slice_set printed var (get_or s' var 0)) (var + 1)
-      printed_next = record {
-        fits = length-set printed var (get_or s' var 0) ∙ up.fits;
-        below = λ j lt. elim (cases_eq j var) [
-          | inl e ↦ subst (λ i. get_or (slice_set printed var (get_or s' var 0)) i 0 ≡ get_or s' i 0) (sym e)
-              (get_or-set_same printed var (get_or s' var 0) 0 (omega (arith, up.fits, next.exists)))
-          | inr ne ↦ get_or-set_other printed var j (get_or s' var 0) 0 ne ∙ before j ne lt
-        ];
-        above = λ j le.
-            let ne : j ≡ var → ⊥ = λ e. absurd (omega arith) in
-            get_or-set_other printed var j (get_or s' var 0) 0 ne ∙ up.above j (let n = next.near in omega arith);
-      }
-        where
-          before : (j : ℕ) → (j ≡ var → ⊥) → j < var + 1 → get_or printed j 0 ≡ get_or s' j 0
-          before j ne lt = elim (cases_lt j b) [
-            | inl early ↦ up.below j early
-            | inr late ↦ up.above j late ∙ sym (next.still j late (omega arith))
-          ]
+      printed_next = grind (arith, length-set, get_or, cases_eq, slice_set, get_or-set_same, get_or-set_other, cases_lt)
 
       pub text_next : said says b ++ change_text p printed s' var ≡ said says (var + 1)
       text_next = elim (cases_lt var b) [
@@ -167,11 +151,7 @@ module _ (p : Parts) (s s' : List ℕ) where
       }
 
       pub listed_more : ListedUpTo listed (i + 1) (get_or listed i 0 + 1)
-      listed_more = record {
-        within = (let n = cover.exist i 0 lt in omega (arith, fits));
-        before = λ j early. (let high = up j i 0 (omega arith) lt in omega arith);
-        behind = λ j le late. (let high = up i j 0 (omega arith) late in omega arith);
-      }
+      listed_more = grind arith
 
     pub listed_all : length listed ≤ i → (j : ℕ) → b ≤ j → j < length p.variables → get_or s' j 0 ≡ get_or s j 0
     listed_all all j le lt = elim (cover.each j) [

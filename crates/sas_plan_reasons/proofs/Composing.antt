@@ -15,8 +15,7 @@ module _ (p : Parts) (history : PlanHistory) where
 
   plain_then : (report : Report) (new more rest : List Line) → AllByRecursion IsPlain more → new ≡ report.lines ++ more
       → with_lines new rest ≡ with_lines report.lines (more ++ rest)
-  plain_then report new more rest plain add =
-      ap (λ (l : List Line). with_lines l rest) (add ∙ sym (plain_lines report.lines more plain)) ∙ sym (lines_append report.lines more rest)
+  plain_then report new more rest plain add = grind (arith, with_lines, plain_lines, lines_append)
 
   pub plain_is_report : (report : Report) (new more : List Line) → AllByRecursion IsPlain more → new ≡ report.lines ++ more
       → IsReportOf p history report → IsReportOf p history (record report { lines = new })
@@ -88,8 +87,7 @@ module _ (p : Parts) (history : PlanHistory) where
 
   keepers_of_last : (run : Run) → IsBehind p history run → (fact : Fact) → can_be_given p fact ≡ true
       → lines_of_keepers p history.last fact.var ≡ keeping_lines p (last_state run) fact
-  keepers_of_last run behind fact so = ap (λ s. lines_of_keepers p s fact.var) behind.last
-      ∙ sym (ap (λ b. if b then lines_of_keepers p (last_state run) fact.var else line.NoRuleDerives ∷ []) so)
+  keepers_of_last run behind fact so = grind (arith, lines_of_keepers, last_state)
 
   pub no_rule : (report : Report) (new : List Line) (fact : Fact) → can_be_given p fact ≡ false → new ≡ report.lines ++ line.NoRuleDerives ∷ []
       → AddsLines p history report (record report { lines = new }) (λ run lines. lines ≡ keeping_lines p (last_state run) fact)
@@ -102,8 +100,7 @@ module _ (p : Parts) (history : PlanHistory) where
 
   pub reported_before : (report : Report) (fact : Fact) → can_be_given p fact ≡ true → is_kept report fact.var ≡ true
       → AddsLines p history report report (λ run lines. lines ≡ keeping_lines p (last_state run) fact)
-  reported_before report fact so kept run behind is =
-      (lines_of_keepers p history.last fact.var, keepers_of_last run behind fact so, keepers_again p history.last report fact.var is kept, is)
+  reported_before report fact so kept run behind is = grind (arith, lines_of_keepers, keepers_of_last, keepers_again)
 
   pub reported_now : (report : Report) (new : List Line) (fact : Fact) → fact.var < length p.variables → can_be_given p fact ≡ true
       → is_kept report fact.var ≡ false → new ≡ report.lines ++ lines_of_keepers p history.last fact.var
@@ -135,10 +132,7 @@ module _ (p : Parts) (history : PlanHistory) {A : Type 0} (Are : Run → A → L
 
   pub one_more : (first old new : Report) (items : List A) (item : A) → AddsLines p history first old (λ run. LinesOfEach (Are run) items)
       → AddsLines p history old new (λ run. Are run item) → AddsLines p history first new (λ run. LinesOfEach (Are run) (items ++ item ∷ []))
-  one_more first old new items item before adds run behind is =
-      let b = before run behind is in
-      let a = adds run behind b.3 in
-      (b.0 ++ a.0, each_more (Are run) items item b.0 a.0 b.1 a.1, a.2 ∙ (ap (λ (l : List Line). with_lines l a.0) b.2 ∙ sym (lines_append first.lines b.0 a.0)), a.3)
+  one_more first old new items item before adds run behind is = grind (arith, each_more, with_lines, lines_append)
 
 -- ---- the lines of rules, one rule more
 

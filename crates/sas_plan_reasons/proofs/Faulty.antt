@@ -1,7 +1,7 @@
 -- What is reported of each fault.
 use Rattle.std.proofs.Common.{arith}
 use Rattle.std.proofs.lemmas.Grind.{common_steps}
-use Rattle.sas_plan_reasons.proofs.Imports.{◌≡◌, ℕ, ◌+◌, ◌<◌, Bool, true, false, not, List, [], ◌∷◌, ◌++◌, length, get_or, Option, None, Some, refl, sym, ◌∙◌, ap, subst, if◌then◌else◌, filter, slice_index, option_map_or, ne_eqb, eq-eqb, append-nil, filter-append, AllByRecursion, cases_Bool, Fact, Parts, PlanParts, nameless_steps, nameless_lines, cost_hint, cost_lines, cost_lines_sum, places_to, places_one_more, Line, Run, last_state, fails, similar_operator, PlanHistory, Report, IsBehind, IsReport, AddsLines, ReportsOnce}
+use Rattle.sas_plan_reasons.proofs.Imports.{◌≡◌, ℕ, ◌+◌, ◌<◌, Bool, true, false, not, List, [], ◌∷◌, ◌++◌, length, get_or, Option, ◌∙◌, ap, subst, if◌then◌else◌, filter, slice_index, option_map_or, ne_eqb, eq-eqb, append-nil, filter-append, AllByRecursion, cases_Bool, Fact, Parts, PlanParts, nameless_steps, nameless_lines, cost_hint, cost_lines, cost_lines_sum, places_to, places_one_more, Line, Run, last_state, fails, similar_operator, PlanHistory, Report, IsBehind, IsReport, AddsLines, ReportsOnce}
 use Rattle.sas_answers.specs.declared.line.Line.TheVariants as line
 use Rattle.sas_plan_reasons.proofs.Once.{IsPlain, plain_lines}
 
@@ -9,8 +9,7 @@ use Rattle.sas_plan_reasons.proofs.Once.{IsPlain, plain_lines}
 
 nameless_plain : (step : ℕ) (like : Option ℕ) (k n : ℕ)
     → AllByRecursion IsPlain (line.Step step ∷ option_map_or (λ operator. line.SimilarOperator operator ∷ []) like [] ++ line.NamelessSteps k n ∷ [])
-nameless_plain step None k n = (refl, (refl, tt))
-nameless_plain step (Some operator) k n = (refl, (refl, (refl, tt)))
+nameless_plain step h1 k n = grind arith
 
 pub nameless_reported : (p : Parts) (plan : PlanParts) (step : ℕ) (name : List ℕ) (like : Option ℕ) (k n : ℕ) (lines : List Line) → like ≡ similar_operator p name
     → k ≡ nameless_steps p plan.steps → n ≡ length plan.steps
@@ -25,8 +24,7 @@ hint_plain true cost steps sum = grind (arith, common_steps, cases_Bool)
 hint_plain false cost steps sum = grind (arith, common_steps, cases_Bool)
 
 pub costs_reported : (p : Parts) (cost : ℕ) (run : Run) (lines : List Line) → lines ≡ cost_lines p cost run → ReportsOnce lines (λ its. its ≡ cost_lines p cost run)
-costs_reported p cost run lines are =
-    (cost_lines p cost run, refl, are ∙ sym (plain_lines [] (cost_lines p cost run) (refl, (refl, (refl, hint_plain p.metric cost (length run.steps) (cost_lines_sum p run.operators))))))
+costs_reported p cost run lines are = grind (arith, cost_lines, plain_lines, hint_plain, length, cost_lines_sum)
 
 -- ---- items that fail, one more
 
@@ -40,8 +38,7 @@ pub one_more_fails : (s : List ℕ) (facts : List Fact) (f : Fact) → (slice_in
 one_more_fails s facts f ne = filter-append (fails s) facts (f ∷ []) ∙ ap (λ b. filter (fails s) facts ++ (if b then f ∷ [] else [])) (fails_when s f ne)
 
 pub one_more_holds : (s : List ℕ) (facts : List Fact) (f : Fact) → slice_index s f.var ≡ f.value → filter (fails s) (facts ++ f ∷ []) ≡ filter (fails s) facts
-one_more_holds s facts f e = filter-append (fails s) facts (f ∷ [])
-    ∙ (ap (λ b. filter (fails s) facts ++ (if b then f ∷ [] else [])) (holds_when s f e) ∙ append-nil (filter (fails s) facts))
+one_more_holds s facts f e = grind (arith, filter-append, fails, filter, holds_when, append-nil)
 
 module _ {A : Type 0} (test : A → Bool) (k : ℕ) (items : List A) (d : A) (lt : k < length items) where
   pub place_more : test (get_or items k d) ≡ true → places_to test (k + 1) items ≡ places_to test k items ++ k ∷ []

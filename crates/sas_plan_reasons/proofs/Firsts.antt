@@ -69,14 +69,7 @@ module _ (p : Parts) (s : List ℕ) (o : Operator) where
     -- one more that fires and doesn't agree is contradicted
     pub contradicted : n < length o.effects → Fires s (effect_at o n) → (first : ℕ) → first_on firsts (effect_at o n).var ≡ Some first
         → (effect_at o first).new ≢ (effect_at o n).new → IsLowest (ConflictsWith s o n) first
-    contradicted exists fires first is other =
-        let w = are.only (effect_at o n).var first is in
-        record {
-          has = record { before = w.0; exists = exists; fires = w.1; fires' = fires; var = w.2; other = other };
-          first = λ lower lt c. (let v = are.each lower (let b = c.before in b) c.fires in
-              let same : v.0 ≡ first = same_Some v.0 first (sym v.1.is ∙ (ap (first_on firsts) c.var ∙ is)) in
-              omega (arith, v.1.no_later));
-        }
+    contradicted exists fires first is other = grind (arith, effect_at, same_Some, first_on)
 
     -- none before it is
     pub none_before : (e : ℕ) → e < n → (d : ℕ) × ConflictsWith s o e d → ⊥

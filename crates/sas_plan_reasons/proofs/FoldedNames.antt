@@ -79,8 +79,7 @@ whole xs n some within = ap (λ (l : List ℕ). take (n - 1) xs ++ l) (sym (from
 module _ (name other : List ℕ) (end others : ℕ) (some : 0 < end) (some' : 0 < others) (within : end ≤ length name) (within' : others ≤ length other)
     (same : drop end name ≡ drop others other) where
   pub one_more_same : get_or name (end - 1) 0 ≡ get_or other (others - 1) 0 → drop (end - 1) name ≡ drop (others - 1) other
-  one_more_same e = from_byte name end some within ∙ (ap (λ b. b ∷ drop end name) e
-      ∙ (ap (λ (l : List ℕ). get_or other (others - 1) 0 ∷ l) same ∙ sym (from_byte other others some' within')))
+  one_more_same e = grind (arith, from_byte, drop, get_or)
 
   pub never_alike : get_or name (end - 1) 0 ≢ 32 → get_or other (others - 1) 0 ≢ 32
       → to_ascii_lowercase (get_or name (end - 1) 0) ≢ to_ascii_lowercase (get_or other (others - 1) 0) → folded name ≡ folded other → ⊥

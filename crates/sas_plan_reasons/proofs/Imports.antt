@@ -10,7 +10,7 @@ pub use Rattle.std.proofs.lemmas.Fn.{always_returns_same}
 pub use Rattle.std.proofs.lemmas.Grind.{flat_map-append, common_steps, same_number_lists}
 pub use Rattle.std.proofs.lemmas.List.{get_or_default, nil_from_length, get_or-set_same, get_or-set_other, length-set, append-nil, map-append, take_more, take_all, take-take, length-take-le, get_or-take, length-append, same_lists, length-replicate, get_or_append_left, get_or-map, length-map, get_or-append-add, get_or-replicate, get_or_past, take_at, drop_at, drop_all, length-drop}
 pub use Rattle.std.proofs.lemmas.List.Concat.{flat_map-cons}
-pub use Rattle.std.proofs.lemmas.List.Elements.{All-nil, All-cons, All-contains, Contains-append_left, Contains-append_right, Contains-append_cases, Contains-get_or, All-head, All-tail, Contains-push, Contains-push_cases, filter-append, All-weaker, All-append, All-push, All-from_recursion, All-rest}
+pub use Rattle.std.proofs.lemmas.List.Elements.{All-nil, All-cons, All-contains, Contains-append_left, Contains-append_right, Contains-append_cases, Contains-get_or, All-head, All-tail, Contains-push, Contains-push_cases, filter-append, All-map, All-weaker, All-append, All-push, All-from_recursion, All-rest}
 pub use Rattle.std.proofs.lemmas.List.Folds.{Any-from_list_any, list_any_at, flat_map-map}
 pub use Rattle.std.proofs.lemmas.List.FromFn.{map-range_with_len_more, length-map-range_with_len, get_or-map-range_with_len}
 pub use Rattle.std.proofs.lemmas.List.Kept.{AllPairs-cons, AllPairs-filter}
@@ -37,14 +37,16 @@ pub use Rattle.sas_answers.proofs.Sent.{writes_as, ends_counting_as}
 pub use Rattle.sas_answers.proofs.Texts.{text_of_each}
 pub use Rattle.sas_answers.proofs.WordedLines.{worded}
 pub use Rattle.sas_answers.specs.Answers.{VerdictAnswer, valid_answer, invalid_answer}
-pub use Rattle.sas_answers.specs.Ending.{output_of, Output}
-pub use Rattle.sas_answers.specs.Facts.{initial_lines}
+pub use Rattle.sas_answers.specs.Ending.{output_of, Output, EndsCounting}
+pub use Rattle.sas_answers.specs.Facts.{initial_lines, fact_line}
 pub use Rattle.sas_answers.specs.Line.{is_rule_line, is_same_rule_line, rule_numbers, reasons_text}
 pub use Rattle.sas_answers.specs.PlanWords.{fault_words, invalid_line}
-pub use Rattle.sas_answers.specs.Sink.{Pushes}
+pub use Rattle.sas_answers.specs.Sink.{Pushed, Pushes}
 pub use Rattle.sas_answers.specs.Words.{line}
 pub use Rattle.sas_answers.specs.declared.answer.Answer.{Answer}
 pub use Rattle.sas_answers.specs.declared.ending.Status.{Status}
+pub use Rattle.sas_answers.specs.declared.ending.ToolFault.{ToolFault}
+pub use Rattle.sas_answers.specs.declared.sink.Sink.{Sink}
 pub use Rattle.sas_answers.specs.declared.ending.Status.TheVariants.{Yes, No}
 pub use Rattle.sas_answers.specs.declared.line.Line.{Line}
 pub use Rattle.sas_answers.specs.declared.line.Line.TheVariants.{RuleDerives, RuleRequires, Requires, Actual, SinceStep, Step, ConflictingEffect, CouldBe, GoalFact, FailingGoalFacts}
@@ -90,39 +92,37 @@ pub use Rattle.sas_run.proofs.Giving.{not_both}
 pub use Rattle.sas_run.proofs.PlanVerdicts.{some_verdict, valid_has_no_fault, fault_is_one}
 pub use Rattle.sas_run.proofs.Ranges.{preconditions_within, effect_within}
 pub use Rattle.sas_run.proofs.Runs.{some_run, one_run, leads_to_last, last_rests, operators_exist, to_fault, state_fits}
-pub use Rattle.sas_run.specs.Executions.{Executed, next_name, next_operator, Executes, Advances}
-pub use Rattle.sas_run.specs.Named.{IsNamed}
-pub use Rattle.sas_run.specs.Nameless.{nameless_steps}
+pub use Rattle.sas_run.specs.Executions.{Executed, next_name, next_operator, Executes, IsFound, Advances, HaveNoNamesakes}
+pub use Rattle.sas_names.specs.Named.{IsNamed}
+pub use Rattle.sas_names.specs.Nameless.{nameless_steps}
 pub use Rattle.sas_run.specs.Plans.{IsApplicable, LeadFrom, LeadsTo, IsValid}
 pub use Rattle.sas_run.specs.Running.{IsLater, IsLaterIfAny}
 pub use Rattle.sas_run.specs.Runs.{Run, last_state, state_at, StepsSucceed, steps_before, RunEndsWith}
-pub use Rattle.sas_run.specs.Stepping.{ListsChanges}
+pub use Rattle.sas_run.specs.Stepping.{ListsChanges, HasFactOn}
 pub use Rattle.sas_run.specs.Verdicts.{IsFirstMissed, ComesTo, IsFaultOf}
 pub use Rattle.sas_run.specs.declared.plan_check.PlanFault.{PlanFault}
 pub use Rattle.sas_run.specs.declared.plan_check.PlanFault.TheVariants.{Memory, NoOperator, NotApplicable, Conflict, GoalMissed, CostDiffers}
-pub use Rattle.sas_plan_reasons.specs.Cause.{fails, is_derived, is_given, AreDerivationLines, since_line, missing_lines, IsCause, value_at, IsSince, failing_lines, can_be_given, keeping_lines}
-pub use Rattle.sas_plan_reasons.specs.Tracing.{change_text, ListCoversChanges, IsListedIfChanged, Grows, HasTraced, HasVerdict}
+pub use Rattle.sas_plan_reasons.specs.Cause.{fails, needs_rules, is_given, AreDerivationLines, since_line, missing_lines, IsCause, value_at, IsSince, failing_lines, can_be_given, keeping_lines}
 pub use Rattle.sas_plan_reasons.specs.Conflicts.{first_on, AgreesWithFirst, AreFirstEffects}
 pub use Rattle.sas_plan_reasons.specs.Derivation.{fires_with, reached, IsRank, HasLayerAndRank, FiresNext, IsGivenBy, DependsOn, Itself, Below, IsLess, ComesBefore, InDerivation, IsRuleOf, IsDerivation}
-pub use Rattle.sas_plan_reasons.specs.Report.{MakeAnswer, IsExplained, lines_of_keepers, is_kept, IsReport, IsBehind, ReportsOnce, IsReportOf, AddsLines}
+pub use Rattle.sas_plan_reasons.specs.Report.{lines_of_keepers, is_kept, IsReport, IsBehind, ReportsOnce, IsReportOf, AddsLines}
 pub use Rattle.sas_plan_reasons.specs.Lines.{with_line, with_lines, LineThen, LinesOfEach}
 pub use Rattle.sas_plan_reasons.specs.Lowest.{IsLowest, AreLowest}
 pub use Rattle.sas_plan_reasons.specs.MayMean.{after_spaces, squeezed, folded, similar_operator, IsOther, MayMean}
-pub use Rattle.sas_plan_reasons.specs.Retracing.{HavePlaces, NotedAt, LeftAt, NotesSome, NotesChanges, looked_at, CoverChanges, AreFirstChanges, AddsOther, NotesStep, IsOtherIfAny, Retraces, first_steps, HaveSince, AreNotes}
-pub use Rattle.sas_plan_reasons.specs.Origins.{origin_at, origin_now, origin_with_rule, unreached, HaveOrigins, IsReached, OriginsUpToRound, value_in_round, HasOrigin, IsOrigin, HavePassed, ReachesNow, InRound, ContinuesRound, AreAllRules, AreBefore, IsFirstOpen, HasLower, waiting_rules, requiring_at, AreAwaited, added, Reaches, HoldFrom, needs_rules, is_reported, AreOrigins, ReportsDerivation, nowhere, place_cmp, place_at, ArePlaces, AreInOrder, AddsDerivation, OriginsMatchState, HasRule, HasRuleBelow, IsReportedOf, AreReportedBelow, SameOrigins, unreported, AddsRules}
-pub use Rattle.sas_plan_reasons.specs.ReasonLaws.{replayed, RequiresLower, RequiresEarlier, IsAlike, IsLowestIfAny, facts_printed}
-pub use Rattle.sas_plan_reasons.specs.Trace.{run_lines, variables_of, is_changed, change_line, change_lines, step_lines, step_line}
+pub use Rattle.sas_plan_reasons.specs.Retracing.{HavePlaces, NotedAt, LeftAt, Notes, change_text, ListCoversChanges, AreFirstChanges, IsOtherIfAny, Retraces, ComesUnambiguously, HaveSince}
+pub use Rattle.sas_plan_reasons.specs.Origins.{origin_at, origin_now, origin_with_rule, unreached, HaveOrigins, IsReached, OriginsUpToRound, value_in_round, IsOrigin, HavePassed, ReachesNow, InRound, ContinuesRound, AreAllRules, AreBefore, IsFirstOpen, HasLower, waiting_rules, requiring_at, AreAwaited, added, Reaches, HoldFrom, is_reported, AreOrigins, ReportsDerivation, nowhere, place_cmp, place_at, ArePlaces, AreInOrder, OriginsMatchState, HasRule, HasRuleBelow, IsReportedOf, AreReportedBelow, SameOrigins, unreported, AddsRules}
+pub use Rattle.sas_plan_reasons.specs.ReasonLaws.{replayed, RequiresLower, RequiresEarlier, IsAlike, IsLowestIfAny}
+pub use Rattle.sas_plan_reasons.specs.Trace.{run_lines, changed, is_changed, change_line, change_lines, step_lines, step_line}
 pub use Rattle.sas_plan_reasons.specs.Traced.{EndsWith, TraceVerdict, IsTraced}
-pub use Rattle.sas_plan_reasons.specs.Verdict.{WhyVerdict}
-pub use Rattle.sas_plan_reasons.specs.WhyPlan.{ConflictsWith, AreFailedPreconditionLines, AreConflictLines, goal_fact_at, AreGoalFactLines, cost_hint, cost_lines, nameless_lines, AreCouldBeLines, AreFaultLines, IsWhy, similar_name_lines, AreOperatorLines, cost_lines_sum}
+pub use Rattle.sas_plan_reasons.specs.Verdict.{WhyVerdict, MakeAnswer}
+pub use Rattle.sas_plan_reasons.specs.WhyPlan.{ConflictsWith, AreFailedPreconditionLines, AreConflictLines, AreGoalFactLines, cost_hint, cost_lines, nameless_lines, AreCouldBeLines, AreFaultLines, IsWhy, AreOperatorLines, cost_lines_sum}
 pub use Rattle.sas_plan_reasons.specs.declared.changes.Changes.{Changes}
 pub use Rattle.sas_plan_reasons.specs.declared.origin_rounds.Origin.{Origin}
 pub use Rattle.sas_plan_reasons.specs.declared.origin_rounds.OriginRounds.{OriginRounds}
 pub use Rattle.sas_plan_reasons.specs.declared.origins.DerivationPlace.{DerivationPlace}
 pub use Rattle.sas_plan_reasons.specs.declared.origins.Origins.{Origins}
-pub use Rattle.sas_plan_reasons.specs.declared.plan_history.OtherOperator.{OtherOperator}
-pub use Rattle.sas_plan_reasons.specs.declared.plan_history.PlanHistory.{PlanHistory}
-pub use Rattle.sas_plan_reasons.specs.declared.report.Report.{Report}
-pub use Rattle.sas_plan_reasons.specs.declared.second_pass.RunNotes.{RunNotes}
+pub use Rattle.sas_plan_reasons.specs.declared.second_pass.OtherOperator.{OtherOperator}
+pub use Rattle.sas_plan_reasons.specs.declared.second_pass.PlanHistory.{PlanHistory}
+pub use Rattle.sas_plan_reasons.specs.declared.causes.Report.{Report}
 pub use Rattle.sas_core.specs.Tasks.{cost_of}
-pub use Rattle.std.specs.Prelude.{sum_by}
+pub use Rattle.std.specs.Prelude.{sum_by, IsSomeAnd}

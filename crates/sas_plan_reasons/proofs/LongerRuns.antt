@@ -1,6 +1,6 @@
 -- The run of the first steps of a run, and the one that is a step longer.
 use Rattle.std.proofs.lemmas.Grind.{common_steps}
-use Rattle.sas_plan_reasons.proofs.Imports.{◌≡◌, ◌≢◌, ℕ, ◌+◌, ◌<◌, ◌≤◌, List, [], ◌∷◌, ◌++◌, length, take, get_or, refl, sym, ◌∙◌, ap, subst, inl, inr, arith, cases_lt, take_all, take_more, take-take, length-take-le, get_or-take, get_or-append, get_or-append_seam, Parts, operator_at, IsLater, Run, state_at, last_state, StepsSucceed, value_at, IsSince, IsOther, MayMean, first_steps}
+use Rattle.sas_plan_reasons.proofs.Imports.{◌≡◌, ◌≢◌, ℕ, ◌+◌, ◌<◌, ◌≤◌, List, [], ◌∷◌, ◌++◌, length, take, get_or, sym, ◌∙◌, ap, arith, cases_lt, take_all, take_more, take-take, length-take-le, get_or-take, get_or-append, get_or-append_seam, Parts, operator_at, IsLater, Run, state_at, last_state, StepsSucceed, value_at, IsSince, IsOther, MayMean}
 use Rattle.std.proofs.Math.ListN.{length-append}
 
 abbrev run_of : List (List ℕ) → List ℕ → List (List ℕ) → Run
@@ -11,6 +11,9 @@ abbrev pub one_more : Run → List ℕ → ℕ → List ℕ → Run
 one_more run name operator next = run_of (run.steps ++ name ∷ []) (run.operators ++ operator ∷ []) (run.states ++ next ∷ [])
 
 -- ---- the first steps
+
+abbrev pub first_steps : Run → ℕ → Run
+first_steps run k = run_of (take k run.steps) (take k run.operators) (take (k + 1) run.states)
 
 module _ (p : Parts) (run : Run) (through : StepsSucceed p run) where
   module _ (k : ℕ) (le : k ≤ length run.steps) where
@@ -66,17 +69,7 @@ module _ (p : Parts) (run : Run) (through : StepsSucceed p run) (name : List ℕ
   since_changed var other = grind (arith, common_steps, one_state_more, same_value, next_value)
 
   pub since_unchanged : (var since : ℕ) → IsSince run var since → get_or (last_state run) var 0 ≡ get_or next var 0 → IsSince longer var since
-  since_unchanged var since is same = record {
-    exists = omega (arith, is.exists, one_state_more);
-    changed = λ before e equal. is.changed before e
-        (sym (same_value var before (omega (arith, e, is.exists, through.states))) ∙ (equal ∙ same_value var since (omega (arith, is.exists, through.states))));
-    unchanged = λ later from upto. elim (cases_lt later (length run.steps)) [
-      | inl lt ↦ same_value var later (omega arith) ∙ (is.unchanged later from (omega (arith, through.states)) ∙ sym (same_value var (later + 1) (omega arith)))
-      | inr ge ↦
-          let last : later ≡ length run.steps = omega (arith, through.states, one_state_more) in
-          subst (λ k. value_at longer k var ≡ value_at longer (k + 1) var) (sym last) (same_value var (length run.steps) (omega arith) ∙ (same ∙ sym (next_value var)))
-    ];
-  }
+  since_unchanged var since is same = grind (arith, one_state_more, same_value, cases_lt, length, value_at, next_value)
 
   -- ---- which other operator a step may mean
 
@@ -132,11 +125,4 @@ module _ (p : Parts) (run : Run) (through : StepsSucceed p run) (name : List ℕ
 
       pub may_mean_now : (other : ℕ) → IsLater p (last_state run) operator other
           → ((lower : ℕ) → lower < other → IsLater p (last_state run) operator lower → ⊥) → MayMean p longer (length run.steps + 1) other
-      may_mean_now other is first = (
-        length run.steps,
-        refl,
-        record {
-          first = grind (arith, common_steps, later_is_other, none_before);
-          lowest = grind (arith, common_steps, later_is_other, other_is_later);
-        },
-      )
+      may_mean_now other is first = grind (arith, length, later_is_other, none_before, other_is_later)

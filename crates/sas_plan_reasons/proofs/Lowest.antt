@@ -1,14 +1,11 @@
 -- The lowest number with a property is unique. It can be found if the property is decidable.
-use Rattle.sas_plan_reasons.proofs.Imports.{◌≡◌, ℕ, zero, suc, ◌<◌, ◌⊎◌, Option, Some, None, refl, ap, subst, inl, inr, arith, cases_eq, IsLowest, AreLowest, IsLowestIfAny}
+use Rattle.sas_plan_reasons.proofs.Imports.{◌≡◌, ℕ, zero, suc, ◌<◌, ◌⊎◌, Option, subst, inl, inr, arith, cases_eq, IsLowest, AreLowest, IsLowestIfAny}
 
 pub lowest_is_one : (Has : ℕ → Type 0) (a b : ℕ) → IsLowest Has a → IsLowest Has b → a ≡ b
 lowest_is_one Has a b x y = grind arith
 
 pub lowest_if_any_is_one : (Has : ℕ → Type 0) (a b : Option ℕ) → IsLowestIfAny Has a → IsLowestIfAny Has b → a ≡ b
-lowest_if_any_is_one Has None None x y = refl
-lowest_if_any_is_one Has None (Some b) x y = absurd (x b y.has)
-lowest_if_any_is_one Has (Some a) None x y = absurd (y a x.has)
-lowest_if_any_is_one Has (Some a) (Some b) x y = ap Some (lowest_is_one Has a b x y)
+lowest_if_any_is_one h1 h2 h3 x y = grind (arith, lowest_is_one)
 
 module _ (Has : ℕ → Type 0) (report : (n : ℕ) → Has n ⊎ (Has n → ⊥)) where
   -- one of the numbers below a bound is the lowest with the property, or none has it

@@ -1,6 +1,5 @@
 -- How the origins change when a rule fires.
-use Rattle.std.proofs.lemmas.Grind.{common_steps}
-use Rattle.sas_plan_reasons.proofs.Imports.{◌≡◌, ℕ, zero, suc, ◌+◌, ◌<◌, ◌≤◌, ◌⊎◌, List, [], ◌∷◌, length, set, Option, None, Some, refl, inl, arith, eqb_tells, leb_tells, same_Some, Origin, origin_at, origin_now, origin_with_rule, unreached}
+use Rattle.sas_plan_reasons.proofs.Imports.{◌≡◌, ℕ, zero, suc, ◌+◌, ◌<◌, ◌≤◌, ◌⊎◌, List, [], ◌∷◌, length, set, Option, None, Some, refl, arith, eqb_tells, leb_tells, same_Some, Origin, origin_at, origin_now, origin_with_rule, unreached}
 
 -- no origin of an earlier round, nor of this round by this rule or a lower one
 pub record NotEarlier (over rule : ℕ) (old : Option Origin) : Type 0 where
@@ -15,8 +14,7 @@ pub record Stays (over rule : ℕ) (old : Option Origin) : Type 0 where
 
 pub with_rule_cases : (over rule : ℕ) (old : Option Origin)
     → ((origin_with_rule over rule old ≡ Some (origin_now over rule)) × NotEarlier over rule old) ⊎ Stays over rule old
-with_rule_cases over rule None = inl (refl, record { now = λ o e. absurd cc })
-with_rule_cases over rule (Some o) = grind (arith, common_steps, eqb_tells, leb_tells, same_Some)
+with_rule_cases over rule h1 = grind (arith, eqb_tells, leb_tells, same_Some)
 
 -- ---- how many variables weren't reached
 

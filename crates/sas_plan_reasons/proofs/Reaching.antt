@@ -30,8 +30,7 @@ module _ (p : Parts) (s : List ℕ) (layered : IsLayered p) where
         ∙ sym ((settled layer).new var on (reached_differs p layer s layered (settled layer) over var is)))
 
     pub value_not : (over layer var : ℕ) → IsOnLayer p layer var → reached p layer s over var ≡ false → value_in_round p layer s over var ≡ default_of p var
-    value_not over layer var on is = given_on p layer s (reached p layer s over) var on
-        ∙ ap (λ b. cond b (new_value_of p var) (default_of p var)) is
+    value_not over layer var on is = grind (arith, given_on, reached, cond, new_value_of, default_of)
 
     module _ (over : ℕ) (origins : List _) (known : OriginsUpToRound p s over origins) where
       pub value_when_reached : (layer var : ℕ) → IsReached origins over var → value_in_round p layer s over var ≡ get_or s var 0

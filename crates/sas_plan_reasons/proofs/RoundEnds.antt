@@ -1,6 +1,6 @@
 -- How a round ends, how the first one begins, and what is known when no rule is left to look at.
 use Rattle.std.proofs.lemmas.Grind.{common_steps}
-use Rattle.sas_plan_reasons.proofs.Imports.{All, IsFalse, ◌≡◌, ℕ, suc, ◌+◌, ◌<◌, ◌≤◌, true, false, List, [], length, get_or, None, Some, refl, sym, ◌∙◌, ap, subst, inl, inr, arith, Contains, cases_lt, cases_Bool, false≢true, and_parts, get_or-replicate, length-replicate, get_or_default, get_or_past, All-nil, All-contains, Parts, rule_at, IsRuleOn, IsOnLayer, IsLayered, IsSettled, IsClosed, Origin, OriginRounds, requiring_at, origin_at, IsOrigin, HasOrigin, HaveOrigins, IsReached, OriginsUpToRound, HavePassed, ReachesNow, InRound, unreached, ContinuesRound, AreAllRules, AreBefore, differs, layer_cases, contains_none, reached, HasLayerAndRank, FiresNext, is_given}
+use Rattle.sas_plan_reasons.proofs.Imports.{All, IsFalse, ◌≡◌, ℕ, suc, ◌+◌, ◌<◌, ◌≤◌, true, false, List, [], length, get_or, Some, refl, sym, ◌∙◌, ap, subst, inl, inr, arith, Contains, cases_lt, cases_Bool, false≢true, and_parts, get_or-replicate, length-replicate, get_or_default, get_or_past, All-nil, All-contains, Parts, rule_at, IsRuleOn, IsOnLayer, IsLayered, IsSettled, IsClosed, Origin, OriginRounds, requiring_at, origin_at, IsOrigin, HaveOrigins, IsReached, OriginsUpToRound, HavePassed, ReachesNow, InRound, unreached, ContinuesRound, AreAllRules, AreBefore, differs, layer_cases, contains_none, reached, HasLayerAndRank, FiresNext, is_given}
 use Rattle.sas_plan_reasons.proofs.ReachedRounds.{Fires, ReachedBy, reached_by}
 use Rattle.sas_plan_reasons.proofs.Reaching.{reached_up, reached_in, holds_on, Begins, all_or_begins}
 use Rattle.sas_plan_reasons.proofs.Requiring.{requires_it}
@@ -154,12 +154,12 @@ module _ (p : Parts) (s : List ℕ) (layered : IsLayered p) (settled : IsSettled
       whole = whole;
     }
       where
-        at : (v layer : ℕ) → IsOnLayer p layer v → differs p s v ≡ true → HasOrigin r.origins.items v
+        at : (v layer : ℕ) → IsOnLayer p layer v → differs p s v ≡ true → (origin : Origin) × (origin_at r.origins.items v ≡ Some origin)
         at v layer on d =
             let w = inside.at.known.whole layer v on ((settled layer).least (reached p layer s r.over) (closed layer) v on d) in
             (w.origin, w.at)
 
-        whole : (v : ℕ) → is_given p s v ≡ true → HasOrigin r.origins.items v
+        whole : (v : ℕ) → is_given p s v ≡ true → (origin : Origin) × (origin_at r.origins.items v ≡ Some origin)
         whole v given = grind (arith, common_steps, and_parts, layer_cases, false≢true, at)
 
 -- a round begins that looks at these rules; each round that isn't the last one reaches a variable
@@ -176,20 +176,10 @@ first_round : (p : Parts) (s : List ℕ) (r : OriginRounds) → AreBefore p r �
 first_round p s r before = grind (arith, common_steps, length-replicate, false≢true, contains_none, All-nil, cases_lt, get_or-replicate, get_or_past)
 
 first_unreached : (p : Parts) (r : OriginRounds) → AreBefore p r → unreached r.origins.items ≡ length p.variables
-first_unreached p r before = unreached_none (length p.variables) r.origins.items (ap length before.origins ∙ length-replicate (length p.variables) None)
-    (λ v lt. ap (λ os. origin_at os v) before.origins ∙ get_or-replicate (length p.variables) v None None lt)
+first_unreached p r before = grind (arith, unreached_none, length, length-replicate, origin_at, get_or-replicate)
 
 pub first_begins : (p : Parts) (s : List ℕ) (r : OriginRounds) (rules : List ℕ) → AreBefore p r → AreAllRules p rules → RoundBegins p s r rules
-first_begins p s r rules before all =
-    let over = before.over in
-    let unreached_all = first_unreached p r before in
-    record {
-      round = first_round p s r before;
-      none = before.next;
-      due = record { exist = all.exist; whole = λ layer v rule on f not. all.each rule f.exists };
-      few = omega arith;
-      more = λ _. omega arith;
-    }
+first_begins p s r rules before all = grind (arith, common_steps, first_unreached, first_round)
 
 -- ---- one round after another
 

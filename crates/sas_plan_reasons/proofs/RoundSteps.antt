@@ -44,21 +44,7 @@ module _ (p : Parts) (s : List ℕ) (layer rule place over : ℕ) (passed : List
     (on : IsOnLayer p layer (rule_at p rule).var)
     (first : IsFirstOpen p layer s over (rule_at p rule).conditions (get_or passed rule 0) place) where
   pub passed_set : HavePassed p s over passed → HavePassed p s over (set passed rule place)
-  passed_set had = record {
-    one_each = length-set passed rule place ∙ had.one_each;
-    within = grind (arith, common_steps, cases_eq, here, get_or-set_other);
-    hold = λ m k below on' can j d from to. elim (cases_eq k rule) [
-      | inr ne ↦ had.hold m k below on' can j d from (subst (λ n. j < n) (get_or-set_other passed rule k place 0 ne) to)
-      | inl e ↦ at m k e on' can j d from to
-    ];
-  }
-    where
-      here : get_or (set passed rule place) rule 0 ≡ place
-      here = get_or-set_same passed rule place 0 (omega (arith, had.one_each))
-
-      at : (m k : ℕ) → k ≡ rule → IsOnLayer p m (rule_at p k).var → CanFire p (rule_at p k) → (j : ℕ) (d : Fact) → 0 ≤ j → j < get_or (set passed rule place) k 0
-          → value_in_round p m s over (get_or (rule_at p k).conditions j d).var ≡ (get_or (rule_at p k).conditions j d).value
-      at m k e on' can j d from to = grind (arith, common_steps, cases_lt, one_layer, here)
+  passed_set had = grind (arith, length-set, cases_eq, get_or-set_other, get_or, set, get_or-set_same, rule_at, value_in_round, cases_lt, one_layer)
 
 pub passed_round : (p : Parts) (s : List ℕ) (r r' : OriginRounds) (rules : List ℕ) → r'.over ≡ r.over → r'.origins.items ≡ r.origins.items → r'.requiring ≡ r.requiring
     → r'.next.items ≡ r.next.items → HavePassed p s r.over r'.passed.items → InRound p s r rules → InRound p s r' rules
@@ -97,32 +83,10 @@ module _ (p : Parts) (s : List ℕ) (over var rule layer : ℕ) (origins : List 
 
     set_each : ((v : ℕ) (o : Origin) → origin_at origins v ≡ Some o → (o.rank ≤ over) ⊎ ReachesNow p s over v o)
         → (v : ℕ) (o : Origin) → origin_at after v ≡ Some o → (o.rank ≤ over) ⊎ ReachesNow p s over v o
-    set_each each v o at = elim (set_cases v o at) [
-      | inr w ↦ each v o w.1
-      | inl w ↦ subst (λ x. (o.rank ≤ over) ⊎ ReachesNow p s over x o) (sym w.0) (elim (with_rule_cases over rule its) [
-        | inr st ↦ each var o (st.at ∙ sym (ap Some (same_at (origin_with_rule over rule its) o st.origin w.1 st.still)))
-        | inl n ↦ inr (subst (λ x. ReachesNow p s over var x) (same_at (origin_with_rule over rule its) (origin_now over rule) o n.0 w.1)
-            (record { layer = layer; on = on; rank = refl; not_yet = not_yet n.1; fires = fires }))
-      ])
-    ]
+    set_each each v o at = grind (arith, set_cases, with_rule_cases, same_at, origin_with_rule, origin_now, not_yet)
 
   set_lower : (v k : ℕ) → HasLower over origins v k → HasLower over after v k
-  set_lower v k h = elim (cases_eq v var) [
-    | inr ne ↦ record { origin = h.origin; at = get_or-set_other origins var v (origin_with_rule over rule its) None ne ∙ h.at; lower = h.lower }
-    | inl e ↦ (let its_at : its ≡ Some h.origin = ap (λ n. origin_at origins n) (sym e) ∙ h.at in
-        elim (with_rule_cases over rule its) [
-          | inl n ↦ record {
-            origin = origin_now over rule;
-            at = ap (λ n. origin_at after n) e ∙ (at_var ∙ n.0);
-            lower = λ _. (let b = n.1.now h.origin its_at in let le = h.lower b.0 in let less : rule < h.origin.rule = b.1 in omega arith);
-          }
-          | inr st ↦ record {
-            origin = h.origin;
-            at = ap (λ n. origin_at after n) e ∙ (at_var ∙ (st.still ∙ ap Some (same_at its st.origin h.origin st.at its_at)));
-            lower = h.lower;
-          }
-        ])
-  ]
+  set_lower v k h = grind (arith, cases_eq, get_or-set_other, origin_with_rule, origin_at, with_rule_cases, origin_now, at_var, same_at)
 
   set_itself : HasLower over after var rule
   set_itself = grind (arith, common_steps, with_rule_cases, at_var)
@@ -185,26 +149,7 @@ reach_round p s r r' rules layer var rule lt on fires now inside = record {
 
 -- and there is something to look at next only where it was reached for the first time
 pub reach_goes_on : (var rule : ℕ) (r r' : OriginRounds) → var < length r.origins.items → Reaches var rule r r' → ContinuesRound r r'
-reach_goes_on var rule r r' lt now = at (origin_at r.origins.items var) refl
-  where
-    at : (old : Option Origin) → origin_at r.origins.items var ≡ old → ContinuesRound r r'
-    at None e = record {
-      over = now.over;
-      fewer = rw (now.origins, e) (let w = unreached_fewer r.origins.items var (origin_now r.over rule) lt e in omega arith);
-      some = rw (now.origins, e) (λ _. let w = unreached_fewer r.origins.items var (origin_now r.over rule) lt e in omega arith);
-    }
-    at (Some old) e = record {
-      over = now.over;
-      fewer = rw (now.origins, e) (let w = some_kept old e in omega arith);
-      some = rw (now.next, e) (λ more. absurd (let w = simp append-nil at more in omega arith));
-    }
-      where
-        some_kept : (old : Origin) → origin_at r.origins.items var ≡ Some old
-            → unreached (set r.origins.items var (origin_with_rule r.over rule (Some old))) ≡ unreached r.origins.items
-        some_kept old e = elim (with_rule_cases r.over rule (Some old)) [
-          | inl n ↦ rw n.0 (unreached_same r.origins.items var (origin_now r.over rule) old lt e)
-          | inr st ↦ rw st.still (unreached_same r.origins.items var st.origin old lt e)
-        ]
+reach_goes_on var rule r r' lt now = grind (arith, origin_at, unreached_fewer, origin_now, more, append-nil, unreached, set, origin_with_rule, with_rule_cases, unreached_same)
 
 -- the conditions that are known to hold count for nothing there
 pub goes_as : (a b c : OriginRounds) → b.over ≡ a.over → b.origins.items ≡ a.origins.items → b.next.items ≡ a.next.items → ContinuesRound b c → ContinuesRound a c

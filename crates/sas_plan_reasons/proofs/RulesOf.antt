@@ -20,8 +20,7 @@ module _ (p : Parts) where
 
 -- the first item of a list
 pub first_is : (xs : List ℕ) (x : ℕ) → slice_get xs 0 ≡ Some x → Contains xs x
-first_is [] x is = absurd (let e : None ≡ Some x = is in cc)
-first_is (y ∷ ys) x is = (0, omega arith, let e : Some y ≡ Some x = is in cc)
+first_is h1 x is = grind (arith, common_steps)
 
 pub first_is_none : (xs : List ℕ) → slice_get xs 0 ≡ None → xs ≡ []
 first_is_none [] is = refl

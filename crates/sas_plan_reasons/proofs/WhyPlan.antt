@@ -1,6 +1,6 @@
 -- The fault of a plan has exactly one list of reasons, and the first step that may mean another
 -- operator is unique, as is this operator.
-use Rattle.sas_plan_reasons.proofs.Imports.{MayMean, ◌≡◌, ℕ, ◌+◌, ◌⊎◌, [], length, get_or, refl, sym, ◌∙◌, ap, inl, inr, arith, cases_lt, Parts, named_or_not, applicable_or_not, Run, state_at, IsOther, ◌-◌, ◌<◌, List, ◌∷◌, ◌++◌, take, subst, take-append_seam, filter, count_by, bytes_eq, Operator, PlanParts, step_at, operator_at, IsLayered, IsSettled, preconditions, places, PlanFault, Memory, NoOperator, NotApplicable, Conflict, GoalMissed, CostDiffers, LeadFrom, LeadsTo, ComesTo, IsFaultOf, Line, with_lines, LineThen, LinesOfEach, fails, IsCause, AreFailedPreconditionLines, AreConflictLines, goal_fact_at, AreGoalFactLines, cost_lines, AreCouldBeLines, AreFaultLines, IsWhy, last_state, StepsSucceed, steps_before, some_run, one_run}
+use Rattle.sas_plan_reasons.proofs.Imports.{MayMean, ◌≡◌, ℕ, ◌+◌, ◌⊎◌, [], length, get_or, refl, sym, ◌∙◌, ap, inl, inr, arith, cases_lt, Parts, named_or_not, applicable_or_not, Run, state_at, IsOther, ◌-◌, ◌<◌, List, ◌∷◌, ◌++◌, take, subst, take-append_seam, filter, count_by, bytes_eq, Operator, PlanParts, step_at, operator_at, IsLayered, IsSettled, preconditions, places, PlanFault, Memory, NoOperator, NotApplicable, Conflict, GoalMissed, CostDiffers, LeadFrom, LeadsTo, ComesTo, IsFaultOf, Line, with_lines, LineThen, LinesOfEach, fails, IsCause, AreFailedPreconditionLines, AreConflictLines, AreGoalFactLines, cost_lines, AreCouldBeLines, AreFaultLines, IsWhy, last_state, StepsSucceed, steps_before, some_run, one_run}
 use Rattle.sas_plan_reasons.proofs.Lowest.{are_lowest_one, some_are_lowest}
 use Rattle.std.proofs.lemmas.Grind.{common_steps}
 use Rattle.sas_plan_reasons.proofs.CauseLines.{some_cause, one_cause}
@@ -61,7 +61,7 @@ module _ (p : Parts) (run : Run) where
   inapplicable_one operator = behind_one (line.Operator operator) _ (each_one (IsCause p run) (one_cause p run) (filter (fails (last_state run)) (preconditions (operator_at p operator))))
 
   goal_fact_one : (index : ℕ) (a b : List Line) → AreGoalFactLines p run index a → AreGoalFactLines p run index b → a ≡ b
-  goal_fact_one index = behind_one (line.GoalFact index) _ (one_cause p run (goal_fact_at p index))
+  goal_fact_one index = behind_one (line.GoalFact index) _ (one_cause p run (get_or p.goal index (record { var = 0; value = 0 })))
 
   other_one : (a b : List Line) → AreCouldBeLines p run a → AreCouldBeLines p run b → a ≡ b
   other_one a b (inl x) (inl y) =
@@ -167,7 +167,7 @@ module _ (p : Parts) (plan : PlanParts) (layered : IsLayered p) where
 
   some_goal_fact : (run : Run) → IsSettled p (last_state run) → 0 < length run.states → (index : ℕ) → (lines : List Line) × AreGoalFactLines p run index lines
   some_goal_fact run settled some index =
-      let cause = some_cause p run (goal_fact_at p index) layered settled some in
+      let cause = some_cause p run (get_or p.goal index (record { var = 0; value = 0 })) layered settled some in
       (line.GoalFact index ∷ cause.0, (cause.0, cause.1, refl))
 
   some_why_of : (fault : PlanFault) → IsFaultOf p plan fault → (lines : List Line) × IsWhy p plan fault lines

@@ -9,7 +9,6 @@ use Rattle.sas_core.specs.declared.parts.Parts.{Parts}
 use Rattle.sas_core.specs.Variables.{layer_of}
 use Rattle.sas_core.specs.Grounded.{rule_at}
 use Rattle.sas_meaning.specs.Layers.{default_of}
-use Rattle.sas_meaning.specs.Settled.{differs}
 use Rattle.sas_meaning.specs.Places.{places, can_give}
 use Rattle.sas_answers.specs.declared.line.Line.{Line}
 use Rattle.sas_answers.specs.declared.line.Line.TheVariants as line
@@ -20,9 +19,10 @@ use Rattle.sas_plan_reasons.specs.Derivation.{IsDerivation}
 abbrev pub fails : List ℕ → Fact → Bool
 fails s fact = not (slice_index s fact.var == fact.value)
 
--- whether a variable is derived
-abbrev pub is_derived : Parts → ℕ → Bool
-is_derived p var = is_some (layer_of p.variables var)
+-- whether the fact needs rules: its variable is derived, and its value isn't the default
+abbrev pub needs_rules : Parts → Fact → Bool
+needs_rules p fact =
+    is_some (layer_of p.variables fact.var) && not (fact.value == default_of p fact.var)
 
 -- ---- since when the variable has its value
 
@@ -48,7 +48,7 @@ since_line (suc before) = line.SinceStep (suc before)
 
 -- whether the variable is derived and differs from its default
 abbrev pub is_given : Parts → List ℕ → ℕ → Bool
-is_given p s var = is_derived p var && differs p s var
+is_given p s var = needs_rules p (record { var = var; value = slice_index s var })
 
 -- if this is so, a line for each rule of the variable's derivation; otherwise no lines
 abbrev pub AreDerivationLines : Bool → Parts → List ℕ → ℕ → List Line → Type 0
@@ -74,11 +74,9 @@ keeping_lines p s fact = if can_be_given p fact
     then flat_map (failing_lines p s) (places (can_give p fact.var) p.rules)
     else line.NoRuleDerives ∷ []
 
--- these lines if the fact is on a derived variable and its value isn't the default
+-- these lines if the fact needs rules
 abbrev pub missing_lines : Parts → List ℕ → Fact → List Line
-missing_lines p s fact = if is_derived p fact.var && not (fact.value == default_of p fact.var)
-    then keeping_lines p s fact
-    else []
+missing_lines p s fact = if needs_rules p fact then keeping_lines p s fact else []
 
 -- ---- the cause
 

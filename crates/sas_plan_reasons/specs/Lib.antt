@@ -4,12 +4,11 @@ pub mod Derivation
 pub mod Lines
 pub mod Cause
 pub mod WhyPlan
-pub mod Retracing
 pub mod Conflicts
 pub mod Origins
 pub mod Verdict
-pub mod Report
 pub mod Trace
 pub mod Traced
+pub mod Retracing
+pub mod Report
 pub mod ReasonLaws
-pub mod Tracing

@@ -5,7 +5,7 @@ use Rattle.std.specs.Char.{to_ascii_lowercase}
 use Rattle.sas_core.specs.declared.parts.Operator.{Operator}
 use Rattle.sas_core.specs.declared.parts.Parts.{Parts}
 use Rattle.sas_core.specs.Grounded.{operator_at}
-use Rattle.sas_run.specs.Named.{IsNamed}
+use Rattle.sas_names.specs.Named.{IsNamed}
 use Rattle.sas_run.specs.Plans.{IsApplicable}
 use Rattle.sas_run.specs.Runs.{Run, state_at}
 use Rattle.sas_plan_reasons.specs.Lowest.{AreLowest}

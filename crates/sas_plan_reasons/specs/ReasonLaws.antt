@@ -1,6 +1,7 @@
 -- What follows from the definitions: each reason exists, is unique, and isn't circular; and what a
 -- trace prints.
 use Rattle.std.specs.Prelude.{◌≡◌, ◌≢◌, ℕ, ◌<◌, List, length, Option, Some, None, slice_index, ◌+◌, zero, suc, map, fold, slice_set}
+use Rattle.std.specs.List.{range_with_len}
 use Rattle.sas_core.specs.declared.parts.Parts.{Parts}
 use Rattle.sas_core.specs.declared.parts.Fact.{Fact}
 use Rattle.sas_core.specs.Grounded.{operator_at}
@@ -9,7 +10,7 @@ use Rattle.sas_run.specs.Runs.{Run, state_at}
 use Rattle.sas_plan_reasons.specs.Lowest.{IsLowest}
 use Rattle.sas_plan_reasons.specs.MayMean.{folded}
 use Rattle.sas_plan_reasons.specs.Derivation.{ComesBefore}
-use Rattle.sas_plan_reasons.specs.Trace.{variables_of, changed}
+use Rattle.sas_plan_reasons.specs.Trace.{changed}
 
 -- ---- similar names
 
@@ -41,15 +42,11 @@ pub record RequiresEarlier (p : Parts) (s : List ℕ) (var : ℕ) (condition : F
 
 -- ---- traces
 
--- the facts that step k + 1 of a run brings, as the lines of its changes have them
-abbrev pub facts_printed : Parts → Run → ℕ → List Fact
-facts_printed p run k =
-    map (λ var. record { var = var; value = slice_index (state_at run (k + 1)) var })
-    (changed p (state_at run k) (state_at run (k + 1)))
-
 -- the values that a reader of a trace has after the first k steps: those of the initial lines,
 -- with the changes written over them in turn
 abbrev pub replayed : Parts → Run → ℕ → List ℕ
-replayed p run zero = map (slice_index (state_at run 0)) (variables_of p)
+replayed p run zero =
+    map (slice_index (state_at run 0)) (range_with_len 0 (length p.variables))
 replayed p run (suc k) =
-    fold (λ s (f : Fact). slice_set s f.var f.value) (replayed p run k) (facts_printed p run k)
+    fold (λ s var. slice_set s var (slice_index (state_at run (k + 1)) var)) (replayed p run k)
+    (changed p (state_at run k) (state_at run (k + 1)))

@@ -1,5 +1,5 @@
--- The lines of reasons that are reported of a run, and the answer with them.
-use Rattle.std.specs.Prelude.{◌≡◌, ℕ, ◌↔◌, Bool, true, false, IsTrue, List, [], flat_map, length, Contains, slice_index_or, ◌++◌, Option, IsSomeAnd}
+-- The lines of reasons that are reported of a run.
+use Rattle.std.specs.Prelude.{◌≡◌, ℕ, ◌↔◌, Bool, true, false, IsTrue, List, [], flat_map, length, Contains, slice_index_or}
 use Rattle.sas_core.specs.declared.parts.Fact.{Fact}
 use Rattle.sas_core.specs.declared.parts.Parts.{Parts}
 use Rattle.sas_core.specs.Grounded.{rule_at}
@@ -12,15 +12,10 @@ use Rattle.sas_axioms.specs.LayerRules.{AreRulesOf}
 use Rattle.sas_plan_reasons.specs.Lines.{with_lines}
 use Rattle.sas_run.specs.Runs.{Run, last_state, StepsSucceed}
 use Rattle.sas_plan_reasons.specs.Cause.{failing_lines}
-use Rattle.sas_plan_reasons.specs.declared.plan_history.PlanHistory.{PlanHistory}
-use Rattle.sas_plan_reasons.specs.declared.report.Report.{Report}
+use Rattle.sas_plan_reasons.specs.declared.second_pass.PlanHistory.{PlanHistory}
+use Rattle.sas_plan_reasons.specs.declared.causes.Report.{Report}
 use Rattle.sas_plan_reasons.specs.Origins.{is_reported, AreOrigins}
 use Rattle.sas_plan_reasons.specs.Retracing.{HaveSince}
-use Rattle.sas_core.specs.PlanParts.{PlanParts}
-use Rattle.sas_answers.specs.declared.answer.Answer.{Answer}
-use Rattle.sas_answers.specs.Ending.{Output}
-use Rattle.sas_answers.specs.Line.{reasons_text}
-use Rattle.sas_plan_reasons.specs.Verdict.{WhyVerdict}
 
 -- the run's last state is noted, and since when its values hold
 pub record IsBehind (p : Parts) (history : PlanHistory) (run : Run) : Type 0 where
@@ -67,16 +62,3 @@ AddsLines p history old new Are = (run : Run) → IsBehind p history run → IsR
 -- such lines, each line of a rule once
 abbrev pub ReportsOnce : List Line → (List Line → Type 0) → Type 0
 ReportsOnce lines Are = (reasons : List Line) × Are reasons × (lines ≡ with_lines [] reasons)
-
--- ---- the answer
-
--- the output is the answer about the plan, with reasons
-abbrev pub IsExplained : Parts → PlanParts → Option Output → Type 0
-IsExplained p plan output = IsSomeAnd output (WhyVerdict p plan)
-
--- the verdict and, after it, these lines of reasons are this answer
-abbrev pub MakeAnswer : Parts → PlanParts → Answer → List Line → Type 0
-MakeAnswer p plan verdict lines = WhyVerdict p plan (record {
-  text = verdict.text.items ++ reasons_text p plan.steps lines;
-  status = verdict.status;
-})

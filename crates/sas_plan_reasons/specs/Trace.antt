@@ -11,10 +11,6 @@ use Rattle.sas_answers.specs.Words.{line}
 use Rattle.sas_answers.specs.Facts.{initial_lines}
 use Rattle.sas_run.specs.Runs.{Run, state_at}
 
--- the variables of a task, ascending
-abbrev pub variables_of : Parts → List ℕ
-variables_of p = range_with_len 0 (length p.variables)
-
 -- ---- a step
 
 -- `step I OPERATOR COST NAME`, where I is counted from 1, and the step has the operator's name
@@ -28,7 +24,7 @@ is_changed s s' var = not (slice_index s var == slice_index s' var)
 
 -- the variables of which this is so, ascending: derived ones, too
 abbrev pub changed : Parts → List ℕ → List ℕ → List ℕ
-changed p s s' = filter (is_changed s s') (variables_of p)
+changed p s s' = filter (is_changed s s') (range_with_len 0 (length p.variables))
 
 -- `change VAR OLD NEW NAME`, where NAME is the name of the value NEW
 abbrev pub change_line : Parts → List ℕ → List ℕ → ℕ → List ℕ

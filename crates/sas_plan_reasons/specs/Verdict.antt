@@ -5,6 +5,7 @@ use Rattle.sas_core.specs.PlanParts.{PlanParts}
 use Rattle.sas_run.specs.declared.plan_check.PlanFault.{PlanFault}
 use Rattle.sas_run.specs.Plans.{IsValid}
 use Rattle.sas_run.specs.Verdicts.{IsFaultOf}
+use Rattle.sas_answers.specs.declared.answer.Answer.{Answer}
 use Rattle.sas_answers.specs.declared.ending.Status.TheVariants.{No}
 use Rattle.sas_answers.specs.Ending.{Output}
 use Rattle.sas_answers.specs.Answers.{valid_answer, invalid_answer}
@@ -27,3 +28,10 @@ WhyVerdict p plan output =
     (((operators : List ℕ) × IsValid p plan operators) × (output ≡ valid_answer plan))
     ⊎ ((fault : PlanFault) × IsFaultOf p plan fault × Explains p plan fault output.text
     × (output.status ≡ No))
+
+-- the verdict and, after it, these lines of reasons are this answer
+abbrev pub MakeAnswer : Parts → PlanParts → Answer → List Line → Type 0
+MakeAnswer p plan verdict lines = WhyVerdict p plan (record {
+  text = verdict.text.items ++ reasons_text p plan.steps lines;
+  status = verdict.status;
+})

@@ -2,7 +2,6 @@
 use Rattle.std.specs.Prelude.{◌≡◌, ◌≢◌, ◌⊎◌, ℕ, ◌-◌, ◌<◌, ◌==◌, Bool, true, false, if◌then◌else◌, List, [], ◌∷◌, ◌++◌, length, filter, sum_by, slice_index_or, bytes_eq}
 use Rattle.std.specs.List.{count_by}
 use Rattle.std.specs.Option.{option_map_or}
-use Rattle.sas_core.specs.declared.parts.Fact.{Fact}
 use Rattle.sas_core.specs.declared.parts.Operator.{Operator}
 use Rattle.sas_core.specs.declared.parts.Parts.{Parts}
 use Rattle.sas_core.specs.PlanParts.{PlanParts}
@@ -15,7 +14,7 @@ use Rattle.sas_run.specs.declared.plan_check.PlanFault.TheVariants.{Memory, NoOp
 use Rattle.sas_answers.specs.declared.line.Line.{Line}
 use Rattle.sas_answers.specs.declared.line.Line.TheVariants as line
 use Rattle.sas_plan_reasons.specs.Lines.{with_lines, LineThen, LinesOfEach}
-use Rattle.sas_run.specs.Nameless.{nameless_steps}
+use Rattle.sas_names.specs.Nameless.{nameless_steps}
 use Rattle.sas_run.specs.Runs.{Run, last_state, StepsSucceed, steps_before}
 use Rattle.sas_plan_reasons.specs.Lowest.{AreLowest}
 use Rattle.sas_plan_reasons.specs.MayMean.{similar_operator, IsOther, MayMean}
@@ -23,15 +22,11 @@ use Rattle.sas_plan_reasons.specs.Cause.{fails, IsCause}
 
 -- ---- no operator of that name
 
--- a line for the lowest operator with a similar name, if any
-abbrev pub similar_name_lines : Parts → List ℕ → List Line
-similar_name_lines p name =
-    option_map_or (λ operator. line.SimilarOperator operator ∷ []) (similar_operator p name) []
-
--- the step, such an operator if any, and how many of the plan's steps name no operator
+-- the step, the lowest operator with a similar name, if any, and how many of the plan's steps name
+-- no operator
 abbrev pub nameless_lines : Parts → PlanParts → ℕ → List ℕ → List Line
-nameless_lines p plan step name =
-    line.Step step ∷ similar_name_lines p name
+nameless_lines p plan step name = line.Step step
+    ∷ option_map_or (λ operator. line.SimilarOperator operator ∷ []) (similar_operator p name) []
     ++ line.NamelessSteps (nameless_steps p plan.steps) (length plan.steps) ∷ []
 
 -- ---- not applicable
@@ -69,14 +64,10 @@ AreConflictLines p s operator lines = (effect earlier : ℕ)
 
 -- ---- goal fact not reached
 
--- the goal fact with this index; if the index is out of range, variable 0 with value 0
-abbrev pub goal_fact_at : Parts → ℕ → Fact
-goal_fact_at p index = slice_index_or p.goal index (record { var = 0; value = 0 })
-
 -- the goal fact with this index, and its cause
 abbrev pub AreGoalFactLines : Parts → Run → ℕ → List Line → Type 0
-AreGoalFactLines p run index lines =
-    LineThen (line.GoalFact index) (IsCause p run (goal_fact_at p index)) lines
+AreGoalFactLines p run index lines = LineThen (line.GoalFact index)
+    (IsCause p run (slice_index_or p.goal index (record { var = 0; value = 0 }))) lines
 
 -- how many facts of the goal don't hold, and these lines for each of them
 abbrev pub AreGoalLines : Parts → Run → List Line → Type 0

@@ -1,19 +1,57 @@
 // The causes of facts that fail.
-ghost use Rattle.std.specs.Prelude.{◌≡◌, ◌<◌, ℕ, [], ◌∷◌, ◌++◌, length, map, flat_map, find, OnOk, All, slice_index};
+ghost use Rattle.std.specs.Prelude.{◌≡◌, ◌<◌, ℕ, [], ◌∷◌, ◌++◌, length, map, flat_map, find, OnOk, All, slice_index, IfOk};
 ghost use Rattle.sas_core.specs.declared.parts.Fact.{Fact};
 ghost use Rattle.sas_core.specs.Variables.{IsState};
 ghost use Rattle.sas_meaning.specs.Places.{places, can_give};
+ghost use Rattle.sas_meaning.specs.Settled.{IsSettled};
 ghost use Rattle.sas_run.specs.Runs.{last_state};
 ghost use Rattle.sas_plan_reasons.specs.Cause.{fails, is_given, since_line, failing_lines, AreDerivationLines, can_be_given, keeping_lines, IsCause};
-ghost use Rattle.sas_plan_reasons.specs.Report.{IsReportOf, AddsLines};
+ghost use Rattle.sas_plan_reasons.specs.Report.{IsReport, IsReportOf, AddsLines};
 
-use crate::origins::requires_rules;
-use crate::plan_history::PlanHistory;
-use crate::report::Report;
+use crate::origins::{Origins, requires_rules};
+use crate::second_pass::PlanHistory;
 use sas_answers::Line;
+use sas_axioms::rules_of_variables;
 use sas_core::{Fact, Grounded, Items};
+use sas_flat::Lists;
 use sas_meaning::{Layered, State};
-use std::alloc::AllocError;
+use std::alloc::{AllocError, Global};
+
+/// The lines of reasons so far, and what keeps a line of a rule from standing twice.
+#[derive(Drop)]
+pub struct Report {
+    pub lines: Items<Line>,
+    /// The rules that give derived variables their values, and for which of them there is a line.
+    pub origins: Origins,
+    /// The rules of each variable that can fire.
+    pub rules: Lists<u32>,
+    /// For each variable, whether there are lines for its rules that don't fire.
+    pub kept: Items<bool>,
+    /// The rules of one derivation whose lines come next.
+    pub next: Vec<u32>,
+}
+
+impl Report {
+    /// Returns the report of this state without a line.
+    pub fn new<T: Grounded>(
+        alloc: Global,
+        task: &Layered<T>,
+        state: &State,
+    ) -> Result<Report, AllocError>
+        requires state { IsState task.now.variables state.now }
+        requires settled { IsSettled task.now state.now }
+        ensures report { IfOk result (λ report. IsReport task.now state.now report) }
+        ensures empty { IfOk result (λ report. report.lines ≡ []) }
+    {
+        Ok(Report {
+            lines: Items::new(alloc),
+            origins: Origins::new(alloc, task, state)?,
+            rules: rules_of_variables(alloc, task)?,
+            kept: Items::from_vec(vec![in alloc; false; task.variables() as usize]?),
+            next: Vec::new(alloc),
+        })
+    }
+}
 
 /// Reports the cause of a fact that fails in the last state.
 pub fn report_cause<T: Grounded>(

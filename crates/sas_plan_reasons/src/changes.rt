@@ -1,10 +1,13 @@
 // Since when the variables have their values.
-ghost use Rattle.std.specs.Prelude.{◌≢◌, ℕ, ◌<◌, length, All, IfOk};
+ghost use Rattle.std.specs.Prelude.{◌≢◌, ℕ, ◌<◌, length, All, Contains, IfOk};
 ghost use Rattle.sas_core.specs.declared.parts.Fact.{Fact};
-ghost use Rattle.sas_plan_reasons.specs.Retracing.{HavePlaces, NotedAt, LeftAt, NotesSome, NotesChanges, AreFirstChanges, CoverChanges};
+ghost use Rattle.sas_meaning.specs.DerivedVariables.{AreDerived};
+ghost use Rattle.sas_run.specs.Stepping.{HasFactOn, ListsChanges};
+ghost use Rattle.sas_plan_reasons.specs.Retracing.{HavePlaces, NotedAt, LeftAt, Notes, AreFirstChanges};
 
-use sas_core::Fact;
-use sas_meaning::State;
+use sas_core::{Fact, Grounded, Stepwise};
+use sas_meaning::{Settle, State};
+use sas_run::Execution;
 use std::alloc::{AllocError, Global};
 
 /// The values of the variables in a state of a plan, and for each variable the last step that changed its value,
@@ -25,25 +28,31 @@ impl Changes {
         Ok(Changes { values, since })
     }
 
-    /// Notes the step, which led to this state, for each variable whose value it changed. Each of these is the variable of a
-    /// fact that is deleted, or one of `touched`, which may have changed. The others aren't looked at.
-    #[tactic(auto, using(crate::proofs::Looking::all_noted))]
-    pub fn note(&mut self, step: usize, state: &State, deleted: &[Fact], touched: &[u32])
-        requires places { HavePlaces (length state.now) self.old }
-        requires cover { CoverChanges self.old.values.items state.now deleted.now touched.now }
-        ensures { NotesChanges step state.now self.old self.new }
+    /// Notes the step that the execution made last for each variable whose value it changed. Only variables that it may have changed are
+    /// looked at: those of the facts that it deleted, and the derived ones on its list, or all where any may have changed.
+    pub fn note<E: Settle<T> + Drop, T: Grounded, P: Stepwise>(
+        &mut self,
+        step: usize,
+        execution: &Execution<'_, '_, E, T, P>,
+        derived: &[u32],
+    )
+        requires places { HavePlaces (length execution.now.task.variables) self.old }
+        requires changes { ListsChanges execution.now.task self.old.values.items
+            execution.now.state execution.now.deleted execution.now.touched }
+        requires derived { AreDerived execution.now.task derived.now }
+        ensures { Notes step execution.now.state
+            (λ var. var < length execution.now.state) self.old self.new }
     {
-        self.note_deleted(step, state, deleted);
-        self.note_touched(step, state, touched);
+        let state = execution.state();
+        self.note_deleted(step, state, execution.deleted());
+        self.note_touched(step, state, execution.touched().vars().unwrap_or(derived));
     }
 
     /// Notes the step for each variable of the facts, if it changed its value.
     fn note_deleted(&mut self, step: usize, state: &State, deleted: &[Fact])
         requires places { HavePlaces (length state.now) self.old }
         requires exist { All (λ (f : Fact). f.var < length state.now) deleted.now }
-        ensures some { NotesSome step state.now self.old self.new }
-        ensures noted { All (λ (f : Fact). NotedAt step state.now self.old self.new f.var)
-            deleted.now }
+        ensures { Notes step state.now (HasFactOn deleted.now) self.old self.new }
     {
         for fact in deleted {
             self.note_variable(fact.var as usize, step, state);
@@ -54,8 +63,7 @@ impl Changes {
     fn note_touched(&mut self, step: usize, state: &State, touched: &[u32])
         requires places { HavePlaces (length state.now) self.old }
         requires exist { All (λ (var : ℕ). var < length state.now) touched.now }
-        ensures some { NotesSome step state.now self.old self.new }
-        ensures noted { All (NotedAt step state.now self.old self.new) touched.now }
+        ensures { Notes step state.now (Contains touched.now) self.old self.new }
     {
         for var in touched {
             self.note_variable(*var as usize, step, state);

@@ -8,17 +8,16 @@ ghost use Rattle.sas_meaning.specs.Steps.{Agree};
 ghost use Rattle.sas_plan_reasons.specs.Cause.{fails};
 ghost use Rattle.sas_plan_reasons.specs.Lines.{LineThen};
 ghost use Rattle.sas_core.specs.Stepwise.{step_at};
-ghost use Rattle.sas_run.specs.Nameless.{nameless_steps};
+ghost use Rattle.sas_names.specs.Nameless.{nameless_steps};
 ghost use Rattle.sas_run.specs.Runs.{Run};
 ghost use Rattle.sas_plan_reasons.specs.WhyPlan.{nameless_lines, AreFailedPreconditionLines, AreOperatorLines, AreConflictLines, AreGoalLines, AreFaultLines, IsWhy, cost_hint, cost_lines, cost_lines_sum};
-ghost use Rattle.sas_plan_reasons.specs.Retracing.{Retraces, IsRetraced};
+ghost use Rattle.sas_plan_reasons.specs.Retracing.{Retraces};
 ghost use Rattle.sas_plan_reasons.specs.Report.{IsBehind, IsReportOf, AddsLines, ReportsOnce};
 
-use crate::causes::report_cause;
+use crate::causes::{Report, report_cause};
 use crate::conflicts::conflict;
 use crate::likeness::like;
-use crate::plan_history::PlanHistory;
-use crate::report::Report;
+use crate::second_pass::PlanHistory;
 use sas_answers::Line;
 use sas_core::{Fact, Grounded, Items, Stepwise};
 use sas_flat::FlatTask;
@@ -33,7 +32,7 @@ pub fn reasons<P: Stepwise>(
     plan: &P,
     history: &PlanHistory,
 ) -> Result<Vec<Line>, AllocError>
-    requires { IsRetraced layered.now (P.says plan.now) history.now }
+    requires { (run : Run) × Retraces layered.now (P.says plan.now) history.now run }
     ensures { IfOk result (λ lines.
         IsWhy layered.now (P.says plan.now) history.now.fault lines.items) }
 {
@@ -54,7 +53,7 @@ fn lines_of_fault<P: Stepwise>(
     plan: &P,
     history: &PlanHistory,
 ) -> Result<Items<Line>, AllocError>
-    requires { IsRetraced layered.now (P.says plan.now) history.now }
+    requires { (run : Run) × Retraces layered.now (P.says plan.now) history.now run }
     ensures { IfOk result (λ lines. (run : Run)
         → Retraces layered.now (P.says plan.now) history.now run
         → ReportsOnce lines (AreFaultLines layered.now (P.says plan.now) run history.now.fault)) }
@@ -63,7 +62,7 @@ fn lines_of_fault<P: Stepwise>(
     let _ = layered.task();
     match history.fault {
         PlanFault::Memory => unreachable!(),
-        PlanFault::NoOperator { step } => unknown(alloc, layered, plan, history, step),
+        PlanFault::NoOperator { step } => unknown(alloc, layered, plan, step, history.nameless),
         PlanFault::NotApplicable { step } => {
             blocked(alloc, layered, history, plan.step(step - 1), step)
         }
@@ -79,16 +78,16 @@ fn lines_of_fault<P: Stepwise>(
 
 /// Returns the lines for a step whose name no operator has: the step, an operator of a similar name, and how many steps name no operator.
 #[tactic(auto, using(crate::proofs::Faulty::nameless_reported))]
-fn unknown<T: Grounded, P: Stepwise>(
+pub fn unknown<T: Grounded, P: Stepwise>(
     alloc: Global,
     task: &Layered<T>,
     plan: &P,
-    history: &PlanHistory,
     step: usize,
+    nameless: usize,
 ) -> Result<Items<Line>, AllocError>
     requires step { 0 < step }
     requires exists { step ≤ length (P.says plan.now).steps }
-    requires nameless { history.now.nameless ≡ nameless_steps task.now (P.says plan.now).steps }
+    requires nameless { nameless ≡ nameless_steps task.now (P.says plan.now).steps }
     ensures { IfOk result (λ lines. ReportsOnce lines (λ its.
         its ≡ nameless_lines task.now (P.says plan.now) step
         (step_at (P.says plan.now) (step - 1)))) }
@@ -99,7 +98,7 @@ fn unknown<T: Grounded, P: Stepwise>(
         lines.push(Line::SimilarOperator { operator })?;
     }
     lines.push(Line::NamelessSteps {
-        count: history.nameless,
+        count: nameless,
         steps: plan.steps(),
     })?;
     Ok(lines)

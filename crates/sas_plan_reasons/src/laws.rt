@@ -11,7 +11,7 @@ ghost use Rattle.sas_meaning.specs.Layers.{IsBasic, IsOnLayer, default_of, CanFi
 ghost use Rattle.sas_meaning.specs.Settled.{differs, IsSettled};
 ghost use Rattle.sas_meaning.specs.Steps.{preconditions, Agree};
 ghost use Rattle.sas_meaning.specs.Places.{places};
-ghost use Rattle.sas_run.specs.Named.{IsNamed};
+ghost use Rattle.sas_names.specs.Named.{IsNamed};
 ghost use Rattle.sas_run.specs.declared.plan_check.PlanFault.{PlanFault};
 ghost use Rattle.sas_run.specs.Plans.{IsApplicable};
 ghost use Rattle.sas_run.specs.Verdicts.{IsFirstMissed, IsFaultOf};

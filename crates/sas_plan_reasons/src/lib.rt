@@ -3,25 +3,18 @@
 #![tactic(auto)]
 
 mod causes;
-mod changed;
 mod changes;
 mod conflicts;
 mod faults;
 mod laws;
 mod likeness;
-mod lines;
 mod origin_rounds;
 mod origins;
-mod plan_history;
-mod report;
 mod second_pass;
-mod traces;
 mod tracing;
 mod writing;
 
 pub use faults::reasons;
 pub use laws::{cause_laws, derivation_laws, name_laws, since_laws, trace_laws, why_laws};
-pub use plan_history::{OtherOperator, PlanHistory};
-pub use second_pass::retrace;
-pub use traces::write_trace;
-pub use writing::write_explained;
+pub use second_pass::{OtherOperator, PlanHistory, retrace};
+pub use writing::{write_explained, write_trace};

@@ -1,6 +1,5 @@
 // A trace as it is written: the second pass over a plan.
-ghost use Rattle.std.specs.Prelude.{◌≡◌, ◌<◌, ◌∷◌, length, slice_index, slice_set, IfOk, flat_map};
-ghost use Rattle.std.specs.List.{range_with_len};
+ghost use Rattle.std.specs.Prelude.{◌≡◌, ◌<◌, ◌∷◌, ℕ, List, length, slice_index, slice_set, IfOk, IsTrue};
 ghost use Rattle.std.specs.List.Sorted.{IsNonDecreasing};
 ghost use Rattle.sas_lines.specs.Lines.{text};
 ghost use Rattle.sas_answers.specs.Facts.{initial_lines};
@@ -8,25 +7,23 @@ ghost use Rattle.sas_answers.specs.Sink.{Pushes};
 ghost use Rattle.sas_run.specs.Executions.{Executes, Advances, next_operator};
 ghost use Rattle.sas_run.specs.Stepping.{ListsChanges};
 ghost use Rattle.sas_run.specs.Runs.{Run};
-ghost use Rattle.sas_plan_reasons.specs.Tracing.{ListCoversChanges, change_text, HasTraced};
-ghost use Rattle.sas_plan_reasons.specs.Trace.{step_line, change_lines, step_lines, run_lines};
+ghost use Rattle.sas_plan_reasons.specs.Retracing.{ListCoversChanges, change_text};
+ghost use Rattle.sas_plan_reasons.specs.Trace.{step_line, change_lines, run_lines};
 
-use crate::changed::list_changes;
-use crate::lines::{push_change_line, push_initial_line, push_step_line};
-use sas_answers::Sink;
-use sas_core::{Fact, Grounded};
+use sas_answers::{NumberedLine, Sink, Word, Words, value_name};
+use sas_core::{Fact, Grounded, Stepwise};
 use sas_flat::{FlatPlan, FlatTask};
 use sas_meaning::{Layered, Settle, State};
 use sas_run::Execution;
 use std::alloc::{AllocError, Global};
 use std::io::Write;
 
-/// What was printed of a trace. Only `new` takes memory.
+/// What was printed of a trace. Only `new` takes memory, as a step lists no more variables than the task has.
 #[derive(Drop)]
 pub struct Tracer {
     /// The values of the variables, as they were printed so far.
     pub printed: Vec<u32>,
-    /// Variables that the last step changed. There is room for as many as the task has.
+    /// Variables that the last step may have changed. There is room for as many as the task has.
     pub listed: Vec<u32>,
 }
 
@@ -40,37 +37,22 @@ impl Tracer {
         Ok(Tracer { printed, listed })
     }
 
-    /// Makes the steps of the execution, which is before its first one, and adds the lines of its run to the text.
+    /// Makes the steps of the execution, which is before its first one, and adds the lines of its run to the text. After a failed write it
+    /// makes no more steps.
     pub fn push_run<W: Write, E: Settle<FlatTask> + Drop>(
         &mut self,
         sink: &mut Sink<'_, W>,
         task: &Layered<FlatTask>,
         execution: &mut Execution<'_, '_, E, FlatTask, FlatPlan>,
     )
+        requires task { execution.old.task ≡ task.now }
         requires start { execution.old.made ≡ 0 }
-        requires stands { (run : Run)
-            × HasTraced task.now run execution.old self.old.printed.items }
-        ensures { (run : Run) → HasTraced task.now run execution.old self.old.printed.items
+        requires run { (run : Run) × Executes run execution.old }
+        requires printed { self.old.printed.items ≡ execution.old.state }
+        ensures { (run : Run) → Executes run execution.old
             → Pushes W.contents sink.old sink.new (text (run_lines task.now run)) }
     {
         push_initial_lines(sink, task, execution.state());
-        self.push_steps(sink, task, execution);
-    }
-
-    /// Makes the steps that go through, and adds their lines to the text. After a failed write it makes no more steps.
-    fn push_steps<W: Write, E: Settle<FlatTask> + Drop>(
-        &mut self,
-        sink: &mut Sink<'_, W>,
-        task: &Layered<FlatTask>,
-        execution: &mut Execution<'_, '_, E, FlatTask, FlatPlan>,
-    )
-        requires start { execution.old.made ≡ 0 }
-        requires stands { (run : Run)
-            × HasTraced task.now run execution.old self.old.printed.items }
-        ensures { (run : Run) → HasTraced task.now run execution.old self.old.printed.items
-            → Pushes W.contents sink.old sink.new
-            (text (flat_map (step_lines task.now run) (range_with_len 0 (length run.steps)))) }
-    {
         for before in 0..execution.operators().len() {
             // Nothing more would be written.
             if sink.out.failed() {
@@ -100,7 +82,13 @@ impl Tracer {
         ensures printed { self.new.printed.items ≡ execution.new.state }
     {
         let operator = execution.advance();
-        push_step_line(sink, task, step, operator);
+        sink.push_numbered(NumberedLine {
+            word: b"step",
+            first: step as u64,
+            second: u64::from(operator),
+            third: u64::from(task.cost(operator)),
+            name: task.name(operator),
+        });
         self.push_changes(sink, task, execution);
     }
 
@@ -119,7 +107,7 @@ impl Tracer {
             (text (change_lines task.now self.old.printed.items execution.now.state)) }
         ensures printed { self.new.printed.items ≡ execution.now.state }
     {
-        if list_changes(&mut self.listed, self.printed.as_slice(), execution) {
+        if list_changes(execution, &mut self.listed) {
             self.listed.sort_unstable();
             self.push_listed(sink, task, execution.state());
         } else {
@@ -189,7 +177,13 @@ impl Tracer {
             return;
         }
         self.printed[var as usize] = value;
-        push_change_line(sink, task, before, Fact { var, value });
+        sink.push_numbered(NumberedLine {
+            word: b"change",
+            first: u64::from(var),
+            second: u64::from(before),
+            third: u64::from(value),
+            name: value_name(task.task(), Fact { var, value }),
+        });
     }
 }
 
@@ -200,6 +194,38 @@ fn push_initial_lines<W: Write>(sink: &mut Sink<'_, W>, task: &Layered<FlatTask>
         (text (initial_lines task.now.variables state.now)) }
 {
     for var in 0..task.variables() {
-        push_initial_line(sink, task, state, var);
+        let value = state.value(var);
+        let rest = [
+            Word::Number(u64::from(var)),
+            Word::Number(u64::from(value)),
+            Word::Text(value_name(task.task(), Fact { var, value })),
+        ];
+        sink.push_line(Words {
+            first: b"initial",
+            rest: &rest,
+        });
     }
+}
+
+/// Lists the variables that the last step may have changed, in no order. Returns whether these are all: not so where any may have changed,
+/// or the list has too little room.
+fn list_changes<E: Settle<T> + Drop, T: Grounded, P: Stepwise>(
+    execution: &Execution<'_, '_, E, T, P>,
+    listed: &mut Vec<u32>,
+) -> bool
+    ensures { IsTrue result → (s : List ℕ) → length s ≡ length execution.now.task.variables
+        → ListsChanges execution.now.task s execution.now.state execution.now.deleted
+        execution.now.touched
+        → ListCoversChanges s execution.now.state listed.new.items }
+{
+    listed.clear();
+    let Some(touched) = execution.touched().vars() else {
+        return false;
+    };
+    for fact in execution.deleted() {
+        if listed.push(fact.var).is_err() {
+            return false;
+        }
+    }
+    listed.extend_from_slice(touched).is_ok()
 }

@@ -1,23 +1,29 @@
-// The answer about a plan with the reasons why it isn't valid, as it goes out.
-ghost use Rattle.std.specs.Prelude.{◌≡◌, ℕ, List, false, IfOk};
+// The answers about a plan with the reasons why it isn't valid, or with its trace, as they go out.
+ghost use Rattle.std.specs.Prelude.{◌≡◌, ℕ, List, Some, false, IfOk, IfSome, IsSomeAnd};
 ghost use Rattle.sas_core.specs.declared.parts.Parts.{Parts};
-ghost use Rattle.sas_answers.specs.Ending.{EndsCounting, Writes};
+ghost use Rattle.sas_answers.specs.Ending.{EndsCounting, Writes, output_of};
+ghost use Rattle.sas_names.specs.Nameless.{nameless_steps};
+ghost use Rattle.sas_run.specs.Executions.{IsNew, IsFound, HaveNoNamesakes};
 ghost use Rattle.sas_run.specs.Plans.{IsValid};
-ghost use Rattle.sas_plan_reasons.specs.Report.{IsExplained, MakeAnswer};
-ghost use Rattle.sas_plan_reasons.specs.Retracing.{IsRetraced};
+ghost use Rattle.sas_run.specs.Runs.{Run, RunEndsWith};
+ghost use Rattle.sas_run.specs.declared.plan_check.PlanFault.TheVariants.{NoOperator};
+ghost use Rattle.sas_plan_reasons.specs.Retracing.{Retraces, ComesUnambiguously};
+ghost use Rattle.sas_plan_reasons.specs.Traced.{EndsWith, IsTraced};
+ghost use Rattle.sas_plan_reasons.specs.Verdict.{WhyVerdict, MakeAnswer};
 
-use crate::faults::reasons;
-use crate::plan_history::PlanHistory;
-use crate::second_pass::retrace;
+use crate::faults::{reasons, unknown};
+use crate::second_pass::{PlanHistory, retrace};
+use crate::tracing::Tracer;
 use sas_answers::{
-    Answer, Line, NameSource, Status, ToolFault, accept_plan, answer_fault, write_reasons,
+    Answer, Line, NameSource, Pieces, Sink, Status, ToolFault, accept_plan, answer_fault,
+    write_reasons,
 };
 use sas_axioms::Worklist;
 use sas_core::Stepwise;
 use sas_flat::{FlatPlan, FlatTask};
 use sas_lines::Watched;
-use sas_meaning::Layered;
-use sas_run::Execution;
+use sas_meaning::{Layered, Settle};
+use sas_run::{Execution, PlanFault};
 use std::alloc::{AllocError, Global};
 use std::io::Write;
 
@@ -32,8 +38,8 @@ pub fn write_explained<W: Write>(
     out: &mut Watched<W>,
 ) -> Result<Status, ToolFault>
     requires { out.old.failed ≡ false }
-    ensures { Writes W.contents (EndsCounting (IsExplained task.now plan.now))
-        out.old out.new result }
+    ensures { Writes W.contents (EndsCounting (λ output.
+        IsSomeAnd output (WhyVerdict task.now plan.now))) out.old out.new result }
 {
     let (verdict, reasons) = explain_plan(alloc, task, plan)?;
     let named = NameSource {
@@ -58,12 +64,48 @@ fn explain_plan(
             drop(execution);
             explain_valid(alloc, plan)
         }
-        Some(fault) => {
+        Some(fault) => explain_invalid(alloc, task, plan, execution, fault),
+    }
+}
+
+/// Returns the verdict on a plan with this fault, and the reasons for it. The execution found the fault, and is at its start. The steps
+/// before the fault are made once more, unless a step's name is unknown and no step before it may mean another operator.
+fn explain_invalid<E: Settle<FlatTask> + Drop>(
+    alloc: Global,
+    task: &Layered<FlatTask>,
+    plan: &FlatPlan,
+    execution: Execution<'_, '_, E, FlatTask, FlatPlan>,
+    fault: PlanFault,
+) -> Result<(Answer, Vec<Line>), AllocError>
+    requires { IsFound task.now plan.now (Some fault) execution }
+    ensures { IfOk result (λ found. MakeAnswer task.now plan.now found.0 found.1.items) }
+{
+    match unknown_step(fault, &execution) {
+        Some(step) => {
+            let nameless = execution.nameless();
+            drop(execution);
+            explain_unknown(alloc, task, plan, step, nameless)
+        }
+        None => {
             let history = retrace(alloc, execution, fault)?;
             let explained = explain_fault(alloc, task, plan, &history);
             drop(history);
             explained
         }
+    }
+}
+
+/// Returns the step whose name no operator has, if this is the fault and no step before it may mean another operator.
+fn unknown_step<E: Settle<FlatTask> + Drop>(
+    fault: PlanFault,
+    execution: &Execution<'_, '_, E, FlatTask, FlatPlan>,
+) -> Option<usize>
+    ensures { IfSome result (λ step. (fault ≡ NoOperator step)
+        × HaveNoNamesakes execution.now.task execution.now.operators) }
+{
+    match fault {
+        PlanFault::NoOperator { step } if !execution.has_namesakes() => Some(step),
+        _ => None,
     }
 }
 
@@ -75,6 +117,24 @@ fn explain_valid(alloc: Global, plan: &FlatPlan) -> Result<(Answer, Vec<Line>), 
     Ok((accept_plan(alloc, plan)?, Vec::new(alloc)))
 }
 
+/// Returns the verdict on a plan with this step, whose name no operator has, and the reasons for it. No step before it may mean another
+/// operator.
+fn explain_unknown(
+    alloc: Global,
+    task: &Layered<FlatTask>,
+    plan: &FlatPlan,
+    step: usize,
+    nameless: usize,
+) -> Result<(Answer, Vec<Line>), AllocError>
+    requires run { (run : Run) × ComesUnambiguously task.now plan.now (NoOperator step) run }
+    requires nameless { nameless ≡ nameless_steps task.now plan.now.steps }
+    ensures { IfOk result (λ found. MakeAnswer task.now plan.now found.0 found.1.items) }
+{
+    let lines = unknown(alloc, task, plan, step, nameless)?;
+    let verdict = answer_fault(alloc, plan.cost(), PlanFault::NoOperator { step })?;
+    Ok((verdict, lines.into_vec()))
+}
+
 /// Returns the verdict on the plan's fault, and the reasons for it.
 fn explain_fault(
     alloc: Global,
@@ -82,10 +142,70 @@ fn explain_fault(
     plan: &FlatPlan,
     history: &PlanHistory,
 ) -> Result<(Answer, Vec<Line>), AllocError>
-    requires { IsRetraced task.now plan.now history.now }
+    requires { (run : Run) × Retraces task.now plan.now history.now run }
     ensures { IfOk result (λ found. MakeAnswer task.now plan.now found.0 found.1.items) }
 {
     let lines = reasons(alloc, task, plan, history)?;
     let verdict = answer_fault(alloc, plan.cost(), history.fault)?;
     Ok((verdict, lines))
+}
+
+/// Writes the trace of a plan of the task, and the answer about it, in pieces, and returns its status. The plan is judged first;
+/// then its steps are gone through once more. If an `Err` isn't a failed write, it is `Memory`, and nothing was written: all memory
+/// is allocated before the first byte. Not to be called after a failure.
+pub fn write_trace<W: Write>(
+    alloc: Global,
+    task: &Layered<FlatTask>,
+    plan: &FlatPlan,
+    out: &mut Watched<W>,
+) -> Result<Status, ToolFault>
+    requires out { out.old.failed ≡ false }
+    ensures { Writes W.contents (EndsCounting (IsTraced task.now plan.now)) out.old out.new result }
+{
+    let worklist = Worklist::new(alloc, task)?;
+    let mut execution = Execution::new(alloc, task, worklist, plan)?;
+    let written = write_execution(alloc, task, plan, &mut execution, out);
+    drop(execution);
+    written
+}
+
+/// Writes the trace of the plan by its execution, which is new, as `write_trace` does.
+fn write_execution<W: Write, E: Settle<FlatTask> + Drop>(
+    alloc: Global,
+    task: &Layered<FlatTask>,
+    plan: &FlatPlan,
+    execution: &mut Execution<'_, '_, E, FlatTask, FlatPlan>,
+    out: &mut Watched<W>,
+) -> Result<Status, ToolFault>
+    requires execution { IsNew task.now plan.now execution.old }
+    requires out { out.old.failed ≡ false }
+    ensures { Writes W.contents (EndsCounting (IsTraced task.now plan.now)) out.old out.new result }
+{
+    // What takes memory comes first.
+    let verdict = verdict_on(alloc, plan, execution.find_fault())?;
+    let mut tracer = Tracer::new(alloc, execution.state())?;
+    let mut pieces = Pieces::new(alloc)?;
+    let mut sink = Sink::new(verdict.status, &mut pieces, out);
+    tracer.push_run(&mut sink, task, execution);
+    sink.push(verdict.text.as_slice());
+    let ended = sink.finish();
+    drop(pieces);
+    drop(tracer);
+    drop(verdict);
+    ended
+}
+
+/// Returns the verdict on a plan with this fault, or on a valid plan.
+fn verdict_on(
+    alloc: Global,
+    plan: &FlatPlan,
+    fault: Option<PlanFault>,
+) -> Result<Answer, AllocError>
+    ensures { IfOk result (λ verdict. (p : Parts) (run : Run) → RunEndsWith p plan.now run fault
+        → EndsWith p plan.now run (output_of verdict)) }
+{
+    match fault {
+        None => accept_plan(alloc, plan),
+        Some(fault) => answer_fault(alloc, plan.cost(), fault),
+    }
 }

@@ -25,9 +25,8 @@ pub use Rattle.sas_lines.proofs.EndedLines.{ended_lines}
 pub use Rattle.sas_lines.proofs.Splitting.{lines-append, unfinished-append, lines-few, lines-none, unfinished-plain_all, lines-end, unfinished-none, lines-plain, unfinished-plain, unfinished-end, lines-part, lines-without, Plain}
 pub use Rattle.sas_lines.proofs.Words.{Without-decimal}
 pub use Rattle.sas_lines.specs.Device.{Device}
-pub use Rattle.sas_lines.specs.FirstLines.{TakesLine, LineStandsFirst, LinesStandFirst}
+pub use Rattle.sas_lines.specs.FirstLines.{TakesLine, LineStandsFirst, LinesStandFirst, NoEnd, EndedLines}
 pub use Rattle.sas_lines.specs.Lines.{without_return, text}
-pub use Rattle.sas_lines.specs.EndedLines.{NoEnd, EndedLines}
 unfoldable pub use Rattle.sas_lines.specs.Lines.{lines, unfinished}
 pub use Rattle.sas_lines.specs.Progress.{Progress, completed}
 pub use Rattle.sas_reader.specs.About.{IsAbout, of_line, of_byte, of_end, ConcernsText, EndsUnended, AboutLaws}

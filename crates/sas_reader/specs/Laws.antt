@@ -1,7 +1,7 @@
 -- Laws of a format.
 use Rattle.std.specs.Prelude.{◌≡◌, ◌≢◌, ℕ, ◌≤◌, List, [], ◌++◌, length, Result, ◌↔◌}
 use Rattle.sas_lines.specs.Lines.{text}
-use Rattle.sas_lines.specs.EndedLines.{EndedLines}
+use Rattle.sas_lines.specs.FirstLines.{EndedLines}
 use Rattle.sas_reader.specs.declared.fault.Fault.{Fault}
 use Rattle.sas_reader.specs.declared.fault.Kind.TheVariants.{TooLong}
 use Rattle.sas_reader.specs.Texts.{lines_of, Reads}

@@ -11,4 +11,4 @@ pub use devices::{read_all, read_all_large};
 pub use fault::{Fault, Kind};
 pub use found::{Excerpt, FOUND};
 pub use reader::{Front, LIMIT, Machine, Reader, Refusal, limit_law};
-pub use scanning::{behind_line, plain_end};
+pub use scanning::{AnyEnd, Lf, LineEnd, plain_end};

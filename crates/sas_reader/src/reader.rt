@@ -7,6 +7,7 @@ ghost use Rattle.sas_reader.specs.Machine.{AcceptsAhead};
 
 use crate::fault::{Fault, Kind};
 use crate::found::Excerpt;
+use crate::scanning::{AnyEnd, Lf, LineEnd, ends_with_return};
 use sas_lines::{Lines, first_line};
 use std::alloc::Global;
 
@@ -49,9 +50,9 @@ pub trait Machine: Drop {
             → behavior.stopped self.old line.now k self.new) }
         ensures kind { IfErr result IsOfBytes };
 
-    /// Accepts one or more of the first lines of the bytes if it can do so quickly. Returns how many lines and bytes it accepted. Otherwise
-    /// accepts nothing and returns `Front::EMPTY`; then `accept` has to judge the next line.
-    fn accept_ahead(&mut self, bytes: &[u8]) -> Result<Front, Kind>
+    /// Accepts one or more of the first lines of the bytes, each ended by `E`, if it can do so quickly. Returns how many lines and bytes it
+    /// accepted. Otherwise accepts nothing and returns `Front::EMPTY`; then `accept` has to judge the next line.
+    fn accept_ahead<E: LineEnd>(&mut self, bytes: &[u8]) -> Result<Front, Kind>
         requires { behavior.ended self.old → ⊥ }
         ensures { AcceptsAhead behavior.led_by self.old bytes.now self.new result }
     {
@@ -190,7 +191,7 @@ impl<M: Machine> Reader<M> {
 
     /// Takes the first lines of the piece that the machine accepts ahead, if any. Returns how many bytes it took.
     #[inline(always)]
-    fn take_front(&mut self, piece: &[u8]) -> Result<usize, Kind>
+    fn take_front<E: LineEnd>(&mut self, piece: &[u8]) -> Result<usize, Kind>
         requires some { 0 < length piece.now }
         requires room { self.old.taken + length piece.now ≤ self.old.limit }
         requires whole { self.old.pending.pending ≡ [] }
@@ -200,7 +201,7 @@ impl<M: Machine> Reader<M> {
         if self.machine.has_ended() {
             return Ok(0);
         }
-        let front = self.machine.accept_ahead(piece)?;
+        let front = self.machine.accept_ahead::<E>(piece)?;
         if front.bytes == 0 {
             return Ok(0);
         }
@@ -209,9 +210,26 @@ impl<M: Machine> Reader<M> {
         Ok(front.bytes)
     }
 
-    /// Takes lines ahead, as many as the machine and the limit allow. Returns how many bytes it took. This loop is a function of its own in
-    /// the program, with all that it calls for each section.
+    /// Takes lines ahead that end with `E`, as many as the machine allows. Returns how many bytes it took. This loop is a function of its own
+    /// in the program, with all that it calls for each section.
     #[inline(never)]
+    fn take_fronts_ended<E: LineEnd>(&mut self, within: &[u8]) -> Result<usize, Kind>
+        requires room { self.old.taken + length within.now ≤ self.old.limit }
+        requires whole { self.old.pending.pending ≡ [] }
+        ensures { TakesFrontOrStops M.behavior self.old within.now self.new result }
+    {
+        let mut at = 0;
+        while at < within.len() {
+            let taken = self.take_front::<E>(&within[at..])?;
+            if taken == 0 {
+                return Ok(at);
+            }
+            at += taken;
+        }
+        Ok(at)
+    }
+
+    /// Takes lines ahead, as many as the machine and the limit allow. Returns how many bytes it took.
     fn take_fronts(&mut self, piece: &[u8]) -> Result<usize, Kind>
         ensures { TakesFrontOrStops M.behavior self.old piece.now self.new result }
     {
@@ -219,15 +237,11 @@ impl<M: Machine> Reader<M> {
             return Ok(0);
         }
         let within = self.within_limit(piece);
-        let mut at = 0;
-        while at < within.len() {
-            let taken = self.take_front(&within[at..])?;
-            if taken == 0 {
-                return Ok(at);
-            }
-            at += taken;
+        if ends_with_return(within) {
+            self.take_fronts_ended::<AnyEnd>(within)
+        } else {
+            self.take_fronts_ended::<Lf>(within)
         }
-        Ok(at)
     }
 
     /// Takes the lines that can be taken ahead, and then the bytes up to and including the next LF. Returns how many bytes it took.

@@ -23,14 +23,15 @@ fn plain_bytes(bytes: &[u8], at: usize) -> usize
     }
 }
 
-/// Returns the index of the first byte that is at most CR, as LF is, or `None` if there is none or it is near the end of the bytes.
+/// Returns the index of the first byte that is at most CR, as LF is. Returns `None` if there is none or it is near the end of the bytes. So
+/// another byte follows.
 #[inline(always)]
 pub fn plain_end(bytes: &[u8]) -> Option<usize>
-    ensures { IfSome result (λ end. (end < length bytes.now)
+    ensures { IfSome result (λ end. (end + 1 < length bytes.now)
         × ((k : ℕ) → k < end → 13 < slice_index bytes.now k)) }
 {
     let mut at = 0;
-    while bytes.len() - at >= LANES {
+    while bytes.len() - at > LANES {
         let plain = plain_bytes(bytes, at);
         if plain < LANES {
             return Some(at + plain);
@@ -40,29 +41,46 @@ pub fn plain_end(bytes: &[u8]) -> Option<usize>
     None
 }
 
-/// Returns the index after the CR LF at `at`, or `None` if there is none. It isn't inlined, so that the code for lines with LF stays small.
-#[cold]
-#[inline(never)]
-fn behind_return(bytes: &[u8], at: usize) -> Option<usize>
-    requires { at ≤ length bytes.now }
-    ensures { IfSome result (λ behind. (behind ≤ length bytes.now)
-        × (bytes.now ≡ take at bytes.now ++ 13 ∷ 10 ∷ drop behind bytes.now)) }
-{
-    match &bytes[at..] {
-        [b'\r', b'\n', ..] => Some(at + 2),
-        _ => None,
+/// How lines end. What reads many lines at once is compiled for each way, so that a line costs one test of its end.
+pub trait LineEnd {
+    /// Returns the bytes after the line end at `at`, or `None` if there is none.
+    fn behind(bytes: &[u8], at: usize) -> Option<&[u8]>
+        requires { at + 1 < length bytes.now }
+        ensures { IfSome result (λ rest. StandsBefore (take at bytes.now) 10 rest.now bytes.now) };
+}
+
+/// Lines end with LF.
+pub struct Lf;
+
+/// Lines end with LF or CR LF.
+pub struct AnyEnd;
+
+impl LineEnd for Lf {
+    #[inline(always)]
+    fn behind(bytes: &[u8], at: usize) -> Option<&[u8]> {
+        if bytes[at] == b'\n' {
+            Some(&bytes[at + 1..])
+        } else {
+            None
+        }
     }
 }
 
-/// Returns the bytes after the LF or CR LF at `at`, or `None` if there is none.
-#[inline(always)]
-pub fn behind_line(bytes: &[u8], at: usize) -> Option<&[u8]>
-    requires { at < length bytes.now }
-    ensures { IfSome result (λ rest. StandsBefore (take at bytes.now) 10 rest.now bytes.now) }
-{
-    if bytes[at] == b'\n' {
-        return Some(&bytes[at + 1..]);
+impl LineEnd for AnyEnd {
+    #[inline(always)]
+    fn behind(bytes: &[u8], at: usize) -> Option<&[u8]> {
+        if bytes[at] == b'\r' && bytes[at + 1] == b'\n' {
+            Some(&bytes[at + 2..])
+        } else {
+            Lf::behind(bytes, at)
+        }
     }
-    let behind = behind_return(bytes, at)?;
-    Some(&bytes[behind..])
+}
+
+/// Returns whether the first byte that is at most CR is CR. Then the first line probably ends with CR LF.
+pub fn ends_with_return(bytes: &[u8]) -> bool {
+    match plain_end(bytes) {
+        Some(end) => bytes[end] == b'\r',
+        None => false,
+    }
 }

@@ -1,5 +1,6 @@
 -- The first of the valid plans that cost least: there is one where a plan is valid, and one only.
-use Rattle.sas_requests.proofs.Imports.{◌≡◌, ℕ, ◌<◌, ◌≤◌, Bool, true, false, List, [], ◌∷◌, ◌++◌, length, get_or, refl, sym, ap, ◌∙◌, arith, inl, inr, Option, Some, None, if◌then◌else◌, nat_lt, ltb-true, ltb-false, cases_lt, none-some, length-append, append_assoc, get_or-append, get_or-append_seam, All, All-nil, All-cons, All-append, All-push, All-weaker, BestPlan, Judged, IsBest, HasBest, better, unjudged, IsPlace}
+use Rattle.std.proofs.lemmas.Grind.{common_steps}
+use Rattle.sas_requests.proofs.Imports.{IfSome, ◌≡◌, ℕ, ◌<◌, ◌≤◌, Bool, true, false, List, [], ◌∷◌, ◌++◌, length, get_or, refl, sym, ap, ◌∙◌, arith, inl, inr, Option, Some, None, if◌then◌else◌, nat_lt, ltb-true, ltb-false, cases_lt, none-some, length-append, append_assoc, get_or-append, get_or-append_seam, All, All-nil, All-cons, All-append, All-push, All-weaker, BestPlan, Judged, IsBest, HasBest, better, unjudged}
 
 -- the plan isn't valid; or if it is, it costs more, or as much at least
 abbrev HasNoCost : Judged → Type 0
@@ -24,9 +25,7 @@ module _ (all : List Judged) (best : BestPlan) (is : IsBest all best) where
   its_cost = rw (is.whole, ← is.number, get_or-append_seam is.front is.judged is.behind unjudged) is.its
 
   more_before : (k : ℕ) → k < best.number → CostsMore best.cost (get_or all k unjudged)
-  more_before k less =
-      let inside : k < length is.front = omega (arith, less, is.number) in
-      rw (is.whole, get_or-append is.front (is.judged ∷ is.behind) unjudged k inside) (is.dearer k unjudged inside)
+  more_before k less = grind (arith, length, get_or-append, unjudged)
 
   none_less : All (CostsEnough best.cost) all
   none_less = rw is.whole (All-append (CostsEnough best.cost) is.front (is.judged ∷ is.behind)
@@ -56,9 +55,8 @@ one_best all (Some a) (Some b) x y =
     ∙ ap (λ (n : ℕ). let it : Option BestPlan = Some (record { cost = b.cost; number = n }) in it) number
 
 -- its place is that of a plan
-pub best_place : (labels : List (List ℕ)) (all : List Judged) (best : Option BestPlan) → length all ≡ length labels → HasBest all best → IsPlace labels best
-best_place labels all None many h = tt
-best_place labels all (Some best) many h = omega (arith, many, within all best h)
+pub best_place : (labels : List (List ℕ)) (all : List Judged) (best : Option BestPlan) → length all ≡ length labels → HasBest all best → IfSome best (λ (b : BestPlan). b.number < length labels)
+best_place labels all h1 many h = grind (arith, within)
 
 -- ---- one plan more
 
@@ -81,8 +79,7 @@ is_last all j cost its more = record { front = all; judged = j; behind = []; who
 
 -- one that isn't valid, and one that is
 pub best_stays : (all : List Judged) (j : Judged) (best : Option BestPlan) → j.cost ≡ None → HasBest all best → HasBest (all ++ j ∷ []) best
-best_stays all j None e h = All-push HasNoCost all j h e
-best_stays all j (Some best) e h = stays all j best (λ c is. absurd (none-some c (sym e ∙ is))) h
+best_stays all j h1 e h = grind (arith, common_steps, stays, none-some)
 
 pub best_next : (all : List Judged) (j : Judged) (cost : ℕ) (best : Option BestPlan) → j.cost ≡ Some cost → HasBest all best → HasBest (all ++ j ∷ []) (better (length all) cost best)
 best_next all j cost None e h = is_last all j cost e (All-weaker HasNoCost (CostsMore cost) (λ i none. λ c is. absurd (none-some c (sym none ∙ is))) all h)

@@ -1,4 +1,5 @@
 -- How the output about one file goes out.
+use Rattle.std.proofs.lemmas.Grind.{common_steps}
 use Rattle.std.proofs.Common.{arith, ap, take}
 use Rattle.std.proofs.lemmas.List.{length-take, take_all}
 use Rattle.sas_requests.specs.Answering.{first_bytes}
@@ -7,7 +8,6 @@ use Rattle.sas_requests.proofs.Outputs.{refused_kind, too_long_else, reading_of_
 use Rattle.sas_requests.proofs.PlanOutputs.{reported_fault}
 use Rattle.sas_meaning.specs.declared.layered.LayerFault.TheVariants as layer_fault
 use Rattle.sas_answers.specs.declared.ending.ToolFault.TheVariants as tool_fault
-use Rattle.sas_requests.specs.declared.question.Detail.TheVariants.{Plain}
 use Rattle.sas_requests.proofs.RefusalLaws.{Unended, task_reporting, plan_reporting, task_unended, plan_unended}
 use Rattle.sas_requests.proofs.RefusalReasons.{some_of, reasoned_by, more_reasoned, reported_alone}
 
@@ -41,12 +41,10 @@ module _ {V I S : Type 0} (F : Format V I S) (Reports : Fault → List (List ℕ
 
   -- other answers that follow
   more_read : (A B : V → Output → Type 0) → ((v : V) (o : Output) → A v o → B v o) → (r : Result V Fault) (o : Option Output) → IsAnswerOrRefusal name A r o → IsAnswerOrRefusal name B r o
-  more_read A B to (Ok v) o (answer, is, same) = (answer, to v answer is, same)
-  more_read A B to (Err fault) o is = is
+  more_read h1 h2 to h3 o h4 = grind arith
 
   more_by : (detail : Detail) (A B : V → Output → Type 0) → ((v : V) (o : Output) → A v o → B v o) → (b : List ℕ) (o : Option Output) → FileBy F Reports name detail A b o → FileBy F Reports name detail B b o
-  more_by detail A B to b =
-      more_reasoned detail (FileOut F name A b) (FileOut F name B b) (FileReasons F Reports b) (FileReasons F Reports b) (λ o (r, reads, is). (r, reads, more_read A B to r o is)) (λ o reasons out why. why)
+  more_by detail h1 h2 to b = grind (arith, more_reasoned, more_read)
 
   module _ (f : Fault) (reasons : List FileLine) where
     plain_kind : (o : Output) → refusal name f ≡ Some o → ConcernsText f.kind
@@ -54,8 +52,8 @@ module _ {V I S : Type 0} (F : Format V I S) (Reports : Fault → List (List ℕ
 
     -- the kind of a fault that is refused
     reported_kind : (detail : Detail) (o : Output) → Some o ≡ refusal_by detail name f reasons → ConcernsText f.kind
-    reported_kind Plain o is = plain_kind o (sym is)
     reported_kind Reasons o is = let (plain, refused, same) = some_of (file_text reasons) (refusal name f) o is in plain_kind plain refused
+    reported_kind detail o is = plain_kind o (sym is)
 
     module _ (detail : Detail) (IsAnswer : V → Output → Type 0) (b : List ℕ) (reads : ReadsAs F most_bytes b (Err f)) where
       -- the refusal
@@ -75,18 +73,11 @@ module _ {D V I S A W : Type 0} (left : D → Option (List ℕ)) (F : Format V I
 
   module _ (a : A) (Is : Output → Type 0) (gives : (b : List ℕ) → Gives b a → (o : Output) → Is o → (v : V) × ReadsAs F most_bytes b (Ok v) × IsAnswer v o) where
     value_out : (b : List ℕ) → Gives b a → (o : Option Output) → IsSomeAnd o Is → FileOutput b o
-    value_out b given (Some o) is = let (v, reads, answer) = gives b given o is in value_by F Reports name detail IsAnswer b v o reads answer
-    value_out b given None is = absurd is
+    value_out b given h1 is = grind (arith, value_by)
 
     -- what was read is answered
     pub answers_value : (r : Result Status ToolFault) → ReadsAll left F Gives old new (Ok a) → Writes contents (EndsCounting (λ o. IsSomeAnd o Is)) out_old out_new r → Answers contents (EndsFile left FileOutput old new) out_old out_new r
-    answers_value r read = writes_answers contents out_old out_new r (EndsCounting (λ o. IsSomeAnd o Is)) (EndsFile left FileOutput old new) (λ Sent never ends. record {
-      output = λ b known. ends_by Sent (λ o. IsSomeAnd o Is) (FileOutput b) r (value_out b (known_answer left F Gives old new a b read known)) ends;
-      taken = λ decided.
-          let (b, consumed, given) = read.read in
-          (b, consumed.0, ends_by Sent (λ o. IsSomeAnd o Is) (FileOutput b) r (value_out b given) ends);
-      reads = (λ e. absurd (never e), λ t. absurd (read.note.1 t));
-    })
+    answers_value r read = grind (arith, common_steps, writes_answers, ends_by, value_out, known_answer)
 
   -- so it is where the answer is this output
   pub answers_text : (a : A) (x : Output) (r : Result Status ToolFault) → ReadsAll left F Gives old new (Ok a) → ((b : List ℕ) → Gives b a → (v : V) × ReadsAs F most_bytes b (Ok v) × IsAnswer v x)
@@ -103,13 +94,7 @@ module _ {D V I S A W : Type 0} (left : D → Option (List ℕ)) (F : Format V I
   -- and where the answers are others that follow
   pub answers_more : (Other : V → Output → Type 0) → ((v : V) (o : Output) → IsAnswer v o → Other v o) → (r : Result Status ToolFault)
       → Answers contents (EndsFile left FileOutput old new) out_old out_new r → Answers contents (EndsFile left (FileBy F Reports name detail Other) old new) out_old out_new r
-  answers_more Other to r = answers_by contents out_old out_new r (EndsFile left FileOutput old new) (EndsFile left (FileBy F Reports name detail Other) old new) (λ Sent one. record {
-    output = λ b known. ends_by Sent (FileOutput b) (FileBy F Reports name detail Other b) r (more_by F Reports name detail IsAnswer Other to b) (one.output b known);
-    taken = λ decided.
-        let (b, consumed, ends) = one.taken decided in
-        (b, consumed, ends_by Sent (FileOutput b) (FileBy F Reports name detail Other b) r (more_by F Reports name detail IsAnswer Other to b) ends);
-    reads = one.reads;
-  })
+  answers_more h1 to r = grind (arith, answers_by, ends_by, more_by)
 
   module _ {R : Type 0} (reporting : AboutLaws F) (unended : Unended F) (fault : R → Fault) (found : R → Excerpt) (Answer : List (List ℕ) → List ℕ → R → Type 0)
       (r : R) (reasons : List FileLine) (lacks : Bool) (tells : (accepted : List (List ℕ)) (text : List ℕ) → Answer accepted text r → IsTrue lacks ↔ EndsUnended F (fault r).kind accepted text)
@@ -154,19 +139,11 @@ module _ {D V I S A W : Type 0} (left : D → Option (List ℕ)) (F : Format V I
     ReportsFault = Ends (λ o. o ≡ refusal_by detail name (fault r) reasons)
 
     known_ends : (Sent : List ℕ → Type 0) (result : Result Status ToolFault) → ReportsFault Sent result → (IsErrOf result tool_fault.TooLong → (fault r).kind ≡ TooLong) → (b : List ℕ) → left old.device ≡ Some b → EndsCounting (FileOutput b) Sent result
-    known_ends Sent (Ok status) (o, is, same, sent) long b known = (o, known_out b known o is, same, sent)
-    known_ends Sent (Err (tool_fault.Write written)) (o, is, less, sent) long b known = (written, λ _. refl, (o, known_out b known o is, less, sent))
-    known_ends Sent (Err tool_fault.TooLong) is long b known = known_long b known (long refl)
-    known_ends Sent (Err tool_fault.Memory) is long b known = tt
-    known_ends Sent (Err tool_fault.Read) is long b known = tt
+    known_ends h1 h2 h3 long b known = grind (arith, known_out, less, known_long)
 
     taken_ends : (Sent : List ℕ → Type 0) (result : Result Status ToolFault) → ReportsFault Sent result → (IsErrOf result tool_fault.TooLong → (fault r).kind ≡ TooLong) → IsDecided result
         → (b : List ℕ) × Consumes (left old.device) (left new.device) b × EndsCounting (FileOutput b) Sent result
-    taken_ends Sent (Ok status) (o, is, same, sent) long decided = let (b, consumed, out) = taken_out o is in (b, consumed, (o, out, same, sent))
-    taken_ends Sent (Err (tool_fault.Write written)) (o, is, less, sent) long decided = let (b, consumed, out) = taken_out o is in (b, consumed, (written, λ _. refl, (o, out, less, sent)))
-    taken_ends Sent (Err tool_fault.TooLong) is long decided = let (b, consumed, out) = taken_long (long refl) in (b, consumed, out)
-    taken_ends Sent (Err tool_fault.Memory) is long decided = absurd decided
-    taken_ends Sent (Err tool_fault.Read) is long decided = absurd decided
+    taken_ends h1 h2 h3 long decided = grind (arith, taken_out, less, taken_long)
 
     -- a fault is refused, or the run ends at it
     pub answers_refused : (result : Result Status ToolFault) → (IsErrOf result tool_fault.TooLong → (fault r).kind ≡ TooLong) → IsErrOf result tool_fault.Read ↔ ((fault r).kind ≡ Read)
@@ -217,8 +194,7 @@ module _ {D A W : Type 0} (left : D → Option (List ℕ)) (Gives : List ℕ →
 
 -- a task that isn't layered is refused for its first fault
 not_memory_by : (detail : Detail) (p : Parts) (fault : LayerFault) (o : Output) → layers_by detail p fault ≡ Some o → fault ≢ layer_fault.Memory
-not_memory_by Plain p fault o is = reported_fault fault o is
-not_memory_by Reasons p fault o is = not_memory p o fault is
+not_memory_by h1 p fault o is = grind (arith, not_memory, reported_fault)
 
 module _ {D W : Type 0} (left : D → Option (List ℕ)) (detail : Detail) (old new : Device D) (contents : W → Option (List ℕ)) (out_old out_new : Device W) (p : Parts) where
   pub task_unlayered : (fault : LayerFault) (r : Result Status ToolFault) → ReadsAll left task_format (ValueOf task_format) old new (Ok p) → (fault ≢ layer_fault.Memory → first_fault (layer_checks p) ≡ Some fault)

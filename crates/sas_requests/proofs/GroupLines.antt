@@ -1,5 +1,5 @@
 -- Each line behind that of a group is a reason; and what is left of the lines of groups when reasons are taken away.
-use Rattle.sas_requests.proofs.Imports.{map, ◌≡◌, ℕ, suc, ◌+◌, ◌<◌, List, [], ◌∷◌, ◌++◌, length, get_or, refl, ap, subst, ◌∙◌, arith, Option, Some, None, not, filter, AllByRecursion, option_map_or, Parts, WellRanged, text, lines, Plain, lines-text, all_map, Verdict, Exclusive, Derived, Initial, Broken, line_bytes, Reason, IsReasonIfAny, reason_at, Yes, group_line, is_reason, without_reasons, verdict_lines_from, verdict_lines, groups_status, reason_lines, explained_group_lines, why_lines_from, why_lines, no_reason}
+use Rattle.sas_requests.proofs.Imports.{map, ◌≡◌, ℕ, suc, ◌+◌, ◌<◌, List, [], ◌∷◌, ◌++◌, length, get_or, refl, ap, subst, ◌∙◌, arith, Option, None, not, filter, AllByRecursion, option_map_or, Parts, WellRanged, text, lines, Plain, lines-text, all_map, Verdict, Exclusive, Derived, Initial, Broken, line_bytes, Reason, IsReasonIfAny, reason_at, Yes, group_line, is_reason, without_reasons, verdict_lines_from, verdict_lines, groups_status, reason_lines, explained_group_lines, why_lines_from, why_lines, no_reason}
 use Rattle.sas_requests.proofs.ReasonLines.{IsReason, AreReasons, lines_report}
 use Rattle.std.proofs.lemmas.List.Elements.{filter-append}
 use Rattle.sas_requests.proofs.PlainAnswers.{none_kept, kept_first, plain_reported, plain_reason, group_reported}
@@ -10,13 +10,11 @@ all_both P (first ∷ a) b h g = (h.0, all_both P a b h.1 g)
 
 -- lines of reasons go, whatever stands behind them
 reasons_gone : (reasons behind : List (List ℕ)) → AreReasons reasons → filter (λ line. not (is_reason line)) (reasons ++ behind) ≡ filter (λ line. not (is_reason line)) behind
-reasons_gone reasons behind h =
-    filter-append (λ line. not (is_reason line)) reasons behind ∙ ap (λ (ls : List (List ℕ)). ls ++ filter (λ line. not (is_reason line)) behind) (none_kept reasons h)
+reasons_gone reasons behind h = grind (arith, filter-append, not, is_reason, filter, none_kept)
 
 -- an exclusive group has no reason
 none_if_exclusive : (p : Parts) (group : ℕ) (found : Option Reason) → IsReasonIfAny p group Exclusive found → found ≡ None
-none_if_exclusive p group None is = refl
-none_if_exclusive p group (Some reason) is = absurd (no_reason reason is.reported)
+none_if_exclusive p group h1 is = grind (arith, no_reason)
 
 module _ (p : Parts) (ranged : WellRanged p) where
   abbrev why_group : ℕ → Option Reason → List (List ℕ)
@@ -54,9 +52,7 @@ module _ (p : Parts) (ranged : WellRanged p) where
         (reasons_gone (behind group) later (any_shows group (reason_at reasons group)) ∙ kept_from (group + 1) verdicts)
 
     pub groups_kept : (verdicts : List Verdict) → without_reasons (text (why_lines p verdicts reasons)) ≡ text (verdict_lines verdicts)
-    groups_kept verdicts =
-        ap (λ (ls : List (List ℕ)). text (filter (λ line. not (is_reason line)) ls)) (lines_of_groups verdicts)
-        ∙ ap (λ (ls : List (List ℕ)). text ls) (kept_from 0 verdicts)
+    groups_kept verdicts = grind (arith, text, filter, not, is_reason, lines_of_groups, kept_from)
 
 -- ---- where all groups are exclusive
 

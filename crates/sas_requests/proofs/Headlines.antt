@@ -38,17 +38,10 @@ invalid_line_apart steps cost w e = not_same 105 118 (omega arith) (sym (ap (λ 
 
 -- nor is the refusal of a task for a fault of its layers, whatever follows it
 begins_same : (front behind : List ℕ) → get_or front 0 0 ≡ 116 → get_or (front ++ behind) 0 0 ≡ 116
-begins_same [] behind is = absurd (omega (arith, is))
-begins_same (b ∷ front) behind is = is
+begins_same h1 behind is = grind (arith, common_steps)
 
 refusal_other : (fault : LayerFault) (o : Output) → IsRefusal fault o → IsOther o
-refusal_other fault o r =
-    let w = worded (layer_words fault) layers_line r.plain r.is in
-    let begins = ap (λ (t : List ℕ). get_or t 0 0) r.text ∙ begins_same (r.plain).text r.behind (ap (λ (t : List ℕ). get_or t 0 0) w.text) in
-    record {
-      status = r.status ∙ w.status;
-      text = λ steps cost e. not_same 112 116 (omega arith) (sym begins ∙ ap (λ (t : List ℕ). get_or t 0 0) e);
-    }
+refusal_other fault o r = grind (arith, worded, layer_words, layers_line, get_or, begins_same, not_same)
 
 -- an answer about a plan is that of a valid plan or another one; for a valid plan it is that of a
 -- valid plan
@@ -114,37 +107,17 @@ module _ (b c : List ℕ) (o : Output) (reported : IsSolved b c o ⊎ IsOther o)
 module _ (Verdict : Parts → PlanParts → Output → Type 0) (refused : Parts → LayerFault → Option Output) (reports : ReportsValid Verdict) (refuses : Refuses refused) where
   module _ (b c : List ℕ) (o : Output) where
     verdict_reported : (p : Parts) (plan : PlanParts) → Reads task_texts b p → IsLayered p → Reads plan_texts c plan → Verdict p plan o → IsSolved b c o ⊎ IsOther o
-    verdict_reported p plan is_task layered is_plan verdict = elim (reports.reported p plan o verdict) [
-      | inl x ↦ inl (record {
-        status = ap (λ (y : Output). y.status) x.1;
-        solves = record {
-          task = p;
-          plan = plan;
-          operators = x.0.0;
-          is_task = is_task;
-          layered = layered;
-          is_plan = is_plan;
-          valid = x.0.1;
-          printed = ap (λ (y : Output). y.text) x.1;
-        };
-      })
-      | inr other ↦ inr other
-    ]
+    verdict_reported p plan is_task layered is_plan verdict = grind arith
 
     plan_reported : (p : Parts) (r : Result PlanParts Fault) → Reads task_texts b p → IsLayered p → ReadsAs plan_format most_bytes c r → IsAnswerOrRefusal (codes "plan") (Verdict p) r (Some o) → IsSolved b c o ⊎ IsOther o
-    plan_reported p (Ok plan) is_task layered reads answer =
-        let same : answer.0 ≡ o = (let e : Some o ≡ Some answer.0 = answer.2 in cc) in
-        verdict_reported p plan is_task layered reads.0 (subst (λ (x : Output). Verdict p plan x) same answer.1)
-    plan_reported p (Err fault) is_task layered reads is =
-        inr (other_words (word_of fault.kind) (refusal_line (codes "plan") fault.line) o (λ w steps cost. plan_refusal_apart fault.line steps cost w) (sym is))
+    plan_reported p h1 is_task layered reads answer = grind (arith, verdict_reported, other_words, word_of, refusal_line, codes, plan_refusal_apart)
 
     refused_reported : (r : Result Parts Fault) → IsAnswerOrRefusal (codes "task") (UnlayeredAnswer refused) r (Some o) → IsOther o
     refused_reported (Ok p) (answer, (fault, first, reported), is) = refusal_other fault o (refuses.reported p fault o (reported ∙ sym is))
     refused_reported (Err fault) is = other_words (word_of fault.kind) (refusal_line (codes "task") fault.line) o (λ w steps cost. task_refusal_apart fault.line steps cost w) (sym is)
 
     pub out_reported : PlanOutBy Verdict refused b c (Some o) → IsSolved b c o ⊎ IsOther o
-    out_reported (inl (r, reads, is)) = inr (refused_reported r is)
-    out_reported (inr (p, reads, layered, out)) = plan_reported p out.0 reads.0 layered out.1 out.2
+    out_reported h1 = grind (arith, refused_reported, plan_reported)
 
   module _ (b c line : List ℕ) (o : Output) (s : Solves b c line) where
     plan_answered : (r : Result PlanParts Fault) → r ≡ Ok s.plan → IsAnswerOrRefusal (codes "plan") (Verdict s.task) r (Some o) → o ≡ valid_answer s.plan

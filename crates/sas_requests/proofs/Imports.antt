@@ -1,5 +1,5 @@
 -- What the proofs use of other crates, and of the definitions of this one.
-pub use Rattle.std.proofs.Common.{◌≡◌, ℕ, List, ap, sym, subst, ◌∙◌, Option, Some, None, Result, Ok, Err, IfOk, ◌≢◌, ◌<◌, ◌⊎◌, [], ◌∷◌, ◌++◌, length, codes, get_or, arith, refl, inl, inr, option_map, append-nil, ◌+◌, ◌≤◌, Bool, true, false, ◌==◌, if◌then◌else◌, length-append, decimal, ◌↔◌, ◌||◌, IsTrue, ◌/◌, ◌%◌, flat_map, not, nat_lt, ◌&&◌, ◌-◌, take, drop, append_assoc, eqb-true, nat_eq, rules, is_some, option_and_then, IsErrOf, IsSomeAnd, map, suc, filter, ◌^◌, zero, ◌*◌, slice_get, Bor, All, slice_index_or, zip, cond, eqb, IfErr, count_by, min, add-one, IsErrAnd}
+pub use Rattle.std.proofs.Common.{◌≡◌, ℕ, List, ap, sym, subst, ◌∙◌, Option, Some, None, Result, Ok, Err, IfOk, ◌≢◌, ◌<◌, ◌⊎◌, [], ◌∷◌, ◌++◌, length, codes, get_or, arith, refl, inl, inr, option_map, append-nil, ◌+◌, ◌≤◌, Bool, true, false, ◌==◌, if◌then◌else◌, length-append, decimal, ◌↔◌, ◌||◌, IsTrue, ◌/◌, ◌%◌, flat_map, not, nat_lt, ◌&&◌, ◌-◌, take, drop, append_assoc, eqb-true, nat_eq, rules, is_some, option_and_then, IsErrOf, IsSomeAnd, map, suc, filter, ◌^◌, zero, ◌*◌, slice_get, Bor, All, slice_index_or, zip, cond, eqb, IfErr, IfSome, count_by, min, add-one, IsErrAnd}
 pub use Rattle.std.proofs.KnownBytes.{Consumes-nil}
 pub use Rattle.std.proofs.Math.ListN.{get_or-map, get_or-append}
 pub use Rattle.std.proofs.Math.Nat.{mul-le-mul_left, le-min, min-le_left}
@@ -25,7 +25,7 @@ pub use Rattle.sas_answers.proofs.AnswerLaws.{OneAnswer, SomeAnswer}
 pub use Rattle.sas_answers.proofs.CheckAnswers.{some_check_answer, layered_answer, one_check_answer}
 pub use Rattle.sas_answers.proofs.InitialLines.{initial_texts, initial_all, initial_next, initial_text, initial_is}
 pub use Rattle.sas_answers.proofs.MutexAnswers.{groups_answered, one_mutex_answer, some_mutex_answer}
-pub use Rattle.sas_answers.proofs.PlainLines.{number, number_then, two, lines_are_reasons}
+pub use Rattle.sas_answers.proofs.PlainLines.{number, number_then, two, is_reason_line}
 pub use Rattle.sas_answers.proofs.ShownTexts.{shown_plain}
 pub use Rattle.sas_answers.proofs.Pushed.{pushes_item, pushes_then}
 pub use Rattle.sas_answers.proofs.Sent.{counting_ends, ends_by, exact_ends, writes_by, writes_as, writes_counting, writes_answers, answers_by}
@@ -60,7 +60,7 @@ pub use Rattle.sas_core.specs.declared.parts.Variable.{Variable}
 pub use Rattle.sas_flat.specs.Outlines.{outline_of}
 pub use Rattle.sas_flat.specs.declared.outline.Outline.{Outline}
 pub use Rattle.sas_groups.proofs.JointLists.{listed_invariants}
-pub use Rattle.sas_groups.specs.Joint.{AreJointVerdicts}
+pub use Rattle.sas_groups.specs.Verdicts.{AreJointVerdicts}
 pub use Rattle.sas_groups.specs.declared.verdict.Verdict.{Verdict}
 pub use Rattle.sas_groups.specs.declared.verdict.Verdict.TheVariants.{Exclusive, Derived, Initial, Broken}
 pub use Rattle.sas_lines.proofs.EndedLines.{text_of_both}
@@ -121,33 +121,27 @@ pub use Rattle.sas_task_file.specs.TaskFormat.{task_texts, task_format, TaskSlot
 pub use Rattle.sas_task_file.specs.declared.marks.Due.{Due}
 pub use Rattle.sas_task_file.specs.declared.marks.FixedWord.{FixedWord}
 pub use Rattle.sas_task_file.specs.declared.marks.Location.{Location}
-pub use Rattle.sas_task_reader.specs.Outline.{OutlineOf}
+pub use Rattle.sas_task_reader.specs.TaskOutline.{OutlineOf}
 pub use Rattle.sas_task_reader.specs.TaskRefusal.{fault_in, found_in, HasReason, ReadsTask}
 pub use Rattle.sas_task_reader.specs.declared.task_refusal.TaskRefusal.{TaskRefusal}
 pub use Rattle.sas_task_reasons.proofs.GroupAnswers.{no_reason}
 pub use Rattle.sas_task_reasons.proofs.TaskAnswers.{not_memory, one_why_check, some_why_check, one_why_mutex, some_why_mutex, check_layered, check_refused, groups_layered, groups_refused, refused_why}
-pub use Rattle.sas_task_reasons.specs.GroupReasons.{IsReasonIfAny, reason_at, AreReasons}
-pub use Rattle.sas_task_reasons.specs.WhyGroups.{reason_lines, explained_group_lines, why_lines_from, why_lines, WhyGroupsAnswer}
+pub use Rattle.sas_task_reasons.specs.WhyGroups.{IsReasonIfAny, reason_at, AreReasons, reason_lines, explained_group_lines, why_lines_from, why_lines, WhyGroupsAnswer}
 pub use Rattle.sas_task_reasons.specs.WhyLayers.{layer_reasons, why_refusal, WhyAnswer, WhyMutexAnswer, with_reasons, WhyCheckAnswer}
 pub use Rattle.sas_task_reasons.specs.declared.reason.Reason.{Reason}
-pub use Rattle.sas_requests.specs.Answering.{FileBy, TaskBy, PlanBy, UnlayeredBy, layers_by, refusal_by, task_refusal_lines, plan_refusal_lines, reported_by, ReasonedBy, CheckBy, MutexBy, VerdictBy, OutBy}
-pub use Rattle.sas_requests.specs.EndsFile.{EndsFile}
-pub use Rattle.sas_requests.specs.EndsRequest.{EndsRequest}
-pub use Rattle.sas_requests.specs.FileLine.{FileLine, ended_line, At, Expected, ExpectedInPlan, NumberMustBe, Counted, Found, Hinted, location_words, due_words, plan_due_words, least_words, empty_words, found_word, plain_in_texts, file_line_bytes}
-pub use Rattle.sas_requests.specs.FileLines.{file_text, file_lines, line_if}
-pub use Rattle.sas_requests.specs.Hint.{hint_words, task_hint, plan_hint}
+pub use Rattle.sas_requests.specs.Answering.{FileBy, TaskBy, PlanBy, UnlayeredBy, layers_by, refusal_by, task_refusal_lines, plan_refusal_lines, reported_by, ReasonedBy, CheckBy, MutexBy, VerdictBy, OutBy, request_of, plan_detail_of, detail_of}
+pub use Rattle.sas_requests.specs.EndsRequest.{EndsFile, EndsRequest}
+pub use Rattle.sas_requests.specs.FileLine.{At, Counted, Expected, ExpectedInPlan, FileLine, Found, Hinted, NumberMustBe, due_words, empty_words, ended_line, file_line_bytes, file_text, found_word, least_words, line_if, location_words, plain_in_texts, plan_due_words}
+pub use Rattle.sas_requests.specs.Hint.{hint_words, hint_for}
 pub use Rattle.sas_requests.specs.declared.hint.Hint.{Hint}
 pub use Rattle.sas_requests.specs.FileReasons.{FaultReasons, reported, past_limit, FileReasons, AreTaskReasons, ArePlanReasons, RefusalReasons, ReadReasons, TaskFileReasons, PlanFileReasons}
 pub use Rattle.sas_requests.specs.Headline.{Solves, Headline}
 pub use Rattle.sas_requests.specs.Invariants.{HasInvariant, Invariants}
 pub use Rattle.sas_requests.specs.InTurn.{IsRightlyLong, OpensFirst, OpensInTurn, EndsAt, IsOpened, IsOpenedBut}
 pub use Rattle.sas_requests.specs.Inputs.{HaveBytes, tool_result, judge_result, IsLabel, WasRead, WereRead, tool_fault}
-pub use Rattle.sas_requests.specs.Judged.{Judged, HasCost, IsJudged, PlansOut, JudgeOut, is_valid, IsBest, HasBest, Tallies, labelled, summary_of, plans_answer}
-pub use Rattle.sas_requests.specs.Judging.{HoldsOf, judged_of, cost_if, Judges, IsUnsaid, unjudged, is_lower, better, tally_with, AreReported, IsPlace, JudgesPlans}
-pub use Rattle.sas_requests.specs.Output.{word_of, refusal, refusal_line, IsAnswerOrRefusal, UnlayeredAnswer, VerdictOut, PlanOutBy, FileOut, TaskOut, HasOneOutput, ShowAnswer, PrintAnswer, LayeredOut, OutOf, plain_refusal, IsLayeredText, IsLong, AreInputs, reads_task, Out, ShortOutput, PlanOut}
-pub use Rattle.sas_requests.specs.PlansHeadline.{line_of, PlansHeadline, labelled_valid}
-pub use Rattle.sas_requests.specs.PlansLaws.{EachIsThatOfPlan, IsOneLong, RefusesAsPlan}
-pub use Rattle.sas_requests.specs.Questions.{request_of, plan_detail_of, detail_of}
+pub use Rattle.sas_requests.specs.Judged.{EachIsThatOfPlan, HasBest, HasCost, IsBest, IsJudged, IsOneLong, JudgeOut, Judged, PlansOut, RefusesAsPlan, Tallies, is_valid, labelled, plans_answer, summary_of, PlansHeadline}
+pub use Rattle.sas_requests.specs.Judging.{HoldsOf, judged_of, cost_if, Judges, IsUnsaid, unjudged, is_lower, better, tally_with, AreReported, JudgesPlans}
+pub use Rattle.sas_requests.specs.Output.{word_of, refusal, refusal_line, IsAnswerOrRefusal, UnlayeredAnswer, VerdictOut, PlanOutBy, FileOut, TaskOut, HasOneOutput, ShowAnswer, PrintAnswer, LayeredOut, OutOf, plain_refusal, IsLayeredText, IsLong, AreInputs, reads_task, Out, ShortOutput}
 pub use Rattle.sas_requests.specs.Slices.{bytes_of, labels_of}
 pub use Rattle.sas_requests.specs.Summary.{number_lines, goal_fact_lines, summary_lines, derived_count, number_line}
 pub use Rattle.sas_requests.specs.TraceOut.{EndsAsPlan, TraceOut}
@@ -163,5 +157,4 @@ pub use Rattle.sas_requests.specs.declared.question.PlanDetail.{PlanDetail}
 pub use Rattle.sas_requests.specs.declared.slices.PlanBytes.{PlanBytes}
 pub use Rattle.sas_requests.specs.declared.tally.BestPlan.{BestPlan}
 pub use Rattle.sas_requests.specs.declared.tally.Tally.{Tally}
-pub use Rattle.sas_requests.specs.declared.tasks.ReadTask.{ReadTask}
 pub use Rattle.sas_requests.specs.declared.verdicts.PlanReport.{PlanReport}

@@ -1,5 +1,5 @@
 -- Plans whose bytes are all in memory, and the answer about them in a text.
-use Rattle.sas_requests.proofs.Imports.{◌≡◌, ℕ, List, [], length, refl, sym, subst, ◌∙◌, Option, Some, None, Ok, Err, All, slice_index_or, Appends, get_or-map, length-map, Status, ToolFault, Ends, Output, PlanBytes, HaveBytes, bytes_of, labels_of}
+use Rattle.sas_requests.proofs.Imports.{arith, ◌≡◌, ℕ, List, [], length, refl, sym, subst, ◌∙◌, Option, Some, None, Ok, Err, All, slice_index_or, Appends, get_or-map, length-map, Status, ToolFault, Ends, Output, PlanBytes, HaveBytes, bytes_of, labels_of}
 use Rattle.sas_answers.specs.declared.ending.ToolFault.TheVariants as tool_fault
 
 -- there are as many labels as files
@@ -21,9 +21,7 @@ module _ (old : Option (List ℕ)) (new text : List ℕ) (empty : old ≡ Some [
   sent_text P h = subst (λ (x : List ℕ). P (λ sent. x ≡ sent)) is (subst (λ (x : Option (List ℕ)). P (Appends x (Some new))) empty h)
 
   pub reported_output : (Out : Option Output → Type 0) (status : Status) → Ends Out (Appends old (Some new)) (Ok status) → Out (Some (record { text = text; status = status }))
-  reported_output Out status ends =
-      let (output, out, same, sent) = sent_text (λ Sent. Ends Out Sent (Ok status)) ends in
-      subst (λ (x : List ℕ). Out (Some (record { text = x; status = status }))) (sym sent) (subst (λ (x : Status). Out (Some (record { text = output.text; status = x }))) (sym same) out)
+  reported_output h1 status ends = grind (arith, sent_text)
 
 -- an input that is too long has no answer
 pub reported_none : (Out : Option Output → Type 0) (Sent : List ℕ → Type 0) (why : ToolFault) → why ≡ tool_fault.TooLong → Ends Out Sent (Err why) → Out None

@@ -62,12 +62,7 @@ reasons_apart (line ∷ reasons) are place has = elim (contains_cases line reaso
 -- nor of another line, and of reasons behind it
 module _ (line : List ℕ) (reported : IsReported line) (apart : (place : ℕ) → line ≡ group_line place Exclusive → ⊥) where
   pub line_says_none : (reasons : List (List ℕ)) → AreReasons reasons → SaysNone ((line ++ 10 ∷ []) ++ text reasons)
-  line_says_none reasons are place has =
-      let among = subst (λ (ls : List (List ℕ)). Contains ls (group_line place Exclusive)) (lines_of_first line reasons reported are) has in
-      elim (contains_cases line reasons (group_line place Exclusive) among) [
-        | inl here ↦ apart place here
-        | inr behind ↦ reasons_apart reasons are place behind
-      ]
+  line_says_none reasons are place has = grind (arith, common_steps, group_line, lines_of_first, contains_cases, behind, reasons_apart)
 
   alone_says_none : (out : List ℕ) → out ≡ line ++ 10 ∷ [] → SaysNone out
   alone_says_none out is = subst SaysNone (append-nil (line ++ 10 ∷ []) ∙ sym is) (line_says_none [] tt)

@@ -1,5 +1,5 @@
 -- Laws of what is printed of many plans.
-use Rattle.sas_requests.proofs.Imports.{◌≡◌, ℕ, ◌<◌, List, [], ◌∷◌, ◌++◌, length, codes, refl, sym, ap, subst, ◌∙◌, inl, inr, Option, Some, None, Result, Ok, Err, zip, flat_map, map, All, AllZip, none-some, All-nil, All-cons, All-contains, Contains-append_right, Contains-append_left, Contains-push, Parts, PlanParts, WellRanged, IsLayered, Fault, ReadsAs, Judged, HasCost, IsJudged, PlansOut, JudgeOut, plans_answer, summary_of, Tallies, labelled, EachIsThatOfPlan, IsOneLong, RefusesAsPlan, most_bytes, plan_format, plan_laws_hold, task_format, Status, Yes, No, Output, VerdictAnswer, one_verdict_answer, some_verdict_answer, Plan, Out, VerdictOut, plain_refusal, IsAnswerOrRefusal, HasOneOutput, refusal_line, word_of, worded}
+use Rattle.sas_requests.proofs.Imports.{arith, ◌≡◌, ℕ, ◌<◌, List, [], ◌∷◌, ◌++◌, length, codes, refl, sym, ap, subst, ◌∙◌, inl, inr, Option, Some, None, Result, Ok, Err, zip, flat_map, map, All, AllZip, none-some, All-nil, All-cons, All-contains, Contains-append_right, Contains-append_left, Contains-push, Parts, PlanParts, WellRanged, IsLayered, Fault, ReadsAs, Judged, HasCost, IsJudged, PlansOut, JudgeOut, plans_answer, summary_of, Tallies, labelled, EachIsThatOfPlan, IsOneLong, RefusesAsPlan, most_bytes, plan_format, plan_laws_hold, task_format, Status, Yes, No, Output, VerdictAnswer, one_verdict_answer, some_verdict_answer, Plan, Out, VerdictOut, plain_refusal, IsAnswerOrRefusal, HasOneOutput, refusal_line, word_of, worded}
 use Rattle.std.proofs.Common.{Contains}
 use Rattle.sas_requests.proofs.PlanOutputs.{plain_refuses, not_refused, verdict_output, layered_output}
 use Rattle.sas_requests.proofs.Tallying.{one_tally, some_tally}
@@ -7,9 +7,7 @@ use Rattle.sas_requests.proofs.Tallying.{one_tally, some_tally}
 -- ---- one thing is said of a plan
 
 one_cost : (c : List ℕ) (s : Status) (x y : Option ℕ) → HasCost c s x → HasCost c s y → x ≡ y
-one_cost c Yes x y (one, reads_one, is_x) (two, reads_two, is_y) =
-    is_x ∙ ap (λ (plan : PlanParts). Some plan.cost) (plan_laws_hold.one_value c one two reads_one reads_two) ∙ sym is_y
-one_cost c No x y is_x is_y = is_x ∙ sym is_y
+one_cost c h1 x y h2 h3 = grind (arith, plan_laws_hold)
 
 -- a status other than that of a refusal comes of a plan that was read
 cost_for : (p : Parts) (c : List ℕ) (o : Output) (s : Status) → o.status ≡ s → (r : Result PlanParts Fault) → ReadsAs plan_format most_bytes c r → IsAnswerOrRefusal (codes "plan") (VerdictAnswer p) r (Some o)
@@ -124,5 +122,4 @@ each_is_that_of_plan labels b cs o _ (inr (p, reads, layered, (all, each, tally,
 
 -- a task is refused as by `plan`
 pub refuses_as_plan : RefusesAsPlan
-refuses_as_plan labels b cs o other (inl refused) c = inl refused
-refuses_as_plan labels b cs o other (inr (p, reads, layered, answer)) c = absurd (other (p, reads, layered))
+refuses_as_plan labels b cs o other h1 c = grind arith

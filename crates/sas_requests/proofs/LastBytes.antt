@@ -32,11 +32,7 @@ last_onto (suc k) n byte bytes =
     (last (byte ∷ bytes)) refl (last_onto k (n / 10) (digit_glyph false (n % 10)) (byte ∷ bytes))
 
 glyph_digit : (d : ℕ) → d < 10 → IsDigit (digit_glyph false d)
-glyph_digit d less = by (nat_lt d 10) (lt-ltb d 10 less)
-  where
-    by : (t : Bool) → t ≡ true → IsDigit (cond t (48 + d) (87 + d))
-    by true e = (omega arith, omega arith)
-    by false e = absurd cc
+glyph_digit d less = grind (arith, nat_lt, lt-ltb, true, cond, false)
 
 -- a decimal ends in one
 pub decimal_digit : (n : ℕ) → IsDigit (last (decimal n))

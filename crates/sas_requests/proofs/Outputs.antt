@@ -1,22 +1,18 @@
 -- Outputs about one file.
 use Rattle.std.proofs.lemmas.Grind.{common_steps}
-use Rattle.sas_requests.proofs.Imports.{◌≡◌, ◌≢◌, ℕ, ◌+◌, ◌<◌, List, ◌∷◌, codes, length, length-append, arith, refl, sym, ap, subst, ◌∙◌, Option, Some, None, Result, Ok, Err, option_map, none-some, Parts, PlanParts, Fault, Kind, TooLong, Read, Memory, most_bytes, Format, FaultOf, KindAt, ReadsAs, Laws, plan_format, PlanKind, word_of, refusal, IsAnswerOrRefusal, FileOut, TaskOut, HasOneOutput, task_format, TaskSlot, NumbersKind, plan_laws_hold, task_laws_hold, Refuses, Status, Output, OneAnswer, SomeAnswer}
+use Rattle.sas_requests.proofs.Imports.{◌≡◌, ◌≢◌, ℕ, ◌+◌, ◌<◌, List, ◌∷◌, codes, length, length-append, arith, refl, sym, ◌∙◌, Option, Some, None, Result, Ok, Err, option_map, none-some, Parts, PlanParts, Fault, Kind, TooLong, Read, Memory, most_bytes, Format, FaultOf, KindAt, ReadsAs, Laws, plan_format, PlanKind, word_of, refusal, IsAnswerOrRefusal, FileOut, TaskOut, HasOneOutput, task_format, TaskSlot, NumbersKind, plan_laws_hold, task_laws_hold, Refuses, Output, OneAnswer, SomeAnswer}
 
 -- outputs are equal if their texts and statuses are
 pub same_output : (o q : Output) → o.text ≡ q.text → o.status ≡ q.status → o ≡ q
-same_output o q text status =
-    let one : o ≡ record { text = q.text; status = o.status } = ap (λ (x : List ℕ). let y : Output = record { text = x; status = o.status } in y) text in
-    one ∙ ap (λ (x : Status). let y : Output = record { text = q.text; status = x } in y) status
+same_output o q text status = grind arith
 
 -- no output is made only of nothing
 pub none_made : {A : Type 0} (make : A → Output) (found : Option A) → None ≡ option_map make found → found ≡ None
-none_made make None e = refl
-none_made make (Some a) e = absurd (none-some (make a) e)
+none_made make h1 e = grind (arith, none-some)
 
 -- a kind that is refused has a word
 pub refused_kind : (k : Kind) (other : Kind) (said : List ℕ → Output) (o : Output) → word_of other ≡ None → option_map said (word_of k) ≡ Some o → k ≢ other
-refused_kind k other said o none e same =
-    none-some o (subst (λ (word : Option (List ℕ)). option_map said word ≡ Some o) (ap word_of same ∙ none) e)
+refused_kind k other said o none e same = grind (arith, none-some, option_map, word_of)
 
 pub too_long_else : (k : Kind) (other : Kind) → k ≡ TooLong → (TooLong ≡ other → ⊥) → k ≢ other
 too_long_else k other e apart same = apart (sym e ∙ same)
@@ -53,13 +49,10 @@ module _ {V I S : Type 0} (F : Format V I S) (name : List ℕ) (IsAnswer : V →
   file_too_long f e fault = (Err f, fault (too_long_else f.kind Memory e (λ h. absurd cc)) (too_long_else f.kind Read e (λ h. absurd cc)), rw e refl)
 
   one_reading : OneAnswer IsAnswer → (r : Result V Fault) (o p : Option Output) → IsAnswerOrRefusal name IsAnswer r o → IsAnswerOrRefusal name IsAnswer r p → o ≡ p
-  one_reading one (Ok value) o p a b = a.2 ∙ ap Some (one value a.0 b.0 a.1 b.1) ∙ sym b.2
-  one_reading one (Err fault) o p a b = a ∙ sym b
+  one_reading one h1 o p a b = grind arith
 
   pub one_file : Laws F → OneAnswer IsAnswer → (o p : Option Output) → FileOut F name IsAnswer bytes o → FileOut F name IsAnswer bytes p → o ≡ p
-  one_file laws one o p a b =
-      let same = laws.one_reading most_bytes bytes b.0 a.0 b.1 a.1 in
-      one_reading one a.0 o p a.2 (subst (λ (r : Result V Fault). IsAnswerOrRefusal name IsAnswer r p) same b.2)
+  one_file laws one o p a b = grind (arith, one_reading, most_bytes)
 
   some_reading : SomeAnswer IsAnswer → (r : Result V Fault) → ((o : Option Output) → IsAnswerOrRefusal name IsAnswer r o → ⊥) → ⊥
   some_reading some (Ok value) none = some value (λ answer is. none (Some answer) (answer, is, refl))
@@ -69,9 +62,7 @@ module _ {V I S : Type 0} (F : Format V I S) (name : List ℕ) (IsAnswer : V →
   too_long_at worded before byte k at none = grind (arith, common_steps, none-some, worded)
 
   too_long_fault : Worded F → (f : Fault) → FaultOf F most_bytes bytes f → word_of f.kind ≡ None → most_bytes < length bytes
-  too_long_fault worded f fault none =
-      let long = too_long_at worded fault.before fault.byte f.kind fault.kind none in
-      rw fault.whole (omega (arith, length-append fault.before (fault.byte ∷ fault.after)))
+  too_long_fault worded f fault none = grind (arith, too_long_at, length-append)
 
   long_reading : Worded F → (r : Result V Fault) → ReadsAs F most_bytes bytes r → IsAnswerOrRefusal name IsAnswer r None → most_bytes < length bytes
   long_reading worded r reads e = grind (arith, common_steps, none-some, too_long_fault, worded, none_made)

@@ -82,10 +82,7 @@ plan_refusals_reported = refusals_reported (codes "plan") refl (λ line w. refl)
 
 -- such a refusal, without the end of its line
 pub layer_reported : (fault : LayerFault) (w : List ℕ) → layer_words fault ≡ Some w → IsReported (codes "task refused: " ++ w)
-layer_reported fault w e = record {
-  plain = plain-append (codes "task refused: ") w refl (layer_plain fault w e);
-  no_reason = refl;
-}
+layer_reported fault w e = search (arith, plain, plain-append, codes, layer_plain)
 
 pub layers_reported : (fault : LayerFault) (o : Output) → layers_refusal fault ≡ Some o → IsReportedText o.text
 layers_reported fault o is =

@@ -17,21 +17,12 @@ pub kind_plain : (kind : Kind) (w : List ℕ) → word_of kind ≡ Some w → Is
 kind_plain kind w e = grind (arith, common_steps, some_words, none-some)
 
 pub file_plain : (name : List ℕ) (line : ℕ) (w : List ℕ) → IsPlain name → IsPlain w → IsPlain (file_words name line w)
-file_plain name line w h g =
-    plain-append (name ++ codes " refused: line " ++ decimal line ++ codes ": ") w
-    (plain-append (name ++ codes " refused: line " ++ decimal line) (codes ": ")
-    (plain-append (name ++ codes " refused: line ") (decimal line) (plain-append name (codes " refused: line ") h refl) (plain-decimal line))
-    refl)
-    g
+file_plain name line w h g = grind (arith, plain-append, codes, decimal, plain-decimal)
 
 -- ---- refusals of layers
 
 part_plain : (part : List ℕ) (place : ℕ) (what : List ℕ) → IsPlain part → IsPlain what → IsPlain (words_at_part part place what)
-part_plain part place what h g =
-    plain-append (part ++ codes " " ++ decimal place ++ codes ": ") what
-    (plain-append (part ++ codes " " ++ decimal place) (codes ": ")
-    (plain-append (part ++ codes " ") (decimal place) (plain-append part (codes " ") h refl) (plain-decimal place)) refl)
-    g
+part_plain part place what h g = grind (arith, plain-append, codes, decimal, plain-decimal)
 
 rule_plain : (rule : ℕ) (what w : List ℕ) → IsPlain what → Some (words_at_part (codes "rule") rule what) ≡ Some w → IsPlain w
 rule_plain rule what w h e = some_words (words_at_part (codes "rule") rule what) w e (part_plain (codes "rule") rule what refl h)
@@ -49,12 +40,7 @@ layer_plain layer_fault.Memory w e = absurd (none-some w e)
 -- ---- the verdict on a plan
 
 step_plain : (step : ℕ) (what w : List ℕ) → IsPlain what → Some (step_words step what) ≡ Some w → IsPlain w
-step_plain step what w h e =
-    some_words (step_words step what) w e
-    (plain-append (codes "step " ++ decimal step ++ codes ": ") what
-    (plain-append (codes "step " ++ decimal step) (codes ": ")
-    (plain-append (codes "step ") (decimal step) refl (plain-decimal step)) refl)
-    h)
+step_plain step what w h e = grind (arith, some_words, step_words, plain-append, codes, decimal, plain-decimal)
 
 fault_plain : (cost : ℕ) (fault : PlanFault) (w : List ℕ) → fault_words cost fault ≡ Some w → IsPlain w
 fault_plain cost fault w e = grind (arith, common_steps, step_plain, some_words, plain-append, plain-decimal, none-some)

@@ -1,7 +1,11 @@
 -- What is printed of each plan is one line, and a task is refused by one.
-use Rattle.sas_requests.proofs.Imports.{◌≡◌, ℕ, zero, suc, ◌<◌, List, [], ◌∷◌, ◌++◌, length, get_or, codes, decimal, append_assoc, refl, sym, ap, subst, ◌∙◌, arith, inl, inr, Some, Result, Ok, Err, flat_map, AllByRecursion, get_or-append, Parts, PlanParts, LayerFault, lines, text, Plain, lines-append, lines-text, unfinished-text, Fault, IsPlain, plain, plain-decimal, IsLabel, line_of, plain-append, Output, VerdictAnswer, layers_refusal, layer_words, layers_line, fault_words, invalid_line, No, VerdictOut, IsAnswerOrRefusal, TaskOut, UnlayeredAnswer, plain_refusal, refusal, refusal_line, word_of, worded}
+use Rattle.sas_requests.proofs.Imports.{slice_index_or, lines, ◌≡◌, ℕ, zero, suc, ◌<◌, List, [], ◌∷◌, ◌++◌, length, get_or, codes, decimal, append_assoc, refl, sym, ap, subst, ◌∙◌, arith, inl, inr, Some, Result, Ok, Err, flat_map, AllByRecursion, get_or-append, Parts, PlanParts, LayerFault, lines, text, Plain, lines-append, lines-text, unfinished-text, Fault, IsPlain, plain, plain-decimal, IsLabel, plain-append, Output, VerdictAnswer, layers_refusal, layer_words, layers_line, fault_words, invalid_line, No, VerdictOut, IsAnswerOrRefusal, TaskOut, UnlayeredAnswer, plain_refusal, refusal, refusal_line, word_of, worded}
 use Rattle.sas_requests.proofs.PlainLines.{file_words, file_plain, kind_plain, layer_plain, invalid_plain}
 use Rattle.sas_requests.proofs.LastBytes.{EndsInLetter, letter_behind, kind_letter, layer_letter}
+
+-- the line with this number, from 0, and its end
+abbrev pub line_of : List ℕ → ℕ → List ℕ
+line_of bytes number = slice_index_or (lines bytes) number [] ++ codes "\n"
 
 -- the bytes are a line with its end
 pub record IsLine (bytes : List ℕ) : Type 0 where
@@ -12,11 +16,7 @@ pub record IsLine (bytes : List ℕ) : Type 0 where
 -- ---- the verdict on a plan
 
 pub valid_plain : (steps cost : ℕ) → IsPlain (codes "plan valid: " ++ decimal steps ++ codes " steps, cost " ++ decimal cost)
-valid_plain steps cost =
-    plain-append (codes "plan valid: " ++ decimal steps ++ codes " steps, cost ") (decimal cost)
-    (plain-append (codes "plan valid: " ++ decimal steps) (codes " steps, cost ")
-    (plain-append (codes "plan valid: ") (decimal steps) refl (plain-decimal steps)) refl)
-    (plain-decimal cost)
+valid_plain steps cost = grind (arith, plain-append, codes, decimal, plain-decimal)
 
 answer_line : (p : Parts) (plan : PlanParts) (o : Output) → VerdictAnswer p plan o → IsLine o.text
 answer_line p plan o (inl (valid, is)) = record {

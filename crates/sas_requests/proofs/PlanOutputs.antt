@@ -1,5 +1,6 @@
 -- A request has exactly one output.
-use Rattle.sas_requests.proofs.Imports.{◌≡◌, ◌≢◌, ℕ, ◌<◌, Bool, true, false, ◌⊎◌, List, [], ◌++◌, length, codes, append-nil, refl, sym, ap, subst, ◌∙◌, inl, inr, Option, Some, None, Result, Ok, Err, ◌↔◌, ◌||◌, IsTrue, none-some, Parts, PlanParts, first_fault, WellRanged, LayerFault, IsLayered, layer_checks, checks_are_rules, Fault, most_bytes, ReadsAs, plan_format, task_format, task_laws_hold, IsAnswerOrRefusal, refusal, ShowAnswer, PrintAnswer, TaskOut, UnlayeredAnswer, LayeredOut, VerdictOut, PlanOutBy, OutOf, plain_refusal, IsLayeredText, IsLong, HasOneOutput, Request, Show, Print, Steps, Check, Plan, Mutex, layers_refusal, layers_verdict, Output, some_check_answer, OneAnswer, SomeAnswer}
+use Rattle.std.proofs.lemmas.Grind.{common_steps}
+use Rattle.sas_requests.proofs.Imports.{arith, ◌≡◌, ◌≢◌, ℕ, ◌<◌, Bool, true, false, ◌⊎◌, List, [], ◌++◌, length, codes, append-nil, refl, sym, subst, ◌∙◌, inl, inr, Option, Some, None, Result, Ok, Err, ◌↔◌, ◌||◌, IsTrue, none-some, Parts, PlanParts, first_fault, WellRanged, LayerFault, IsLayered, layer_checks, checks_are_rules, Fault, most_bytes, ReadsAs, plan_format, task_format, task_laws_hold, refusal, ShowAnswer, PrintAnswer, TaskOut, UnlayeredAnswer, LayeredOut, VerdictOut, PlanOutBy, OutOf, plain_refusal, IsLayeredText, IsLong, HasOneOutput, Request, Show, Print, Steps, Check, Plan, Mutex, layers_refusal, layers_verdict, Output, some_check_answer, OneAnswer, SomeAnswer}
 use Rattle.sas_meaning.specs.declared.layered.LayerFault.TheVariants as layer_fault
 use Rattle.sas_requests.proofs.Outputs.{one_file, long_file, task_worded, one_made, some_made, task_output, plan_output}
 
@@ -39,27 +40,17 @@ pub record Refuses (refused : Parts → LayerFault → Option Output) : Type 0 w
   pub reported : (p : Parts) (fault : LayerFault) (o : Output) → refused p fault ≡ Some o → IsRefusal fault o
 
 pub plain_refuses : Refuses plain_refusal
-plain_refuses = record {
-  some = λ p fault plain is. (plain, is);
-  reported = λ p fault o is. record { plain = o; is = is; status = refl; behind = []; text = sym (append-nil o.text) };
-}
+plain_refuses = grind (arith, append-nil)
 
 -- ---- the output about a task for which something is judged
 
 -- a layered task isn't refused
 pub not_refused : (refused : Parts → LayerFault → Option Output) (b : List ℕ) (o : Option Output) → TaskOut (UnlayeredAnswer refused) b o → IsLayeredText b → ⊥
-not_refused refused b o (r, reads, is) (p, reads_p, layered) =
-    let same : r ≡ Ok p = task_laws_hold.one_reading most_bytes b r (Ok p) reads reads_p in
-    let (answer, (fault, first, reported), whole) = subst (λ (q : Result Parts Fault). IsAnswerOrRefusal (codes "task") (UnlayeredAnswer refused) q o) same is in
-    none-some fault (sym ((checks_are_rules p).1 layered) ∙ first)
+not_refused refused b o h1 h2 = grind (arith, task_laws_hold, most_bytes, codes, none-some, checks_are_rules)
 
 module _ (refused : Parts → LayerFault → Option Output) (refuses : Refuses refused) (IsOut : Parts → Option Output → Type 0) (Long : Type 0) (b : List ℕ) (each : (p : Parts) → WellRanged p → IsLayered p → HasOneOutput (IsOut p) Long) where
   one_unlayered : OneAnswer (UnlayeredAnswer refused)
-  one_unlayered p o q (f, first_f, reported_o) (g, first_g, reported_q) =
-      let same : Some f ≡ Some g = sym first_f ∙ first_g in
-      let equal : f ≡ g = cc in
-      let both : Some o ≡ Some q = sym reported_o ∙ (ap (refused p) equal ∙ reported_q) in
-      cc
+  one_unlayered p o q h1 h2 = grind arith
 
   one_layered : (o q : Option Output) → LayeredOut refused IsOut b o → LayeredOut refused IsOut b q → o ≡ q
   one_layered o q (inl x) (inl y) = one_file task_format (codes "task") (UnlayeredAnswer refused) b task_laws_hold one_unlayered o q x y
@@ -83,8 +74,7 @@ module _ (refused : Parts → LayerFault → Option Output) (refuses : Refuses r
   some_read (Ok p) reads none = some_checked p reads (first_fault (layer_checks p)) refl none
 
   long_layered : LayeredOut refused IsOut b None → (most_bytes < length b) ⊎ (IsLayeredText b × Long)
-  long_layered (inl out) = inl (long_file task_format (codes "task") (UnlayeredAnswer refused) b task_worded out)
-  long_layered (inr (p, reads, layered, is)) = inr ((p, reads, layered), (each p reads.0.good layered).long is)
+  long_layered h1 = grind (arith, common_steps, long_file, task_format, codes, task_worded)
 
   -- it has one output if what is judged for a layered task has one
   pub layered_output : HasOneOutput (LayeredOut refused IsOut b) ((most_bytes < length b) ⊎ (IsLayeredText b × Long))

@@ -1,6 +1,6 @@
 -- The verdict on one plan, by what was read of it.
 use Rattle.std.proofs.lemmas.Grind.{common_steps}
-use Rattle.sas_requests.proofs.Imports.{arith, ◌≡◌, ◌≢◌, ◌⊎◌, inl, inr, ℕ, List, codes, refl, sym, ◌∙◌, Option, Some, None, Result, Ok, Err, IfOk, IfErr, IsErrOf, IsAtEnd, Parts, PlanParts, Device, Fault, Kind, ValueOf, ReadsAll, ReadsAs, KindAt, most_bytes, known_answer, known_fault, plan_format, PlanKind, Status, Yes, No, ToolFault, Answer, output_of, IsWrite, VerdictAnswer, refusal, refusal_line, word_of, PlanReport, HasCost, HoldsOf, WasRead, Consumes, subst, IsJudged, VerdictOut, cost_if, judged_of, Judges, worded}
+use Rattle.sas_requests.proofs.Imports.{arith, ◌≡◌, ◌≢◌, ◌⊎◌, ℕ, List, codes, refl, ◌∙◌, Option, Some, None, Result, Ok, Err, IfOk, IfErr, IsErrOf, IsAtEnd, Parts, PlanParts, Device, Fault, Kind, ValueOf, ReadsAll, ReadsAs, KindAt, most_bytes, known_answer, known_fault, plan_format, PlanKind, Status, No, ToolFault, Answer, output_of, IsWrite, VerdictAnswer, refusal, refusal_line, word_of, PlanReport, HasCost, HoldsOf, WasRead, IsJudged, VerdictOut, cost_if, judged_of, Judges, worded}
 use Rattle.sas_requests.proofs.Outputs.{IsFaultOf, refused_kind, too_long_else, reading_of_refusal, file_refused, file_too_long}
 use Rattle.sas_reader.specs.declared.fault.Kind.TheVariants as kinds
 use Rattle.sas_answers.specs.declared.ending.ToolFault.TheVariants as tool_fault
@@ -8,8 +8,7 @@ use Rattle.sas_answers.specs.declared.ending.ToolFault.TheVariants as tool_fault
 -- ---- a plan that was read
 
 cost_of : (c : List ℕ) (plan : PlanParts) (s : Status) (cost : Option ℕ) → ReadsAs plan_format most_bytes c (Ok plan) → cost ≡ cost_if s plan.cost → HasCost c s cost
-cost_of c plan Yes cost reads e = (plan, reads.0, e)
-cost_of c plan No cost reads e = e
+cost_of c plan h1 cost reads e = grind arith
 
 read_verdict : (p : Parts) (c : List ℕ) (plan : PlanParts) (v : PlanReport) → ReadsAs plan_format most_bytes c (Ok plan) → VerdictAnswer p plan (output_of v.answer) → v.cost ≡ cost_if v.answer.status plan.cost → IsJudged p c (judged_of v)
 read_verdict p c plan v reads answer cost = ((Ok plan, reads, (output_of v.answer, answer, refl)), cost_of c plan v.answer.status v.cost reads cost)
@@ -17,8 +16,7 @@ read_verdict p c plan v reads answer cost = ((Ok plan, reads, (output_of v.answe
 -- ---- a plan file that is refused
 
 no_cost : (c : List ℕ) (s : Status) (cost : Option ℕ) → s ≡ No → cost ≡ None → HasCost c s cost
-no_cost c Yes cost e none = absurd cc
-no_cost c No cost e none = none
+no_cost c h1 cost e none = grind arith
 
 refused_verdict : (p : Parts) (c : List ℕ) (f : Fault) (v : PlanReport) → refusal (codes "plan") f ≡ Some (output_of v.answer) → v.cost ≡ None → IsFaultOf plan_format c f → IsJudged p c (judged_of v)
 refused_verdict p c f v is none fault = (
@@ -35,8 +33,7 @@ byte_apart : (bytes : List ℕ) (byte : ℕ) (k : Kind) → KindAt plan_format m
 byte_apart bytes byte k h e = grind (arith, common_steps, plan_kind_apart)
 
 never_unread : (bytes : List ℕ) (f : Fault) → ReadsAs plan_format most_bytes bytes (Err f) → f.kind ≢ kinds.Read
-never_unread bytes f (inl h) = byte_apart h.before h.byte f.kind h.kind
-never_unread bytes f (inr h) = λ e. let other : kinds.End ≡ kinds.Read = sym h.kind ∙ e in cc
+never_unread bytes f h1 = grind (arith, byte_apart)
 
 -- of bytes in memory
 module _ (b : List ℕ) (p : Parts) (f : Fault) (fault : f.kind ≢ kinds.Memory → ReadsAs plan_format most_bytes b (Err f)) where
@@ -48,17 +45,11 @@ module _ (b : List ℕ) (p : Parts) (f : Fault) (fault : f.kind ≢ kinds.Memory
   judged_long long = file_too_long plan_format (codes "plan") (VerdictAnswer p) b f long (λ memory read. fault memory)
 
   judged_err_of : (why : ToolFault) → (IsErrOf {T = Answer} (Err why) tool_fault.Read → f.kind ≡ kinds.Read) → (IsWrite why → ⊥) → (why ≡ tool_fault.Memory) ⊎ (why ≡ tool_fault.TooLong)
-  judged_err_of tool_fault.Memory read writes = inl refl
-  judged_err_of tool_fault.TooLong read writes = inr refl
-  judged_err_of tool_fault.Read read writes =
-      let unread = read refl in
-      absurd (never_unread b f (fault (λ e. let other : kinds.Read ≡ kinds.Memory = sym unread ∙ e in cc)) unread)
-  judged_err_of (tool_fault.Write n) read writes = absurd (writes tt)
+  judged_err_of h1 read writes = grind (arith, never_unread)
 
   -- so there is no answer only if memory is refused, or the plan is too long
   pub judged_err : (r : Result Answer ToolFault) → (IsErrOf r tool_fault.Read → f.kind ≡ kinds.Read) → IfErr r (λ e. IsWrite e → ⊥) → IfErr r (λ e. (e ≡ tool_fault.Memory) ⊎ (e ≡ tool_fault.TooLong))
-  judged_err (Ok reported) read writes = tt
-  judged_err (Err why) read writes = judged_err_of why read writes
+  judged_err h1 read writes = grind (arith, judged_err_of)
 
 -- ---- as it is read from a device
 
@@ -67,14 +58,10 @@ holds_more known A B to h = (λ c is. to c (h.0 c is), (h.1.0, h.1.1, to h.1.0 h
 
 -- what holds of the bytes of an input holds of those of its plan, where these are known
 was_read : (known now : Option (List ℕ)) (c : List ℕ) → ((whole : List ℕ) → known ≡ Some whole → now ≡ Some whole) → WasRead now c → WasRead known c
-was_read None now c same was = (None, tt)
-was_read (Some whole) now c same (rest, was) = (rest, subst (λ (x : Option (List ℕ)). Consumes x rest c) (same whole refl) was)
+was_read h1 now c same was = grind arith
 
 pub holds_known : (known now input : Option (List ℕ)) (Holds : List ℕ → Type 0) → HoldsOf now Holds → ((whole : List ℕ) → known ≡ Some whole → input ≡ Some whole) → now ≡ input → HoldsOf known Holds
-holds_known known now input Holds h same e = (
-  λ c is. h.0 c (e ∙ same c is),
-  (h.1.0, was_read known now h.1.0 (λ whole is. e ∙ same whole is) h.1.1, h.1.2),
-)
+holds_known known now input h1 h same e = grind (arith, was_read)
 
 module _ {D : Type 0} (left : D → Option (List ℕ)) (p : Parts) (old new : Device D) where
   pub judges_read : (plan : PlanParts) (v : PlanReport) → ReadsAll left plan_format (ValueOf plan_format) old new (Ok plan) → VerdictAnswer p plan (output_of v.answer) → v.cost ≡ cost_if v.answer.status plan.cost → Judges p (left old.device) (Ok v)

@@ -1,11 +1,15 @@
 -- What is printed of many plans says which of them solve the task.
-use Rattle.sas_requests.proofs.Imports.{◌≡◌, ℕ, zero, suc, ◌<◌, Bool, true, false, List, [], ◌∷◌, ◌++◌, length, get_or, codes, decimal, append_assoc, refl, sym, ap, subst, ◌∙◌, arith, inl, inr, Option, Some, Result, Ok, Err, IfOk, ◌↔◌, All, zip, is_some, if◌then◌else◌, list_all, Appends, append_cancel_left, append_cancel_right, All-get_or, All-from_get_or, AllPass-from_list_all, list_all-from_AllPass, Parts, IsLayered, IsLabel, HaveBytes, JudgeFault, tool_result, Judged, HasCost, IsJudged, JudgeOut, is_valid, labelled, plans_answer, summary_of, Tally, unjudged, AllZip, AllZip-long, min, le-min, min-le_left, ◌≤◌, length-zip, get_or-zip, PlansHeadline, line_of, labelled_valid, lines, lines-one, ReadsAs, most_bytes, plain, task_format, Status, Yes, No, Ends, Output, VerdictAnswer, valid_line, Solves, Headline, IsLayeredText, plain_refusal}
+use Rattle.sas_requests.proofs.Imports.{◌≡◌, ℕ, zero, suc, ◌<◌, Bool, true, false, List, [], ◌∷◌, ◌++◌, length, get_or, codes, decimal, append_assoc, refl, sym, ap, subst, ◌∙◌, arith, inl, inr, Option, Some, Result, Ok, Err, IfOk, ◌↔◌, All, zip, is_some, if◌then◌else◌, list_all, Appends, append_cancel_left, append_cancel_right, All-get_or, All-from_get_or, AllPass-from_list_all, list_all-from_AllPass, Parts, IsLayered, IsLabel, HaveBytes, JudgeFault, tool_result, Judged, HasCost, IsJudged, JudgeOut, is_valid, labelled, plans_answer, summary_of, Tally, unjudged, AllZip, AllZip-long, min, le-min, min-le_left, ◌≤◌, length-zip, get_or-zip, PlansHeadline, lines, lines-one, ReadsAs, most_bytes, plain, task_format, Status, Yes, No, Ends, Output, VerdictAnswer, valid_line, Solves, Headline, IsLayeredText, plain_refusal}
 use Rattle.sas_requests.proofs.Headlines.{reports_valid, headline_of, sent_same}
 use Rattle.sas_requests.proofs.PlanOutputs.{plain_refuses, not_refused}
 use Rattle.sas_requests.proofs.SideBySide.{zip_at}
 use Rattle.sas_requests.proofs.JudgeLaws.{refuses_as_plan}
 use Rattle.sas_requests.proofs.LastBytes.{last, IsDigit, digit_behind}
-use Rattle.sas_requests.proofs.PlanLines.{IsLine, IsRefusal, verdict_line, labelled_line, line_at, task_refused}
+use Rattle.sas_requests.proofs.PlanLines.{IsLine, IsRefusal, verdict_line, labelled_line, line_at, line_of, task_refused}
+
+-- `LABEL: plan valid: S steps, cost C`, with its end
+abbrev labelled_valid : List ℕ → ℕ → ℕ → List ℕ
+labelled_valid label steps cost = label ++ codes ": " ++ valid_line steps cost
 
 -- what is said of one plan, and what that shows
 record PlanReported (b c label : List ℕ) (j : Judged) : Type 0 where
@@ -14,8 +18,7 @@ record PlanReported (b c label : List ℕ) (j : Judged) : Type 0 where
   is_line : IsLine (labelled (label, j))
 
 status_valid : (c : List ℕ) (s : Status) (cost : Option ℕ) → HasCost c s cost → (s ≡ Yes) ↔ (is_some cost ≡ true)
-status_valid c Yes cost (plan, reads, is) = (λ e. rw is refl, λ e. refl)
-status_valid c No cost is = (λ e. absurd cc, λ e. (let other : false ≡ true = rw is at e in absurd cc))
+status_valid c h1 cost h2 = grind (arith, false, true)
 
 -- ---- of a layered task
 

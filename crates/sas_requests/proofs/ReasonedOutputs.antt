@@ -1,6 +1,7 @@
 -- The output with reasons behind refusals of files: it is the same answer as the one without, there is one, and always some; and
 -- what it says of plans and groups holds.
-use Rattle.sas_requests.proofs.Imports.{◌≡◌, ◌⊎◌, ℕ, append-nil, List, [], ◌∷◌, ◌++◌, arith, codes, refl, sym, ap, subst, ◌∙◌, inl, inr, Option, Some, false, option_map, Appends, lines, Fault, IsPlain, Exclusive, FileLine, file_lines, file_text, Yes, No, Output, group_line, valid_line, with_reasons, why_refusal, WhyCheckAnswer, WhyMutexAnswer, one_why_check, is_reason, without_reasons, OutOfRead, OutWhy, WithReasons, IsSameAnswer, SameAnswer, RefusalReasons, some_why_check, one_why_mutex, some_why_mutex, WhyVerdict, Request, Plan, Mutex, Solves, Invariants, word_of, refusal, refusal_line, HasOneOutput, IsLong, worded}
+use Rattle.std.proofs.lemmas.Grind.{common_steps}
+use Rattle.sas_requests.proofs.Imports.{◌≡◌, ◌⊎◌, ℕ, map, append-nil, List, [], ◌∷◌, ◌++◌, arith, codes, refl, sym, ap, subst, ◌∙◌, inl, inr, Option, Some, false, option_map, Appends, lines, Fault, IsPlain, Exclusive, FileLine, file_line_bytes, file_text, Yes, No, Output, group_line, valid_line, with_reasons, why_refusal, WhyMutexAnswer, one_why_check, is_reason, without_reasons, OutOfRead, OutWhy, WithReasons, IsSameAnswer, SameAnswer, some_why_check, one_why_mutex, some_why_mutex, WhyVerdict, Request, Plan, Mutex, Solves, Invariants, word_of, refusal, refusal_line, HasOneOutput, IsLong, worded}
 use Rattle.sas_requests.proofs.Headlines.{IsSolved, IsOther, sent_same, headline_by, out_reported, out_solved, SaysHeadline}
 use Rattle.sas_requests.proofs.Outputs.{none_made}
 use Rattle.sas_requests.proofs.PlanOutputs.{output_for}
@@ -18,12 +19,7 @@ use Rattle.sas_requests.proofs.WhyAnswers.{apart_at, one_why_verdict, some_why_v
 
 module _ (IsOut : Option Output → Type 0) (Long : Type 0) (AreReasons : List FileLine → Type 0) (output : HasOneOutput IsOut Long) (list : HasOneList AreReasons) where
   one_reasoned : (o p : Option Output) → WithReasons IsOut AreReasons o → WithReasons IsOut AreReasons p → o ≡ p
-  one_reasoned o p x y =
-      let reasons = list.one x.reasons y.reasons x.are_reasons y.are_reasons in
-      let read = output.one x.of_read y.of_read x.is_out y.is_out in
-      x.whole
-      ∙ (ap (λ (r : List FileLine). option_map (with_reasons (file_text r)) x.of_read) reasons
-      ∙ (ap (λ (q : Option Output). option_map (with_reasons (file_text y.reasons)) q) read ∙ sym y.whole))
+  one_reasoned o p x y = grind (arith, option_map, with_reasons, file_text)
 
   reasoned_output : HasOneOutput (WithReasons IsOut AreReasons) Long
   reasoned_output = record {
@@ -34,9 +30,7 @@ module _ (IsOut : Option Output → Type 0) (Long : Type 0) (AreReasons : List F
   }
 
 pub why_output : (request : Request) (b c : List ℕ) → HasOneOutput (OutWhy request b c) (IsLong request b c)
-why_output request b c =
-    let output = output_for WhyVerdict one_why_verdict some_why_verdict WhyCheckAnswer WhyMutexAnswer one_why_check some_why_check one_why_mutex some_why_mutex why_refusal why_refuses request b c in
-    reasoned_output (OutOfRead request b c) (IsLong request b c) (RefusalReasons request b c) output (reasons_of request b c)
+why_output request b c = search (arith, output_for, one_why_verdict, some_why_verdict, one_why_check, some_why_check, one_why_mutex, some_why_mutex, why_refusal, why_refuses, reasoned_output, reasons_of)
 
 -- ---- the refusal of a file is one line
 
@@ -85,7 +79,7 @@ module _ (o reported : Output) (reasons : List FileLine) (whole : o ≡ with_rea
     text_is = ap (λ (x : Output). x.text) whole ∙ ap (λ (t : List ℕ). t ++ file_text reasons) l.text
 
     left : without_reasons o.text ≡ reported.text
-    left = ap without_reasons text_is ∙ (first_stays l.line (file_lines reasons) l.reported (file_lines_report reasons) ∙ sym l.text)
+    left = ap without_reasons text_is ∙ (first_stays l.line (map file_line_bytes reasons) l.reported (file_lines_report reasons) ∙ sym l.text)
 
   same_with : (plain : Output) → IsSameAnswer plain reported → IsRefusalLine reported → IsSameAnswer plain o
   same_with plain same l =
@@ -106,10 +100,7 @@ module _ (request : Request) (b c : List ℕ) (o : Output) (out : OutWhy request
 
   -- it is that output, or there is the refusal of a file
   as_read : (o ≡ came.0) ⊎ IsRefusalLine came.0
-  as_read = elim (stand_behind request b c out.of_read out.reasons out.is_out out.are_reasons) [
-    | inl none ↦ inl (as_it_was o came.0 out.reasons came.2 none)
-    | inr refused ↦ inr (refusal_line_of came.0 (subst IsFileRefusal came.1 refused))
-  ]
+  as_read = grind (arith, common_steps, stand_behind, as_it_was, came, refusal_line_of)
 
 pub same_answer : SameAnswer
 same_answer request b c why out =
@@ -152,7 +143,7 @@ module _ (b c : List ℕ) (o : Output) (out : OutWhy Mutex b c (Some o)) where
   read_of = (came Mutex b c o out).0
 
   refused_says : IsRefusalLine read_of → SaysNone o.text
-  refused_says l = subst SaysNone (sym (text_is o read_of out.reasons (came Mutex b c o out).2 l)) (line_says_none l.line l.reported l.no_group (file_lines out.reasons) (file_lines_report out.reasons))
+  refused_says l = subst SaysNone (sym (text_is o read_of out.reasons (came Mutex b c o out).2 l)) (line_says_none l.line l.reported l.no_group (map file_line_bytes out.reasons) (file_lines_report out.reasons))
 
   pub invariants_why : (old new : Option (List ℕ)) (before : List ℕ) → old ≡ Some before → Appends old new o.text → Invariants b (Appends old new)
   invariants_why old new before known sent = elim (as_read Mutex b c o out) [

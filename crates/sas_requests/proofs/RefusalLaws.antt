@@ -53,9 +53,7 @@ module _ {V I S : Type 0} (F : Format V I S) (Reports : Fault → List (List ℕ
     (some : (bytes : List ℕ) (f : Fault) (begun : List (List ℕ)) (found : List ℕ) (lacks : Bool) → IsAbout F most_bytes bytes f begun found → (r : List FileLine) × Reports f begun found lacks r) (bytes : List ℕ) where
   -- what a fault is about has a word
   about_short : (f : Fault) (begun : List (List ℕ)) (found : List ℕ) → IsAbout F most_bytes bytes f begun found → f.kind ≢ kinds.TooLong
-  about_short f begun found (of_line h ha ht s n k) e = worded s found f.kind k (rw e refl)
-  about_short f begun found (of_byte h ha ht v r k) e = absurd (let apart : kinds.Trailing ≡ kinds.TooLong = sym k ∙ e in cc)
-  about_short f begun found (of_end h ha ht) e = absurd (let apart : kinds.End ≡ kinds.TooLong = sym h.kind ∙ e in cc)
+  about_short f begun found h1 e = grind (arith, of_line, of_byte, of_end)
 
   one_fault : (f : Fault) (r s : List FileLine) → FaultReasons F Reports bytes f r → FaultReasons F Reports bytes f s → r ≡ s
   one_fault f r s (reported a t l h p x) (reported b u m j q y) =

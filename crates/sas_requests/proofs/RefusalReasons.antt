@@ -1,7 +1,6 @@
 -- Why a file is refused: one set of lines, and always some; and behind which refusal they stand.
-use Rattle.sas_requests.proofs.Imports.{◌≡◌, ◌⊎◌, ℕ, Bool, List, [], codes, append-nil, refl, sym, ap, subst, inl, inr, Option, Some, None, Result, Ok, Err, option_map, none-some, Parts, PlanParts, Fault, Format, Laws, most_bytes, plan_format, plan_laws_hold, task_format, task_laws_hold, FileLine, Output, with_reasons, why_refusal, WhyCheckAnswer, WhyMutexAnswer, WhyVerdict, Request, Show, Print, ReadReasons, FileReasons, AreTaskReasons, ArePlanReasons, TaskFileReasons, PlanFileReasons, RefusalReasons, Detail, Reasons, reported_by, ReasonedBy, OutOfRead, Steps, Check, Plan, Mutex, refusal, IsAnswerOrRefusal, FileOut, TaskOut, UnlayeredAnswer, ShowAnswer, PrintAnswer}
+use Rattle.sas_requests.proofs.Imports.{arith, ◌≡◌, ◌⊎◌, ℕ, Bool, List, [], codes, append-nil, ap, inl, inr, Option, Some, Result, Ok, Err, option_map, none-some, Parts, PlanParts, Fault, Format, Laws, most_bytes, plan_format, plan_laws_hold, task_format, task_laws_hold, FileLine, Output, with_reasons, why_refusal, WhyCheckAnswer, WhyMutexAnswer, WhyVerdict, Request, Show, Print, ReadReasons, FileReasons, AreTaskReasons, ArePlanReasons, TaskFileReasons, PlanFileReasons, RefusalReasons, Detail, Reasons, reported_by, ReasonedBy, OutOfRead, Steps, Check, Plan, Mutex, refusal, IsAnswerOrRefusal, FileOut, TaskOut, UnlayeredAnswer, ShowAnswer, PrintAnswer}
 use Rattle.sas_requests.proofs.PlanOutputs.{not_refused}
-use Rattle.sas_requests.specs.declared.question.Detail.TheVariants.{Plain}
 
 -- ---- an output with reasons behind
 
@@ -10,17 +9,14 @@ no_reasons o = ap (λ (t : List ℕ). let x : Output = record { text = t; status
 
 -- it is one that was there, with them
 pub some_of : (reasons : List ℕ) (p : Option Output) (o : Output) → Some o ≡ option_map (with_reasons reasons) p → (plain : Output) × (p ≡ Some plain) × (o ≡ with_reasons reasons plain)
-some_of reasons None o e = absurd (none-some o (sym e))
-some_of reasons (Some plain) o e = (plain, refl, let same : o ≡ with_reasons reasons plain = cc in same)
+some_of reasons h1 o e = grind (arith, none-some, with_reasons)
 
 -- an output with such reasons behind it, at each detail
 pub reasoned_by : (detail : Detail) (IsOut : Option Output → Type 0) (AreReasons : List FileLine → Type 0) (q o : Option Output) (reasons : List FileLine) → IsOut q → AreReasons reasons → o ≡ reported_by detail reasons q → ReasonedBy detail IsOut AreReasons o
-reasoned_by Plain IsOut AreReasons q o reasons out why is = subst IsOut (sym is) out
-reasoned_by Reasons IsOut AreReasons q o reasons out why is = record { of_read = q; reasons = reasons; is_out = out; are_reasons = why; whole = is }
+reasoned_by h1 h2 h3 q o reasons out why is = grind arith
 
 -- others that follow
 pub more_reasoned : (detail : Detail) (A B : Option Output → Type 0) (R S : List FileLine → Type 0) → ((o : Option Output) → A o → B o) → ((o : Option Output) (reasons : List FileLine) → A o → R reasons → S reasons) → (o : Option Output) → ReasonedBy detail A R o → ReasonedBy detail B S o
-more_reasoned Plain A B R S to behind o out = to o out
 more_reasoned Reasons A B R S to behind o out = record {
   of_read = out.of_read;
   reasons = out.reasons;
@@ -28,12 +24,11 @@ more_reasoned Reasons A B R S to behind o out = record {
   are_reasons = behind out.of_read out.reasons out.is_out out.are_reasons;
   whole = out.whole;
 }
+more_reasoned detail A B R S to behind o out = to o out
 
 -- no reasons change nothing
 pub reported_alone : (detail : Detail) (o : Option Output) → o ≡ reported_by detail [] o
-reported_alone Plain o = refl
-reported_alone Reasons None = refl
-reported_alone Reasons (Some o) = ap Some (sym (no_reasons o))
+reported_alone h1 h2 = grind (arith, no_reasons)
 
 -- ---- behind which refusal they stand
 
@@ -50,9 +45,7 @@ module _ {V I S : Type 0} (F : Format V I S) (Reports : Fault → List (List ℕ
   by_reading bytes (Err fault) o reasons out why = inr (is_file fault o out)
 
   file_behind : (bytes : List ℕ) (o : Option Output) (reasons : List FileLine) → FileOut F name IsAnswer bytes o → FileReasons F Reports bytes reasons → StandBehind reasons o
-  file_behind bytes o reasons out why =
-      let same = laws.one_reading most_bytes bytes why.0 out.0 why.1 out.1 in
-      by_reading bytes out.0 o reasons out.2 (subst (λ (r : Result V Fault). ReadReasons F Reports bytes r reasons) same why.2)
+  file_behind bytes o reasons out why = grind (arith, most_bytes, by_reading)
 
 of_task : (fault : Fault) (o : Option Output) → o ≡ refusal (codes "task") fault → IsFileRefusal o
 of_task fault o is = (fault, inl is)

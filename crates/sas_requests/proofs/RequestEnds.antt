@@ -1,33 +1,27 @@
 -- How the output of a request goes out.
-use Rattle.sas_requests.proofs.Imports.{◌≡◌, ℕ, false, true, List, [], codes, inl, inr, refl, sym, ap, subst, ◌∙◌, Option, Some, None, Result, Ok, Err, IsTrue, IfOk, IsSomeAnd, Appends, Parts, PlanParts, LayerFault, IsLayered, Device, ValueOf, ReadsAll, ReadsAs, most_bytes, known_answer, plan_format, task_format, Status, Yes, ToolFault, Output, EndsCounting, Answers, ends_by, answers_by, layers_verdict, LayeredGroupsAnswer, Consumes-nil, Detail, Reasons, PlanDetail, detail_of, CheckBy, MutexBy, VerdictBy, UnlayeredBy, layers_by, TaskBy, PlanBy, OutBy, EndsRequest, TaskFileReasons, PlanFileReasons, RefusalReasons, layered_answer, check_layered, check_refused, groups_refused, IsTraced, TraceVerdict, Request, Headline, Invariants, TaskOut, VerdictOut, PlanOutBy, PrintAnswer, AreInputs, reads_task, EndsFile}
+use Rattle.sas_requests.proofs.Imports.{arith, ◌≡◌, ℕ, false, true, List, [], codes, inl, inr, refl, sym, subst, ◌∙◌, Option, Some, Result, Ok, Err, IsTrue, IfOk, IsSomeAnd, Appends, Parts, PlanParts, IsLayered, Device, ValueOf, ReadsAll, ReadsAs, most_bytes, known_answer, plan_format, task_format, Status, Yes, ToolFault, Output, EndsCounting, Answers, ends_by, answers_by, layers_verdict, Consumes-nil, Detail, PlanDetail, detail_of, CheckBy, MutexBy, VerdictBy, UnlayeredBy, layers_by, TaskBy, PlanBy, OutBy, EndsRequest, TaskFileReasons, RefusalReasons, layered_answer, check_layered, check_refused, groups_refused, IsTraced, TraceVerdict, Request, Headline, Invariants, TaskOut, PlanOutBy, PrintAnswer, AreInputs, reads_task, EndsFile}
 use Rattle.sas_requests.proofs.PlanOutputs.{first_alone, second_alone, not_refused}
 use Rattle.sas_requests.specs.declared.Request.TheVariants as request
-use Rattle.sas_requests.specs.declared.question.Detail.TheVariants.{Plain}
 use Rattle.sas_requests.proofs.RefusalReasons.{more_reasoned}
 
 -- ---- answers about a task
 
 pub check_yes : (detail : Detail) (p : Parts) → IsLayered p → CheckBy detail p (record { text = codes "task layered\n"; status = Yes })
-check_yes Plain p layered = layered_answer p layered
-check_yes Reasons p layered = check_layered p _ layered refl
+check_yes h1 p layered = grind (arith, check_layered, layered_answer)
 
 pub check_no : (detail : Detail) (p : Parts) (o : Output) → UnlayeredBy detail p o → CheckBy detail p o
-check_no Plain p o (fault, first, is) = ap layers_verdict first ∙ is
-check_no Reasons p o (fault, first, is) = check_refused p o fault is first
+check_no h1 p o h2 = grind (arith, check_refused, layers_verdict)
 
 -- of the groups of a task: of what holds of an output follows another
 pub some_as : (A B : Output → Type 0) → ((o : Output) → A o → B o) → (o : Option Output) → IsSomeAnd o A → IsSomeAnd o B
-some_as A B to (Some o) holds = to o holds
-some_as A B to None holds = holds
+some_as h1 h2 to h3 holds = grind arith
 
 pub mutex_no : (detail : Detail) (p : Parts) (o : Output) → UnlayeredBy detail p o → MutexBy detail p o
-mutex_no Plain p o (fault, first, is) = subst (λ (f : Option LayerFault). LayeredGroupsAnswer p f o) (sym first) is
-mutex_no Reasons p o (fault, first, is) = groups_refused p o fault is first
+mutex_no h1 p o h2 = grind (arith, groups_refused)
 
 -- about a plan, by its trace
 pub trace_answers : (p : Parts) (plan : PlanParts) (o : Option Output) → IsTraced p plan o → IsSomeAnd o (TraceVerdict p plan)
-trace_answers p plan (Some o) traced = traced
-trace_answers p plan None traced = traced
+trace_answers p plan h1 traced = grind arith
 
 -- ---- the output of `plan`
 
@@ -43,9 +37,7 @@ module _ (detail : PlanDetail) (b c : List ℕ) (o : Option Output) where
 
   -- and of the plan of a layered one
   pub judged_by : (p : Parts) → IsLayered p → ReadsAs task_format most_bytes b (Ok p) → PlanBy (detail_of detail) (VerdictBy detail p) c o → OutBy detail request.Plan b c o
-  judged_by p layered reads =
-      more_reasoned (detail_of detail) (VerdictOut (VerdictBy detail) p c) PlanOutput (PlanFileReasons c) (RefusalReasons request.Plan b c)
-      (λ q out. inr (p, reads, layered, out)) (λ q reasons out why. inl ((p, reads, layered), why)) o
+  judged_by p layered reads = grind (arith, more_reasoned, detail_of)
 
 -- ---- how they go out
 
@@ -54,17 +46,7 @@ module _ {T P W : Type 0} (left_task : T → Option (List ℕ)) (left_plan : P �
   pub ends_as : (A B : List ℕ → List ℕ → (List ℕ → Type 0) → Result Status ToolFault → Type 0) (asked : Request) (old new : Device T) (plan_old plan_new : Device P) (r : Result Status ToolFault)
       → ((b c : List ℕ) (Sent : List ℕ → Type 0) → A b c Sent r → B b c Sent r)
       → Answers contents (EndsRequest left_task left_plan A asked old new plan_old plan_new) out_old out_new r → Answers contents (EndsRequest left_task left_plan B asked old new plan_old plan_new) out_old out_new r
-  ends_as A B asked old new plan_old plan_new r to =
-      answers_by contents out_old out_new r (EndsRequest left_task left_plan A asked old new plan_old plan_new) (EndsRequest left_task left_plan B asked old new plan_old plan_new) (λ Sent one. record {
-        output = λ b c inputs. to b c Sent (one.output b c inputs);
-        taken = λ decided.
-            let (b, c, consumed, consumed_plan, ends) = one.taken decided in
-            (b, c, consumed, consumed_plan, to b c Sent ends);
-        task_spared = one.task_spared;
-        plan_spared = one.plan_spared;
-        plan_waits = one.plan_waits;
-        reads = one.reads;
-      })
+  ends_as h1 h2 asked old new plan_old plan_new r to = grind (arith, answers_by)
 
 module _ {T P W : Type 0} (left_task : T → Option (List ℕ)) (left_plan : P → Option (List ℕ)) (contents : W → Option (List ℕ)) (out_old out_new : Device W) (detail : PlanDetail) where
   abbrev EndsAsked : Request → Device T → Device T → Device P → Device P → (List ℕ → Type 0) → Result Status ToolFault → Type 0

@@ -1,5 +1,5 @@
 -- What is said of one plan after another.
-use Rattle.sas_requests.proofs.Imports.{◌≡◌, ◌≢◌, ℕ, ◌+◌, ◌<◌, ◌≤◌, ◌⊎◌, List, [], ◌∷◌, ◌++◌, length, get_or, codes, refl, sym, ap, subst, ◌∙◌, arith, inl, inr, Option, Some, None, Result, Err, IfErr, zip, flat_map, if◌then◌else◌, list_all, get_or-append, get_or-append_seam, cases_lt, length_push, count_by-le-length, Contains-get_or, Consumes-nil, Parts, Status, Yes, No, NotOpened, JudgeFault, Tool, Tally, Judged, IsJudged, PlansOut, is_valid, labelled, plans_answer, summary_of, tally_with, AreReported, HoldsOf, IsPlace, IsUnsaid, Judges, JudgesPlans, unjudged, WasRead, EndsAt, OpensInTurn, ToolFault, Ends, IsWrite, tool_result, judge_result, VerdictAnswer, plan_format, VerdictOut}
+use Rattle.sas_requests.proofs.Imports.{IfSome, ◌≡◌, ◌≢◌, ℕ, ◌+◌, ◌<◌, ◌≤◌, ◌⊎◌, List, [], ◌∷◌, ◌++◌, length, get_or, codes, refl, sym, ap, subst, ◌∙◌, arith, inl, inr, Option, Some, None, Result, Err, IfErr, zip, flat_map, if◌then◌else◌, list_all, get_or-append, get_or-append_seam, cases_lt, length_push, count_by-le-length, Contains-get_or, Consumes-nil, Parts, Status, Yes, No, NotOpened, JudgeFault, Tool, Tally, Judged, IsJudged, PlansOut, is_valid, labelled, plans_answer, summary_of, tally_with, AreReported, HoldsOf, IsUnsaid, Judges, JudgesPlans, unjudged, WasRead, EndsAt, OpensInTurn, ToolFault, Ends, IsWrite, tool_result, judge_result, VerdictAnswer, plan_format, VerdictOut}
 use Rattle.sas_requests.specs.declared.inputs.InputFault.TheVariants.{Read, TooLong}
 use Rattle.sas_requests.proofs.BestPlans.{best_place}
 use Rattle.sas_requests.proofs.Endings.{ends_as}
@@ -15,8 +15,7 @@ use Rattle.sas_requests.proofs.Turns.{tool_same, tool_long, tool_unread}
 
 -- how it is pushed
 pub said_text : (before after label same_label line same_line : List ℕ) → after ≡ before ++ (label ++ codes ": " ++ line) → label ≡ same_label → line ≡ same_line → after ≡ before ++ (same_label ++ codes ": " ++ same_line)
-said_text before after label same_label line same_line is e f =
-    is ∙ ap (λ (x : List ℕ). before ++ (x ++ codes ": " ++ line)) e ∙ ap (λ (x : List ℕ). before ++ (same_label ++ codes ": " ++ x)) f
+said_text before after label same_label line same_line is e f = grind (arith, codes)
 
 -- what holds of the same plan
 pub holds_same : (Holds : Parts → List ℕ → Type 0) (p q : Parts) (a b : Option (List ℕ)) → p ≡ q → a ≡ b → HoldsOf a (Holds p) → HoldsOf b (Holds q)
@@ -25,10 +24,7 @@ holds_same Holds p q a b e f h = subst (λ (x : Parts). HoldsOf b (Holds x)) e (
 -- why nothing is said of it
 pub unsaid : {S I : Type 0} (gives : S → ℕ → Option I → S → Type 0) (p q : Parts) (a : Option (List ℕ)) (known : ℕ → Option (List ℕ)) (number : ℕ) (old new : S) (why : JudgeFault) → p ≡ q → a ≡ known number
     → Judges p a (Err (fault_of why)) → EndsAt gives number old new why → IsUnsaid q known why
-unsaid gives p q a known number old new (Plan other NotOpened) e f h ends = tt
-unsaid gives p q a known number old new (Plan other Read) e f h ends = tt
-unsaid gives p q a known number old new (Plan other TooLong) e f h ends = holds_same (λ x c. VerdictOut VerdictAnswer x c None) p q a (known other) e (f ∙ ap known (sym ends.0)) h
-unsaid gives p q a known number old new (Tool why) e f h ends = ends.0
+unsaid gives p q a known number old new h1 e f h ends = grind (arith, holds_same)
 
 module _ (p : Parts) (known : ℕ → Option (List ℕ)) (labels : List (List ℕ)) where
   -- ---- one plan more
@@ -63,17 +59,14 @@ module _ (p : Parts) (known : ℕ → Option (List ℕ)) (labels : List (List �
   -- ---- all plans
 
   module _ (text : List ℕ) (tally : Tally) (reports : AreReported p known labels (length labels) text tally) where
-    pub placed : IsPlace labels tally.best
+    pub placed : IfSome tally.best (λ best. best.number < length labels)
     placed = best_place labels reports.all tally.best reports.many reports.counts.best
 
     -- the whole text goes out, with the status by how many are valid
     module _ (status : Status) (whole : List ℕ) (is : whole ≡ text ++ summary_of labels tally) (by : ((tally.valid ≡ length labels) × (status ≡ Yes)) ⊎ ((tally.valid ≢ length labels) × (status ≡ No)))
         (Sent : List ℕ → Type 0) (r : Result Status ToolFault) (write : IfErr r IsWrite) (ends : Ends (λ o. o ≡ Some (record { text = whole; status = status })) Sent r) where
       status_is : status ≡ (if list_all is_valid reports.all then Yes else No)
-      status_is = elim by [
-        | inl x ↦ x.1 ∙ status_yes reports.all (length labels) reports.many (sym reports.counts.valid ∙ x.0)
-        | inr x ↦ x.1 ∙ status_no reports.all (length labels) reports.many (λ e. x.0 (reports.counts.valid ∙ e))
-      ]
+      status_is = grind (arith, status_yes, length, status_no)
 
       text_is : whole ≡ flat_map labelled (zip labels reports.all) ++ summary_of labels tally
       text_is = is ∙ ap (λ (x : List ℕ). x ++ summary_of labels tally) reports.whole

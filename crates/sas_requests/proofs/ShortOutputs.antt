@@ -1,6 +1,6 @@
 -- Each output without reasons is shorter than 2 ^ 64 bytes.
 use Rattle.std.proofs.lemmas.Grind.{common_steps}
-use Rattle.sas_requests.proofs.Imports.{◌≡◌, ℕ, ◌+◌, ◌*◌, ◌^◌, ◌<◌, ◌≤◌, List, [], ◌∷◌, ◌++◌, length, codes, length-append, arith, refl, sym, subst, inl, inr, Option, Some, None, Result, Ok, Err, decimal, option_map, none-some, Parts, PlanParts, first_fault, text, LayerFault, layer_checks, Verdict, Broken, PlanFault, Fault, Kind, ValueOf, Format, ReadsAs, most_bytes, plan_format, task_format, outline_of, Yes, No, Output, layers_refusal, layers_verdict, CheckAnswer, LayeredGroupsAnswer, MutexAnswer, valid_answer, VerdictAnswer, words_at_part, layer_words, layers_line, step_words, fault_words, verdict_words, group_line, verdict_lines_from, Show, Print, Steps, Check, Plan, Mutex, word_of, refusal, IsAnswerOrRefusal, ShowAnswer, PrintAnswer, FileOut, UnlayeredAnswer, plain_refusal, ShortOutput}
+use Rattle.sas_requests.proofs.Imports.{◌≡◌, ℕ, ◌+◌, ◌*◌, ◌^◌, ◌<◌, ◌≤◌, List, [], ◌∷◌, ◌++◌, length, codes, length-append, arith, refl, sym, subst, inl, inr, Option, Some, None, Result, decimal, option_map, none-some, Parts, PlanParts, first_fault, text, LayerFault, layer_checks, Verdict, PlanFault, Fault, Kind, ValueOf, Format, ReadsAs, most_bytes, plan_format, task_format, outline_of, Yes, No, Output, layers_refusal, layers_verdict, CheckAnswer, LayeredGroupsAnswer, MutexAnswer, valid_answer, VerdictAnswer, words_at_part, layer_words, layers_line, step_words, fault_words, verdict_words, group_line, verdict_lines_from, Show, Print, Steps, Check, Plan, Mutex, word_of, refusal, IsAnswerOrRefusal, ShowAnswer, PrintAnswer, FileOut, UnlayeredAnswer, plain_refusal, ShortOutput}
 use Rattle.sas_requests.proofs.Lengths.{decimal_short, text_short}
 use Rattle.sas_meaning.specs.declared.layered.LayerFault.TheVariants as layer_fault
 use Rattle.sas_requests.proofs.SummaryLengths.{summary_fits}
@@ -20,8 +20,7 @@ none_short words is = absurd (none-some words is)
 -- so is what is made of them
 line_short : (line_of : List ℕ → Output) → ((words : List ℕ) → length (line_of words).text ≤ length words + 200) → (found : Option (List ℕ)) → AreShort found
     → (o : Output) → option_map line_of found ≡ Some o → length o.text < 2 ^ 64
-line_short line_of longer None short o is = absurd (none-some o is)
-line_short line_of longer (Some words) short o is = grind (arith, common_steps)
+line_short line_of longer h1 short o is = grind (arith, none-some)
 
 -- ---- the refusal of a file
 
@@ -65,14 +64,12 @@ valid_short : (plan : PlanParts) → length (valid_answer plan).text < 2 ^ 64
 valid_short plan = grind (arith, common_steps, decimal_short)
 
 verdict_short : (p : Parts) (plan : PlanParts) (o : Output) → VerdictAnswer p plan o → length o.text < 2 ^ 64
-verdict_short p plan o (inl (valid, is)) = subst (λ (x : Output). length x.text < 2 ^ 64) (sym is) (valid_short plan)
-verdict_short p plan o (inr (fault, is_fault, is)) = grind (arith, common_steps, line_short, fault_words_short)
+verdict_short p plan o h1 = grind (arith, common_steps, length, text, valid_short, line_short, fault_words_short)
 
 -- ---- mutex groups
 
 words_short : (verdict : Verdict) → length (verdict_words verdict) ≤ 100
-words_short (Broken operator) = omega (arith, length-append (codes "not shown: operator ") (decimal operator), decimal_short operator)
-words_short _ = omega arith
+words_short h1 = grind (arith, length-append, codes, decimal, decimal_short)
 
 groups_short : (place : ℕ) (verdicts : List Verdict) → length (text (verdict_lines_from place verdicts)) ≤ length verdicts * 200
 groups_short place [] = omega arith
@@ -97,15 +94,13 @@ mutex_short b p value None o (verdicts, joint, is) =
 
 module _ {V I S : Type 0} (F : Format V I S) (name : List ℕ) (named : length name ≤ 9) (IsAnswer : V → Output → Type 0) (b : List ℕ) (short : (v : V) → ValueOf F b v → (o : Output) → IsAnswer v o → length o.text < 2 ^ 64) where
   reading_short : (r : Result V Fault) → ReadsAs F most_bytes b r → (o : Output) → IsAnswerOrRefusal name IsAnswer r (Some o) → length o.text < 2 ^ 64
-  reading_short (Ok v) value o (answer, is, same) = short v value o (let e : answer ≡ o = cc in subst (IsAnswer v) e is)
-  reading_short (Err fault) reads o is = refusal_short name named fault o (sym is)
+  reading_short h1 value o h2 = grind (arith, refusal_short)
 
   file_short : (o : Output) → FileOut F name IsAnswer b (Some o) → length o.text < 2 ^ 64
   file_short o (r, reads, is) = reading_short r reads o is
 
 printed_short : {V I S : Type 0} (F : Format V I S) (b : List ℕ) (v : V) → ValueOf F b v → (o : Output) → PrintAnswer F v o → length o.text < 2 ^ 64
-printed_short F b v value o is =
-    subst (λ (x : Output). length x.text < 2 ^ 64) (sym is) (subst (λ (l : List (List ℕ)). length (text l) < 2 ^ 64) value.0.lines (omega (arith, text_short b, value.1)))
+printed_short h1 b v value o is = grind (arith, length, text, text_short)
 
 -- ---- each output
 

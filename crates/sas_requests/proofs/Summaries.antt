@@ -1,12 +1,10 @@
 -- The text of a summary, line by line.
-use Rattle.sas_requests.proofs.Imports.{◌≡◌, ℕ, ◌≤◌, List, [], ◌∷◌, ◌++◌, length, take, codes, sym, ap, ◌∙◌, flat_map, flat_map-map, take_all, Fact, Variable, text, Outline, text_of_both, fact_line, initial_lines, number_lines, goal_fact_lines, summary_lines}
+use Rattle.std.proofs.lemmas.Grind.{common_steps}
+use Rattle.sas_requests.proofs.Imports.{arith, ◌≡◌, ℕ, ◌≤◌, List, [], ◌∷◌, ◌++◌, length, take, codes, sym, ap, ◌∙◌, flat_map, flat_map-map, take_all, Fact, Variable, text, Outline, text_of_both, fact_line, initial_lines, number_lines, goal_fact_lines, summary_lines}
 
 -- the summary, part by part
 pub summary_is : (o : Outline) (numbers : List ℕ) → numbers ≡ text (number_lines o) → numbers ++ text (initial_lines o.variables o.init) ++ text (goal_fact_lines o.variables o.goal) ≡ text (summary_lines o)
-summary_is o numbers is =
-    ap (λ (l : List ℕ). l ++ text (initial_lines o.variables o.init) ++ text (goal_fact_lines o.variables o.goal)) is
-    ∙ ap (λ (l : List ℕ). l ++ text (goal_fact_lines o.variables o.goal)) (sym (text_of_both (number_lines o) (initial_lines o.variables o.init)))
-    ∙ sym (text_of_both (number_lines o ++ initial_lines o.variables o.init) (goal_fact_lines o.variables o.goal))
+summary_is o numbers is = grind (arith, common_steps, text, initial_lines, goal_fact_lines, text_of_both, number_lines)
 
 module _ (variables : List Variable) where
   -- the line of a fact of the goal, and its end

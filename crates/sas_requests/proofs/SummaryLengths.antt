@@ -1,5 +1,5 @@
 -- How long a summary is. What is read of a task is at most 4 GiB, and so a `usize` holds the length of its summary.
-use Rattle.sas_requests.proofs.Imports.{◌≡◌, ℕ, suc, zero, ◌+◌, ◌*◌, ◌^◌, ◌<◌, ◌≤◌, List, [], ◌∷◌, ◌++◌, length, map, codes, length-append, arith, refl, sym, ap, subst, ◌∙◌, inl, inr, Option, Some, None, ◌⊎◌, decimal, slice_get, enumerate_from, length-map, length-enumerate_from, AllByRecursion, flat_map-append, map-append, cases_lt, none-some, mul-le-mul_left, Fact, Variable, Parts, text, ValueOf, TaskLine, word, name, signed, fact, task_line_bytes, single_line, between, counted, version_lines, metric_lines, variable_lines, group_lines, state_lines, operator_lines, rule_lines, task_layout, task_format, Outline, OutlineOf, outline_of, value_name, unwrap_or, joined, fact_line, number_line, number_lines, initial_lines, goal_fact_lines, summary_lines}
+use Rattle.sas_requests.proofs.Imports.{◌≡◌, ℕ, suc, zero, ◌+◌, ◌*◌, ◌^◌, ◌<◌, ◌≤◌, List, [], ◌∷◌, ◌++◌, length, map, codes, length-append, arith, sym, ap, subst, ◌∙◌, Some, ◌⊎◌, decimal, slice_get, enumerate_from, length-map, length-enumerate_from, AllByRecursion, flat_map-append, map-append, cases_lt, none-some, mul-le-mul_left, Fact, Variable, Parts, text, ValueOf, TaskLine, word, name, signed, fact, task_line_bytes, single_line, between, counted, version_lines, metric_lines, variable_lines, group_lines, state_lines, operator_lines, rule_lines, task_layout, task_format, Outline, OutlineOf, outline_of, value_name, unwrap_or, joined, fact_line, number_line, number_lines, initial_lines, goal_fact_lines, summary_lines}
 use Rattle.std.specs.List.{flat_map}
 use Rattle.sas_task_file.specs.TaskFormat.{number}
 use Rattle.sas_requests.proofs.Lengths.{decimal_short, text_short}
@@ -49,11 +49,7 @@ value_short (first ∷ values) (suc value) bytes is =
     omega (arith, size_behind (name first ∷ []) (flat_map (single_line name) values), value_short values value bytes is)
 
 values_short : (v : Variable) → size (flat_map (single_line name) v.values) ≤ size (variable_lines v)
-values_short v =
-    let names = flat_map (single_line name) v.values in
-    let count = number (length v.values) ∷ [] in
-    let heads = single_line name v.name ++ single_line signed v.layer in
-    omega (arith, size_behind count names, size_behind heads (count ++ names), size_within (word (codes "begin_variable") ∷ []) (heads ++ (count ++ names)) (word (codes "end_variable") ∷ []))
+values_short v = search (arith, flat_map, single_line, name, number, length, signed, size_behind, size_within, word, codes)
 
 name_short : (variables : List Variable) (var value : ℕ) (bytes : List ℕ) → value_name variables var value ≡ Some bytes → length bytes ≤ size (flat_map variable_lines variables)
 name_short [] var value bytes is = absurd (none-some bytes is)
@@ -78,11 +74,7 @@ number_short n first k short = omega (arith, length-append first (32 ∷ decimal
 
 module _ (variables : List Variable) (n : ℕ) (h : size (flat_map variable_lines variables) ≤ n) where
   fact_short : (first : List ℕ) → length first ≤ 9 → (var value : ℕ) → length (fact_line first variables var value) < n + 150
-  fact_short first short var value = said (value_name variables var value) (λ bytes is. name_short variables var value bytes is)
-    where
-      said : (found : Option (List ℕ)) → ((bytes : List ℕ) → found ≡ Some bytes → length bytes ≤ size (flat_map variable_lines variables)) → length (joined (first ∷ decimal var ∷ decimal value ∷ unwrap_or found [] ∷ [])) < n + 150
-      said None named = grind (arith, length-append {A = ℕ}, decimal_short)
-      said (Some bytes) named = grind (arith, h, named bytes refl, length-append {A = ℕ}, decimal_short)
+  fact_short first short var value = grind (arith, value_name, name_short, length, size, flat_map, variable_lines, joined, decimal, unwrap_or, length-append, decimal_short)
 
 summary_short : (o : Outline) (n : ℕ) → size (flat_map variable_lines o.variables) ≤ n → length (text (summary_lines o)) ≤ (6 + length o.init + length o.goal) * (n + 150)
 summary_short o n h =
@@ -130,8 +122,7 @@ between_size : (first : List ℕ) (inner : List TaskLine) (last : List ℕ) → 
 between_size first inner last = size_within (word first ∷ []) inner (word last ∷ [])
 
 goal_size : (facts : List Fact) → size (flat_map (single_line fact) facts) ≤ size (file.goal_lines facts)
-goal_size facts =
-    omega (arith, counted_size (single_line fact) facts, between_size (codes "begin_goal") (counted (single_line fact) facts) (codes "end_goal"))
+goal_size facts = search (arith, counted_size, single_line, fact, between_size, codes, counted)
 
 -- a text that was read takes as many bytes as were read, at most
 size_of_read : (bytes : List ℕ) (p : Parts) → ValueOf task_format bytes p → size (task_layout p) ≤ 2 ^ 32
@@ -141,14 +132,7 @@ size_of_read bytes p (reads, short) =
 
 -- a line for each of so many items, each with no more than n bytes of a name
 product_fits : (n many whole : ℕ) → many + n ≤ 2 ^ 32 + 6 → whole ≤ many * (n + 150) → whole < 2 ^ 64
-product_fits n many whole few h = either (cases_lt n (2 ^ 31))
-  where
-    within : (most : ℕ) → n + 150 ≤ most → whole ≤ many * most
-    within most low = omega (arith, h, mul-le-mul_left many low)
-
-    either : (n < 2 ^ 31) ⊎ (2 ^ 31 ≤ n) → whole < 2 ^ 64
-    either (inl low) = omega (arith, few, within (2 ^ 31 + 150) (omega (arith, low)))
-    either (inr high) = omega (arith, few, high, within (2 ^ 32 + 156) (omega (arith, few)))
+product_fits n many whole few h = grind (arith, cases_lt, mul-le-mul_left)
 
 pub summary_fits : (bytes : List ℕ) (o : Outline) → OutlineOf bytes o → length (text (summary_lines o)) < 2 ^ 64
 summary_fits bytes o (p, value, is) =

@@ -1,5 +1,5 @@
 -- One plan more in a tally; and what a tally says of all plans.
-use Rattle.sas_requests.proofs.Imports.{◌≡◌, ◌≢◌, ℕ, ◌+◌, Bool, true, false, cond, List, [], ◌∷◌, ◌++◌, length, refl, sym, ap, ◌∙◌, arith, Option, Some, None, count_by, is_some, if◌then◌else◌, list_all, All-nil, append-nil, append_assoc, sum_by-cons, sum_by_push, count_by-le-length, Yes, No, BestPlan, Tally, Judged, is_valid, Tallies, tally_with}
+use Rattle.sas_requests.proofs.Imports.{◌≡◌, ◌≢◌, ℕ, ◌+◌, Bool, true, false, cond, List, [], ◌∷◌, ◌++◌, length, refl, sym, ◌∙◌, arith, Option, Some, None, count_by, is_some, if◌then◌else◌, list_all, All-nil, append-nil, append_assoc, sum_by-cons, sum_by_push, count_by-le-length, Yes, No, Tally, Judged, is_valid, Tallies, tally_with}
 use Rattle.sas_requests.proofs.BestPlans.{one_best, best_stays, best_next}
 
 -- 1 for a plan that is valid
@@ -9,8 +9,7 @@ one_if_valid j = cond (is_valid j) 1 0
 -- ---- one plan more
 
 count_behind : (all : List Judged) (j : Judged) (cost : Option ℕ) → j.cost ≡ cost → count_by is_valid (all ++ j ∷ []) ≡ count_by is_valid all + cond (is_some cost) 1 0
-count_behind all j cost e =
-    sum_by_push one_if_valid all j ∙ ap (λ (c : Option ℕ). count_by is_valid all + cond (is_some c) 1 0) e
+count_behind all j cost e = grind (arith, sum_by_push, count_by, is_valid, cond, is_some)
 
 pub tally_next : (all : List Judged) (j : Judged) (cost : Option ℕ) (tally : Tally) → j.cost ≡ cost → Tallies all tally → Tallies (all ++ j ∷ []) (tally_with (length all) cost tally)
 tally_next all j None tally e h = record { valid = omega (arith, h.valid, count_behind all j None e); best = best_stays all j tally.best e h.best }
@@ -19,9 +18,7 @@ tally_next all j (Some cost) tally e h = record { valid = omega (arith, h.valid,
 -- ---- one tally
 
 pub one_tally : (all : List Judged) (s t : Tally) → Tallies all s → Tallies all t → s ≡ t
-one_tally all s t h g =
-    ap (λ (n : ℕ). let it : Tally = record { valid = n; best = s.best } in it) (h.valid ∙ sym g.valid)
-    ∙ ap (λ (b : Option BestPlan). let it : Tally = record { valid = t.valid; best = b } in it) (one_best all s.best t.best h.best g.best)
+one_tally all s t h g = grind (arith, one_best)
 
 tally_on : (front all : List Judged) (tally : Tally) → Tallies front tally → (t : Tally) × Tallies (front ++ all) t
 tally_on front [] tally h = (tally, rw (append-nil front) h)

@@ -1,8 +1,8 @@
 -- Which plans were opened, one after another, up to the end of a run.
 use Rattle.std.proofs.lemmas.Grind.{common_steps}
-use Rattle.sas_requests.proofs.Imports.{◌≡◌, ℕ, suc, ◌+◌, ◌<◌, List, add-one, refl, sym, subst, arith, inr, Option, Some, Result, Ok, Err, IfErr, IsErrOf, Status, ToolFault, IsWrite, EndsCounting, TaskOut, UnlayeredAnswer, plain_refusal, JudgeFault, Tool, tool_result, judge_result, IsRightlyLong, OpensFirst, OpensInTurn, EndsAt, IsOpened, IsOpenedBut}
+use Rattle.sas_requests.proofs.Imports.{◌≡◌, ℕ, suc, ◌+◌, ◌<◌, List, add-one, refl, sym, subst, arith, ◌⊎◌, inr, Option, Some, Result, Ok, Err, IfErr, IsErrOf, IsErrAnd, ◌↔◌, Status, ToolFault, IsWrite, EndsCounting, TaskOut, UnlayeredAnswer, plain_refusal, JudgeFault, Tool, tool_fault, tool_result, judge_result, IsRightlyLong, OpensFirst, OpensInTurn, EndsAt, IsOpened, IsOpenedBut}
 use Rattle.sas_requests.proofs.PlanOutputs.{not_refused}
-use Rattle.sas_answers.specs.declared.ending.ToolFault.TheVariants as tool_fault
+use Rattle.sas_answers.specs.declared.ending.ToolFault.TheVariants as faults
 use Rattle.sas_requests.specs.declared.inputs.JudgeFault.TheVariants.{Plan}
 
 module _ {S I : Type 0} (gives : S → ℕ → Option I → S → Type 0) where
@@ -23,21 +23,30 @@ module _ {S I : Type 0} (gives : S → ℕ → Option I → S → Type 0) where
   pub in_turn_refused : (task : Option (List ℕ)) (count : ℕ) (plans : S) (Sent : List ℕ → Type 0) (r : Result Status ToolFault) → ((b : List ℕ) → task ≡ Some b → EndsCounting (TaskOut (UnlayeredAnswer plain_refusal) b) Sent r)
       → OpensInTurn gives task count plans plans (judge_result r)
   in_turn_refused task count plans Sent (Ok status) ends = inr (λ b known. let (o, out, same, sent) = ends b known in not_refused plain_refusal b (Some o) out, refl)
-  in_turn_refused task count plans Sent (Err (tool_fault.Write written)) ends = inr (λ b known. let (number, counts, (o, out, less, sent)) = ends b known in not_refused plain_refusal b (Some o) out, refl)
-  in_turn_refused task count plans Sent (Err tool_fault.Memory) ends = (0, omega arith, refl)
-  in_turn_refused task count plans Sent (Err tool_fault.Read) ends = refl
-  in_turn_refused task count plans Sent (Err tool_fault.TooLong) ends = refl
+  in_turn_refused task count plans Sent (Err (faults.Write written)) ends = inr (λ b known. let (number, counts, (o, out, less, sent)) = ends b known in not_refused plain_refusal b (Some o) out, refl)
+  in_turn_refused task count plans Sent (Err faults.Memory) ends = (0, omega arith, refl)
+  in_turn_refused task count plans Sent (Err faults.Read) ends = refl
+  in_turn_refused task count plans Sent (Err faults.TooLong) ends = refl
 
 -- ---- the end of a call, as one of a run over many plans
 
 pub tool_same : (r : Result Status ToolFault) → tool_result (judge_result r) ≡ r
-tool_same (Ok status) = refl
-tool_same (Err why) = refl
+tool_same h1 = grind arith
 
-pub tool_unread : (r : Result Status ToolFault) → IfErr r IsWrite → IsErrOf (judge_result r) (Tool tool_fault.Read) → ⊥
-tool_unread (Ok status) write e = absurd cc
-tool_unread (Err why) write e = let same : why ≡ tool_fault.Read = cc in subst IsWrite same write
+pub tool_unread : (r : Result Status ToolFault) → IfErr r IsWrite → IsErrOf (judge_result r) (Tool faults.Read) → ⊥
+tool_unread h1 write e = grind arith
 
 pub tool_long : (known : ℕ → Option (List ℕ)) (r : Result Status ToolFault) → IfErr (judge_result r) (IsRightlyLong known)
-tool_long known (Ok status) = tt
-tool_long known (Err why) = tt
+tool_long known h1 = grind arith
+
+pub tool_failed : (P : ToolFault → Type 0) (r : Result Status ToolFault) → IfErr r P → IfErr (judge_result r) (λ e. P (tool_fault e))
+tool_failed h1 h2 h = grind arith
+
+pub tool_read : (Q : Type 0) (r : Result Status ToolFault) → IsErrOf r faults.Read ↔ Q → IsErrOf (judge_result r) (Tool faults.Read) ↔ Q
+tool_read h1 h2 h = grind arith
+
+pub tool_written : (Q : Type 0) (r : Result Status ToolFault) → IsErrAnd r IsWrite ↔ Q → IsErrAnd (judge_result r) (λ e. IsWrite (tool_fault e)) ↔ Q
+tool_written h1 h2 h = grind arith
+
+pub tool_stopped : (Q : Type 0) (r : Result Status ToolFault) → IfErr r IsWrite → IfErr (judge_result r) (λ e. IsWrite (tool_fault e) ⊎ Q)
+tool_stopped h1 h2 h = grind arith

@@ -1,5 +1,5 @@
 -- What the private steps of a run promise.
-use Rattle.std.specs.Prelude.{take, ℕ, Bool, List, codes, ⊤, Option, option_map, Result, Ok, Err}
+use Rattle.std.specs.Prelude.{take, ℕ, Bool, List, codes, Option, option_map, Result, ⊤}
 use Rattle.sas_core.specs.declared.parts.Parts.{Parts}
 use Rattle.sas_core.specs.PlanParts.{PlanParts}
 use Rattle.sas_meaning.specs.declared.layered.LayerFault.{LayerFault}
@@ -11,25 +11,25 @@ use Rattle.sas_plan_file.specs.declared.plan_refusal.PlanRefusal.{PlanRefusal}
 use Rattle.sas_plan_file.specs.PlanFormat.{plan_format}
 use Rattle.sas_task_file.specs.TaskFormat.{task_format}
 use Rattle.sas_task_reader.specs.declared.task_refusal.TaskRefusal.{TaskRefusal}
-use Rattle.sas_requests.specs.FileLine.{FileLine}
-use Rattle.sas_requests.specs.FileLines.{task_reasons, plan_reasons, file_text}
-use Rattle.sas_answers.specs.declared.ending.Status.{Status}
-use Rattle.sas_answers.specs.declared.ending.ToolFault.{ToolFault}
+use Rattle.sas_requests.specs.FileLine.{FileLine, file_text, plan_reasons, task_reasons}
 use Rattle.sas_answers.specs.Ending.{Output}
 use Rattle.sas_answers.specs.Answers.{CheckAnswer, MutexAnswer, VerdictAnswer}
 use Rattle.sas_task_reasons.specs.WhyLayers.{with_reasons, why_refusal, WhyCheckAnswer, WhyMutexAnswer}
 use Rattle.sas_plan_reasons.specs.Traced.{TraceVerdict}
 use Rattle.sas_plan_reasons.specs.Verdict.{WhyVerdict}
 use Rattle.sas_requests.specs.declared.Request.{Request}
+use Rattle.sas_requests.specs.declared.Request.TheVariants.{Plan}
 use Rattle.sas_requests.specs.Output.{FileOut, OutOf, UnlayeredAnswer, refusal, plain_refusal}
 use Rattle.sas_requests.specs.declared.question.Detail.{Detail}
-use Rattle.sas_requests.specs.declared.question.Detail.TheVariants.{Reasons}
+use Rattle.sas_requests.specs.declared.question.Detail.TheVariants.{Plain, Reasons}
 use Rattle.sas_requests.specs.declared.question.PlanDetail.{PlanDetail}
 use Rattle.sas_requests.specs.declared.question.PlanDetail.TheVariants as plan_detail
 use Rattle.sas_requests.specs.declared.question.Question.{Question}
+use Rattle.sas_requests.specs.declared.question.Question.TheVariants as question
 use Rattle.sas_requests.specs.declared.tasks.ReadTask.{ReadTask}
-use Rattle.sas_requests.specs.declared.tasks.ReadTask.TheVariants.{Layered, Refused}
-use Rattle.sas_requests.specs.Questions.{detail_of, plan_detail_of, request_of}
+use Rattle.sas_requests.specs.declared.tasks.ReadTask.TheVariants.{Layered, Ended}
+use Rattle.sas_answers.specs.declared.ending.Status.{Status}
+use Rattle.sas_answers.specs.declared.ending.ToolFault.{ToolFault}
 use Rattle.sas_requests.specs.FileReasons.{FileReasons, AreTaskReasons, ArePlanReasons, RefusalReasons}
 use Rattle.sas_requests.specs.Why.{WithReasons}
 
@@ -102,26 +102,41 @@ TaskBy = FileBy task_format AreTaskReasons (codes "task")
 abbrev pub PlanBy : Detail → (PlanParts → Output → Type 0) → List ℕ → Option Output → Type 0
 PlanBy = FileBy plan_format ArePlanReasons (codes "plan")
 
+-- how much is reported where no plan is judged: there is nothing to trace
+abbrev pub detail_of : PlanDetail → Detail
+detail_of plan_detail.Plain = Plain
+detail_of plan_detail.Reasons = Reasons
+detail_of plan_detail.Trace = Plain
+
 -- of a request
 abbrev pub OutBy : PlanDetail → Request → List ℕ → List ℕ → Option Output → Type 0
 OutBy detail request b c = let tasks = detail_of detail in ReasonedBy tasks
     (OutOf (CheckBy tasks) (MutexBy tasks) (VerdictBy detail) (layers_by tasks) request b c)
     (RefusalReasons request b c)
 
--- of a question
+-- ---- questions: their request, how much is reported, and their output
+
+abbrev pub request_of : Question → Request
+request_of (question.Answer request) = request
+request_of (question.Explanation request) = request
+request_of question.Trace = Plan
+
+abbrev pub plan_detail_of : Question → PlanDetail
+plan_detail_of (question.Answer request) = plan_detail.Plain
+plan_detail_of (question.Explanation request) = plan_detail.Reasons
+plan_detail_of question.Trace = plan_detail.Trace
+
 abbrev pub QuestionOut : Question → List ℕ → List ℕ → Option Output → Type 0
-QuestionOut question = OutBy (plan_detail_of question) (request_of question)
+QuestionOut asked = OutBy (plan_detail_of asked) (request_of asked)
 
 -- ---- tasks that are read
 
 -- what holds of the task if it is layered
-abbrev pub IfLayered : Result ReadTask ToolFault → (Parts → Type 0) → Type 0
-IfLayered (Ok (Layered p)) Holds = Holds p
-IfLayered (Ok (Refused status)) Holds = ⊤
-IfLayered (Err fault) Holds = ⊤
+abbrev pub IfLayered : ReadTask → (Parts → Type 0) → Type 0
+IfLayered (Layered p) Holds = Holds p
+IfLayered (Ended ended) Holds = ⊤
 
--- what holds of how the run ends if there is none
-abbrev pub IfRefused : Result ReadTask ToolFault → (Result Status ToolFault → Type 0) → Type 0
-IfRefused (Ok (Layered p)) Holds = ⊤
-IfRefused (Ok (Refused status)) Holds = Holds (Ok status)
-IfRefused (Err fault) Holds = Holds (Err fault)
+-- what holds of how the run has ended without one
+abbrev pub IfEnded : ReadTask → (Result Status ToolFault → Type 0) → Type 0
+IfEnded (Layered p) Holds = ⊤
+IfEnded (Ended ended) Holds = Holds ended

@@ -1,5 +1,8 @@
--- Lines of the reasons why a file is refused.
-use Rattle.std.specs.Prelude.{ℕ, Bool, true, false, List, [], ◌∷◌, ◌++◌, codes, decimal}
+-- The reasons why a file is refused, line by line.
+use Rattle.std.specs.Prelude.{ℕ, Bool, true, false, List, [], ◌∷◌, ◌++◌, map, codes, decimal, Option}
+use Rattle.std.specs.Option.{option_map_or}
+use Rattle.sas_lines.specs.Lines.{text}
+use Rattle.sas_reader.specs.declared.fault.Fault.{Fault}
 use Rattle.sas_reader.specs.declared.fault.Kind.{Kind}
 use Rattle.sas_reader.specs.declared.fault.Kind.TheVariants as kinds
 use Rattle.sas_answers.specs.Shown.{shown}
@@ -11,9 +14,10 @@ use Rattle.sas_task_file.specs.declared.marks.Due.{Due}
 use Rattle.sas_task_file.specs.declared.marks.Due.TheVariants as due
 use Rattle.sas_task_file.specs.declared.marks.Location.{Location}
 use Rattle.sas_task_file.specs.declared.marks.Location.TheVariants as at
+use Rattle.sas_task_file.specs.declared.marks.Mark.{Mark}
 use Rattle.sas_task_file.specs.declared.marks.WrongWord.{WrongWord}
 use Rattle.sas_requests.specs.declared.hint.Hint.{Hint}
-use Rattle.sas_requests.specs.Hint.{hint_words}
+use Rattle.sas_requests.specs.Hint.{hint_words, hint_for}
 
 -- a line as data
 pub data FileLine : Type 0 where
@@ -103,3 +107,28 @@ file_line_bytes (Hinted h) = line 2 (codes "hint" ∷ hint_words h ∷ [])
 -- the bytes of a line, with its end
 abbrev pub ended_line : FileLine → List ℕ
 ended_line l = file_line_bytes l ++ 10 ∷ []
+
+-- ---- the lines of a refusal
+
+-- a line for a value, if there is one
+abbrev pub line_if : {A : Type 0} → (A → FileLine) → Option A → List FileLine
+line_if line value = option_map_or (λ a. line a ∷ []) value []
+
+-- What was found at a fault, by its first bytes and whether more follow, and whether the file lacks
+-- only a line end.
+module _ (fault : Fault) (bytes : List ℕ) (more lacks : Bool) where
+  -- for a task: the location of the line, what is expected there, which number is wrong, the number
+  -- of items of its list, what was found, and a hint
+  abbrev pub task_reasons : Mark → Option WrongWord → Option ListCount → List FileLine
+  task_reasons mark word count =
+      At mark.at ∷ Expected mark.due ∷ (line_if NumberMustBe word ++ line_if Counted count
+      ++ Found fault.kind bytes more ∷ line_if Hinted (hint_for true fault lacks bytes))
+
+  -- for a plan: what is expected, what was found, and a hint
+  abbrev pub plan_reasons : List FileLine
+  plan_reasons = ExpectedInPlan fault.kind ∷ Found fault.kind bytes more
+      ∷ line_if Hinted (hint_for false fault lacks bytes)
+
+-- the text of some lines
+abbrev pub file_text : List FileLine → List ℕ
+file_text lines = text (map file_line_bytes lines)

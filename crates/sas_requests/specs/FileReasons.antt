@@ -12,8 +12,7 @@ use Rattle.sas_task_file.specs.declared.marks.WrongWord.{WrongWord}
 use Rattle.sas_task_file.specs.TaskFormat.{task_format}
 use Rattle.sas_task_file.specs.Counts.{IsCounted}
 use Rattle.sas_task_file.specs.TaskReasons.{IsTaskReason}
-use Rattle.sas_requests.specs.FileLine.{FileLine}
-use Rattle.sas_requests.specs.FileLines.{task_reasons, plan_reasons}
+use Rattle.sas_requests.specs.FileLine.{FileLine, plan_reasons, task_reasons}
 use Rattle.sas_requests.specs.declared.Request.{Request}
 use Rattle.sas_requests.specs.declared.Request.TheVariants.{Steps, Plan}
 use Rattle.sas_requests.specs.Output.{IsLayeredText}

@@ -29,18 +29,6 @@ is_compressed bytes =
     begins (31 ∷ 139 ∷ []) bytes || begins (codes "BZh") bytes
     || begins (253 ∷ codes "7zXZ" ++ 0 ∷ []) bytes || begins (40 ∷ 181 ∷ 47 ∷ 253 ∷ []) bytes
 
--- the bytes begin with a byte order mark
-abbrev pub has_mark : List ℕ → Bool
-has_mark bytes = begins (239 ∷ 187 ∷ 191 ∷ []) bytes
-
--- the line is the first of a task
-abbrev pub is_task_like : List ℕ → Bool
-is_task_like line = bytes_eq line (codes "begin_version")
-
--- the line begins like one of a plan, or of PDDL
-abbrev pub is_plan_like : List ℕ → Bool
-is_plan_like line = begins (codes "(") line || begins (codes ";") line
-
 -- kinds of fault
 abbrev pub is_keyword : Kind → Bool
 is_keyword kinds.Keyword = true
@@ -58,32 +46,26 @@ is_end _ = false
 abbrev pub first_hint : List (Hint × Bool) → Option Hint
 first_hint hints = option_map (λ h. h.0) (find (λ h. h.1) hints)
 
--- The hint for a fault, by what the text there begins with, and by whether the file lacks only a
--- line end.
-module _ (fault : Fault) (lacks : Bool) (found : List ℕ) where
-  abbrev pub first_line : Bool
-  first_line = fault.line == 1
-
-  abbrev pub nothing_found : Bool
-  nothing_found = length found == 0
-
-  abbrev pub task_hint : Option Hint
-  task_hint = first_hint (
-      (hint.Compressed, first_line && is_compressed found)
-      ∷ (hint.ByteOrderMark, first_line && has_mark found)
-      ∷ (hint.PlanForTask, is_keyword fault.kind && first_line && is_plan_like found)
-      ∷ (hint.OtherVersion, is_value fault.kind && (fault.line == 2))
-      ∷ (hint.NoLineEnd, is_end fault.kind && lacks)
-      ∷ (hint.CutOff, is_end fault.kind && not (first_line && nothing_found))
-      ∷ [])
-
-  abbrev pub plan_hint : Option Hint
-  plan_hint = first_hint (
-      (hint.Compressed, first_line && is_compressed found)
-      ∷ (hint.ByteOrderMark, first_line && has_mark found)
-      ∷ (hint.TaskForPlan, is_keyword fault.kind && first_line && is_task_like found)
-      ∷ (hint.Comment, is_keyword fault.kind && begins (codes ";") found)
-      ∷ (hint.NoLineEnd, is_end fault.kind && lacks)
-      ∷ (hint.NoCostLine, is_end fault.kind && not first_line && nothing_found)
-      ∷ (hint.CutOff, is_end fault.kind && not (first_line && nothing_found))
-      ∷ [])
+-- The hint for a fault of a task, or else of a plan, by what the text there begins with, and by
+-- whether the file lacks only a line end.
+abbrev pub hint_for : Bool → Fault → Bool → List ℕ → Option Hint
+hint_for in_task fault lacks found =
+    let first = fault.line == 1 in
+    let keyword = is_keyword fault.kind in
+    let end = is_end fault.kind in
+    let empty = length found == 0 in
+    first_hint (
+    (hint.Compressed, first && is_compressed found)
+    ∷ (hint.ByteOrderMark, first && begins (239 ∷ 187 ∷ 191 ∷ []) found)
+    ∷ (
+      hint.PlanForTask,
+      in_task && keyword && first
+          && (begins (codes "(") found || begins (codes ";") found),
+    )
+    ∷ (hint.TaskForPlan, not in_task && keyword && first && bytes_eq found (codes "begin_version"))
+    ∷ (hint.OtherVersion, in_task && is_value fault.kind && (fault.line == 2))
+    ∷ (hint.Comment, not in_task && keyword && begins (codes ";") found)
+    ∷ (hint.NoLineEnd, end && lacks)
+    ∷ (hint.NoCostLine, not in_task && end && not first && empty)
+    ∷ (hint.CutOff, end && not (first && empty))
+    ∷ [])

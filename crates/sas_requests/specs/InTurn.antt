@@ -9,10 +9,6 @@ use Rattle.sas_requests.specs.declared.inputs.InputFault.TheVariants.{NotOpened,
 use Rattle.sas_requests.specs.declared.inputs.JudgeFault.{JudgeFault}
 use Rattle.sas_requests.specs.declared.inputs.JudgeFault.TheVariants.{Tool, Plan}
 
--- where the bytes of the task are known, they aren't a text of a layered one
-abbrev pub IsUnlayered : Option (List ℕ) → Type 0
-IsUnlayered task = (b : List ℕ) → task ≡ Some b → IsLayeredText b → ⊥
-
 -- `gives before number given after`: a call of `open` with this number returned `given`, the input
 -- or none, and turned the plans `before` into `after`.
 module _ {S I : Type 0} (gives : S → ℕ → Option I → S → Type 0) where
@@ -38,9 +34,10 @@ module _ {S I : Type 0} (gives : S → ℕ → Option I → S → Type 0) where
       × OpensFirst count old before
       × IsOpened count before new
 
-  -- all of so many plans were opened, or none, where the task isn't layered
+  -- all of so many plans were opened, or none, where the task, if its bytes are known, isn't layered
   abbrev pub OpensAll : Option (List ℕ) → ℕ → S → S → Type 0
-  OpensAll task count old new = OpensFirst count old new ⊎ (IsUnlayered task × (new ≡ old))
+  OpensAll task count old new = OpensFirst count old new
+      ⊎ (((b : List ℕ) → task ≡ Some b → IsLayeredText b → ⊥) × (new ≡ old))
 
   -- which of so many plans a run has opened that ends with this result
   abbrev pub OpensInTurn : Option (List ℕ) → ℕ → S → S → Result Status JudgeFault → Type 0

@@ -1,19 +1,23 @@
 -- What `plans` prints: of each of many plans the line that `plan` prints of it, with a label in
 -- front, and how many of them are valid.
-use Rattle.std.specs.Prelude.{◌≡◌, ℕ, ◌<◌, ◌≤◌, Bool, is_some, if◌then◌else◌, List, [], ◌∷◌, ◌++◌, length}
-use Rattle.std.specs.Prelude.{All, slice_index_or, flat_map, count_by, zip, Contains, codes, decimal, Option, Some, None}
+use Rattle.std.specs.Prelude.{◌≡◌, ◌⊎◌, ℕ, ◌<◌, ◌≤◌, Bool, is_some, if◌then◌else◌, List, [], ◌∷◌, ◌++◌, length, All, slice_index_or, flat_map, count_by, zip, Contains, codes, decimal, Option, Some, None, ◌↔◌}
 use Rattle.std.specs.List.{AllZip, list_all}
 use Rattle.sas_core.specs.declared.parts.Parts.{Parts}
 use Rattle.sas_core.specs.PlanParts.{PlanParts}
+use Rattle.sas_reader.specs.Limit.{most_bytes}
 use Rattle.sas_reader.specs.Texts.{Reads}
 use Rattle.sas_plan_file.specs.PlanTexts.{plan_texts}
 use Rattle.sas_answers.specs.declared.ending.Status.{Status}
 use Rattle.sas_answers.specs.declared.ending.Status.TheVariants.{Yes, No}
 use Rattle.sas_answers.specs.Ending.{Output}
 use Rattle.sas_answers.specs.Answers.{VerdictAnswer}
+use Rattle.sas_requests.specs.declared.Request.TheVariants.{Plan}
 use Rattle.sas_requests.specs.declared.tally.BestPlan.{BestPlan}
 use Rattle.sas_requests.specs.declared.tally.Tally.{Tally}
-use Rattle.sas_requests.specs.Output.{LayeredOut, VerdictOut, plain_refusal}
+use Rattle.sas_requests.specs.Output.{Out, LayeredOut, VerdictOut, IsLayeredText, plain_refusal}
+use Rattle.sas_lines.specs.Lines.{lines}
+use Rattle.sas_answers.specs.ValidLine.{valid_line}
+use Rattle.sas_requests.specs.Headline.{Solves}
 
 -- what is said of a plan: the output of `plan`, and the plan's cost if it is valid
 pub record Judged : Type 0 where
@@ -82,8 +86,6 @@ plans_answer labels all tally = record {
   status = if list_all is_valid all then Yes else No;
 }
 
--- ---- the output
-
 -- the output about plans with these labels and the bytes cs for a layered task; there is none if a
 -- plan is too long
 abbrev pub PlansOut : Parts → List (List ℕ) → List (List ℕ) → Option Output → Type 0
@@ -96,3 +98,37 @@ PlansOut p labels cs None = (c : List ℕ) × Contains cs c × VerdictOut Verdic
 -- and for the bytes b of the task; only the plans of a layered task are judged
 abbrev pub JudgeOut : List (List ℕ) → List ℕ → List (List ℕ) → Option Output → Type 0
 JudgeOut labels b cs = LayeredOut plain_refusal (λ p. PlansOut p labels cs) b
+
+-- ---- laws
+
+-- of a layered task, what is printed of each plan is its label and the output of `plan` for it
+abbrev pub EachIsThatOfPlan : Type 0
+EachIsThatOfPlan = (labels : List (List ℕ)) (b : List ℕ) (cs : List (List ℕ)) (o : Output)
+    → IsLayeredText b → JudgeOut labels b cs (Some o)
+    → (plains : List Output) × AllZip (λ c plain. Out Plan b c (Some plain)) cs plains
+    × (summary : List ℕ)
+    × (o.text ≡ flat_map (λ (label, plain). label ++ codes ": " ++ plain.text) (zip labels plains)
+    ++ summary)
+
+-- a task that isn't layered, or no task, is refused as by `plan`, whatever the plan
+abbrev pub RefusesAsPlan : Type 0
+RefusesAsPlan = (labels : List (List ℕ)) (b : List ℕ) (cs : List (List ℕ)) (o : Output)
+    → (IsLayeredText b → ⊥) → JudgeOut labels b cs (Some o) → (c : List ℕ) → Out Plan b c (Some o)
+
+-- the task exceeds the limit, or a plan of a layered task does
+abbrev pub IsOneLong : List ℕ → List (List ℕ) → Type 0
+IsOneLong b cs = (most_bytes < length b)
+    ⊎ (IsLayeredText b × ((c : List ℕ) × Contains cs c × (most_bytes < length c)))
+
+-- What a run prints that judged the bytes cs, with these labels, as plans for the task b, and ended
+-- with this status. `Sent` holds of the written bytes.
+pub record PlansHeadline (labels : List (List ℕ)) (b : List ℕ) (cs : List (List ℕ))
+    (Sent : List ℕ → Type 0) (status : Status) : Type 0 where
+  -- line K, from 0, is `LABEL: plan valid: S steps, cost C` exactly if plan K solves it with S and C
+  pub line : (number steps cost : ℕ) (out : List ℕ) → number < length labels → Sent out
+      → (slice_index_or (lines out) number [] ++ codes "\n"
+      ≡ slice_index_or labels number [] ++ codes ": " ++ valid_line steps cost)
+      ↔ Solves b (slice_index_or cs number []) (valid_line steps cost)
+  -- and the answer is yes exactly if the task is layered and each of the plans solves it
+  pub yes : (status ≡ Yes) ↔ (IsLayeredText b × ((number : ℕ) → number < length labels
+      → (steps cost : ℕ) × Solves b (slice_index_or cs number []) (valid_line steps cost)))

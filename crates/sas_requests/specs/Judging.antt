@@ -89,11 +89,6 @@ pub record AreReported (p : Parts) (known : ℕ → Option (List ℕ)) (labels :
   pub whole : text ≡ flat_map labelled (zip labels all)
   pub counts : Tallies all tally
 
--- the place of the best is that of a plan
-abbrev pub IsPlace : List (List ℕ) → Option BestPlan → Type 0
-IsPlace labels None = Unit {0}
-IsPlace labels (Some best) = best.number < length labels
-
 -- ---- all plans
 
 -- What the judging of the plans of a layered task promises. `known` maps a plan's number to its

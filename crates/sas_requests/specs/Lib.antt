@@ -2,9 +2,7 @@
 pub mod Summary
 pub mod Hint
 pub mod FileLine
-pub mod FileLines
 pub mod Output
-pub mod EndsFile
 pub mod Headline
 pub mod Invariants
 pub use Rattle.sas_answers.specs.LayerWords
@@ -16,7 +14,6 @@ pub use Rattle.sas_answers.specs.Ending
 pub use Rattle.sas_plan_reasons.specs.Trace
 pub use Rattle.sas_plan_reasons.specs.Traced
 pub mod FileReasons
-pub mod Questions
 pub mod Why
 pub mod TraceOut
 pub mod EndsRequest
@@ -25,6 +22,4 @@ pub mod Judged
 pub mod Inputs
 pub mod InTurn
 pub mod Slices
-pub mod PlansHeadline
-pub mod PlansLaws
 pub mod Judging

@@ -72,22 +72,6 @@ module _ {V I S : Type 0} (F : Format V I S) where
 abbrev pub TaskOut : (Parts → Output → Type 0) → List ℕ → Option Output → Type 0
 TaskOut = FileOut task_format (codes "task")
 
--- the outputs of `show`, `print`, `steps`, `check` and `mutex` for the bytes of their file
-abbrev pub ShowOut : List ℕ → Option Output → Type 0
-ShowOut = TaskOut ShowAnswer
-
-abbrev pub PrintOut : List ℕ → Option Output → Type 0
-PrintOut = TaskOut (PrintAnswer task_format)
-
-abbrev pub StepsOut : List ℕ → Option Output → Type 0
-StepsOut = FileOut plan_format (codes "plan") (PrintAnswer plan_format)
-
-abbrev pub CheckOut : List ℕ → Option Output → Type 0
-CheckOut = TaskOut CheckAnswer
-
-abbrev pub MutexOut : List ℕ → Option Output → Type 0
-MutexOut = TaskOut MutexAnswer
-
 -- `refused` is the refusal of a task for a fault of its layers.
 module _ (refused : Parts → LayerFault → Option Output) where
   -- the answer about a task that isn't layered: its refusal for the first fault
@@ -119,10 +103,6 @@ module _ (Verdict : Parts → PlanParts → Output → Type 0) where
       → Type 0
   PlanOutBy refused b c = LayeredOut refused (λ p. VerdictOut p c) b
 
--- the output of `plan`
-abbrev pub PlanOut : List ℕ → List ℕ → Option Output → Type 0
-PlanOut = PlanOutBy VerdictAnswer plain_refusal
-
 -- The output of a request for the bytes b of the task and c of the plan, or none if the file that
 -- decides it is too long. It is made of the answers about a task's layers, about its groups and
 -- about a plan, and of the refusal of a task that isn't layered.
@@ -130,9 +110,9 @@ module _ (OfLayers OfGroups : Parts → Output → Type 0)
     (OfPlan : Parts → PlanParts → Output → Type 0)
     (refused : Parts → LayerFault → Option Output) where
   abbrev pub OutOf : Request → List ℕ → List ℕ → Option Output → Type 0
-  OutOf Show b c output = ShowOut b output
-  OutOf Print b c output = PrintOut b output
-  OutOf Steps b c output = StepsOut c output
+  OutOf Show b c output = TaskOut ShowAnswer b output
+  OutOf Print b c output = TaskOut (PrintAnswer task_format) b output
+  OutOf Steps b c output = FileOut plan_format (codes "plan") (PrintAnswer plan_format) c output
   OutOf Check b c output = TaskOut OfLayers b output
   OutOf Plan b c output = PlanOutBy OfPlan refused b c output
   OutOf Mutex b c output = TaskOut OfGroups b output

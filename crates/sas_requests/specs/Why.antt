@@ -3,8 +3,7 @@ use Rattle.std.specs.Prelude.{◌≡◌, ℕ, Bool, not, List, take, filter, byt
 use Rattle.sas_lines.specs.Lines.{text, lines}
 use Rattle.sas_answers.specs.declared.ending.Status.TheVariants.{Yes, No}
 use Rattle.sas_answers.specs.Ending.{Output}
-use Rattle.sas_requests.specs.FileLine.{FileLine}
-use Rattle.sas_requests.specs.FileLines.{file_text}
+use Rattle.sas_requests.specs.FileLine.{FileLine, file_text}
 use Rattle.sas_task_reasons.specs.WhyLayers.{with_reasons, why_refusal, WhyCheckAnswer, WhyMutexAnswer}
 use Rattle.sas_plan_reasons.specs.Verdict.{WhyVerdict}
 use Rattle.sas_requests.specs.declared.Request.{Request}

@@ -5,10 +5,8 @@ ghost use Rattle.sas_answers.specs.Ending.{Answers, EndsCounting, Writes};
 ghost use Rattle.sas_requests.specs.Output.{PrintAnswer, ShowAnswer};
 ghost use Rattle.sas_plan_file.specs.PlanFormat.{plan_format};
 ghost use Rattle.sas_task_file.specs.TaskFormat.{task_format};
-ghost use Rattle.sas_requests.specs.EndsFile.{EndsFile};
-ghost use Rattle.sas_requests.specs.Answering.{CheckBy, MutexBy, PlanBy, QuestionOut, TaskBy};
-ghost use Rattle.sas_requests.specs.EndsRequest.{EndsRequest};
-ghost use Rattle.sas_requests.specs.Questions.{request_of};
+ghost use Rattle.sas_requests.specs.EndsRequest.{EndsFile, EndsRequest};
+ghost use Rattle.sas_requests.specs.Answering.{CheckBy, MutexBy, PlanBy, QuestionOut, TaskBy, request_of};
 
 use crate::plans::judge_files;
 use crate::question::{Detail, Question};
@@ -134,12 +132,12 @@ fn answer_check<R: Read, W: Write>(
         (EndsFile R.remaining (TaskBy detail (CheckBy detail)) task.old task.new)
         out.old out.new result }
 {
-    match read_layered(alloc, detail, task, out)? {
+    match read_layered(alloc, detail, task, out) {
         ReadTask::Layered(layered) => {
             drop(layered);
             accept_layers(alloc)?.write(out)
         }
-        ReadTask::Refused(status) => Ok(status),
+        ReadTask::Ended(ended) => ended,
     }
 }
 
@@ -156,13 +154,13 @@ fn answer_mutex<R: Read, W: Write>(
         (EndsFile R.remaining (TaskBy detail (MutexBy detail)) task.old task.new)
         out.old out.new result }
 {
-    match read_layered(alloc, detail, task, out)? {
+    match read_layered(alloc, detail, task, out) {
         ReadTask::Layered(layered) => {
             let ended = answer_groups(alloc, detail, &layered, out);
             drop(layered);
             ended
         }
-        ReadTask::Refused(status) => Ok(status),
+        ReadTask::Ended(ended) => ended,
     }
 }
 

@@ -1,8 +1,7 @@
 // Lines with the location of a line, and with what is expected there.
 ghost use Rattle.std.specs.Prelude.{◌≡◌, ◌++◌, decimal, codes, OnOk};
 ghost use Rattle.sas_requests.specs.FileLine as line;
-ghost use Rattle.sas_requests.specs.FileLine.{due_words, ended_line, location_words, plan_due_words};
-ghost use Rattle.sas_requests.specs.FileLines.{file_text, line_if};
+ghost use Rattle.sas_requests.specs.FileLine.{due_words, ended_line, file_text, line_if, location_words, plan_due_words};
 
 use sas_lines::{push_line, push_number};
 use sas_reader::Kind;

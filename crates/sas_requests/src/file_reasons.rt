@@ -1,12 +1,11 @@
 // The reasons why a file is refused.
 ghost use Rattle.std.specs.Prelude.{◌≡◌, ◌++◌, OnOk};
 ghost use Rattle.sas_requests.specs.Answering.{plan_refusal_lines, task_refusal_lines};
-ghost use Rattle.sas_requests.specs.FileLine.{Hinted};
-ghost use Rattle.sas_requests.specs.FileLines.{file_text, line_if};
+ghost use Rattle.sas_requests.specs.FileLine.{Hinted, file_text, line_if};
 
 use crate::dues::{push_count, push_due, push_location, push_plan_due, push_wrong_word};
 use crate::found::{first_bytes, push_found};
-use crate::hint::{Hint, plan_hint, task_hint};
+use crate::hint::{Hint, hint_for};
 use sas_lines::push_line;
 use sas_plan_file::PlanRefusal;
 use sas_task_reader::TaskRefusal;
@@ -23,11 +22,8 @@ pub fn push_task_reasons(out: &mut Vec<u8>, refused: &TaskRefusal) -> Result<(),
     push_wrong_word(out, refused.word)?;
     push_count(out, refused.count)?;
     push_found(out, refused.fault.kind, &refused.found)?;
-    let hint = task_hint(
-        refused.fault,
-        refused.lacks_line_end,
-        first_bytes(&refused.found),
-    );
+    let found = first_bytes(&refused.found);
+    let hint = hint_for(true, refused.fault, refused.lacks_line_end, found);
     push_hint(out, hint)
 }
 
@@ -38,11 +34,8 @@ pub fn push_plan_reasons(out: &mut Vec<u8>, refused: &PlanRefusal) -> Result<(),
 {
     push_plan_due(out, refused.fault.kind)?;
     push_found(out, refused.fault.kind, &refused.found)?;
-    let hint = plan_hint(
-        refused.fault,
-        refused.lacks_line_end,
-        first_bytes(&refused.found),
-    );
+    let found = first_bytes(&refused.found);
+    let hint = hint_for(false, refused.fault, refused.lacks_line_end, found);
     push_hint(out, hint)
 }
 

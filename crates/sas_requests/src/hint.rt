@@ -1,7 +1,6 @@
 // Hints: what may have gone wrong with a file that is refused.
 ghost use Rattle.std.specs.Prelude.{◌≡◌};
-ghost use Rattle.sas_requests.specs.Hint as hints;
-ghost use Rattle.sas_requests.specs.Hint.{first_hint, hint_words, is_compressed};
+ghost use Rattle.sas_requests.specs.Hint.{first_hint, hint_for, hint_words, is_compressed};
 
 use sas_reader::{Fault, Kind};
 
@@ -57,46 +56,35 @@ fn first_hint(hints: &[(Hint, bool)]) -> Option<Hint>
     hints.iter().find(|row| row.1).map(|row| row.0)
 }
 
-/// Returns the hint for the fault of a task, if there is one.
-pub(crate) fn task_hint(fault: Fault, lacks_line_end: bool, found: &[u8]) -> Option<Hint>
-    ensures { result ≡ hints.task_hint fault lacks_line_end found.now }
+/// Returns the hint for the fault of a task, or else of a plan, if there is one.
+pub(crate) fn hint_for(
+    in_task: bool,
+    fault: Fault,
+    lacks_line_end: bool,
+    found: &[u8],
+) -> Option<Hint>
+    ensures { result ≡ hint_for in_task fault lacks_line_end found.now }
 {
     let first = fault.line == 1;
     let is_keyword = matches!(fault.kind, Kind::Keyword);
     let is_value = matches!(fault.kind, Kind::Value);
-    let is_plan = found.starts_with(b"(") | found.starts_with(b";");
     let is_end = matches!(fault.kind, Kind::End);
-    first_hint(&[
-        (Hint::Compressed, first & is_compressed(found)),
-        (
-            Hint::ByteOrderMark,
-            first & found.starts_with(b"\xef\xbb\xbf"),
-        ),
-        (Hint::PlanForTask, is_keyword & first & is_plan),
-        (Hint::OtherVersion, is_value & (fault.line == 2)),
-        (Hint::NoLineEnd, is_end & lacks_line_end),
-        (Hint::CutOff, is_end & !(first & found.is_empty())),
-    ])
-}
-
-/// Returns the hint for the fault of a plan, if there is one.
-pub(crate) fn plan_hint(fault: Fault, lacks_line_end: bool, found: &[u8]) -> Option<Hint>
-    ensures { result ≡ hints.plan_hint fault lacks_line_end found.now }
-{
-    let first = fault.line == 1;
-    let is_keyword = matches!(fault.kind, Kind::Keyword);
-    let is_end = matches!(fault.kind, Kind::End);
+    let has_mark = found.starts_with(b"\xef\xbb\xbf");
     let is_task = found == b"begin_version".as_slice();
+    let is_comment = found.starts_with(b";");
+    let is_plan = found.starts_with(b"(") | is_comment;
     first_hint(&[
         (Hint::Compressed, first & is_compressed(found)),
-        (
-            Hint::ByteOrderMark,
-            first & found.starts_with(b"\xef\xbb\xbf"),
-        ),
-        (Hint::TaskForPlan, is_keyword & first & is_task),
-        (Hint::Comment, is_keyword & found.starts_with(b";")),
+        (Hint::ByteOrderMark, first & has_mark),
+        (Hint::PlanForTask, in_task & is_keyword & first & is_plan),
+        (Hint::TaskForPlan, !in_task & is_keyword & first & is_task),
+        (Hint::OtherVersion, in_task & is_value & (fault.line == 2)),
+        (Hint::Comment, !in_task & is_keyword & is_comment),
         (Hint::NoLineEnd, is_end & lacks_line_end),
-        (Hint::NoCostLine, is_end & !first & found.is_empty()),
+        (
+            Hint::NoCostLine,
+            !in_task & is_end & !first & found.is_empty(),
+        ),
         (Hint::CutOff, is_end & !(first & found.is_empty())),
     ])
 }

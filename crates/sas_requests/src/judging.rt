@@ -5,10 +5,9 @@ ghost use Rattle.sas_answers.specs.Ending.{Ends, IsDecided, IsWrite};
 ghost use Rattle.sas_requests.specs.Output.{IsLayeredText};
 ghost use Rattle.sas_requests.specs.Inputs.{HaveBytes, IsLabel, WereRead, tool_fault, tool_result};
 ghost use Rattle.sas_requests.specs.InTurn.{IsRightlyLong, OpensInTurn};
-ghost use Rattle.sas_requests.specs.Judged.{JudgeOut};
-ghost use Rattle.sas_requests.specs.PlansHeadline.{PlansHeadline};
+ghost use Rattle.sas_requests.specs.Judged.{JudgeOut, PlansHeadline};
 
-use crate::inputs::{JudgeFault, PlanInputs};
+use crate::inputs::{JudgeFault, PlanInputs, judge_ended};
 use crate::reporting::report_plans;
 use crate::{Detail, ReadTask, read_layered};
 use sas_answers::{Status, ToolFault};
@@ -67,12 +66,8 @@ pub fn judge<T: Read, S: PlanInputs, W: Write>(
     ensures reads { IsErrOf result (JudgeFault.Tool ToolFault.Read) ↔ IsTrue task.new.failed }
     ensures writes { IsErrAnd result (λ e. IsWrite (tool_fault e)) ↔ IsTrue out.new.failed }
 {
-    let read = match read_layered(alloc, Detail::Plain, task, out) {
-        Ok(read) => read,
-        Err(fault) => return Err(JudgeFault::Tool(fault)),
-    };
-    match read {
+    match read_layered(alloc, Detail::Plain, task, out) {
         ReadTask::Layered(layered) => report_plans(alloc, layered, plans, out),
-        ReadTask::Refused(status) => Ok(status),
+        ReadTask::Ended(ended) => judge_ended(ended),
     }
 }

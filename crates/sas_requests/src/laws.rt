@@ -7,8 +7,7 @@ ghost use Rattle.sas_requests.specs.declared.Request.TheVariants.{Plan};
 ghost use Rattle.sas_requests.specs.Output.{HasOneOutput, IsLong, Out, ShortOutput};
 ghost use Rattle.sas_requests.specs.Why.{OutWhy, SameAnswer};
 ghost use Rattle.sas_requests.specs.TraceOut.{EndsAsPlan, TraceOut};
-ghost use Rattle.sas_requests.specs.Judged.{JudgeOut};
-ghost use Rattle.sas_requests.specs.PlansLaws.{EachIsThatOfPlan, IsOneLong, RefusesAsPlan};
+ghost use Rattle.sas_requests.specs.Judged.{EachIsThatOfPlan, IsOneLong, JudgeOut, RefusesAsPlan};
 
 /// Ensures that each line of reasons begins with two spaces and contains neither LF nor CR.
 pub fn file_reason_laws()

@@ -1,10 +1,8 @@
 // Whether a plan solves a task. Both are read, the plan only if it is needed.
 ghost use Rattle.std.specs.Prelude.{◌≡◌, false, IsSomeAnd};
 ghost use Rattle.sas_answers.specs.Ending.{Answers, EndsCounting, Writes};
-ghost use Rattle.sas_requests.specs.EndsFile.{EndsFile};
-ghost use Rattle.sas_requests.specs.Answering.{OutBy, PlanBy, VerdictBy};
-ghost use Rattle.sas_requests.specs.EndsRequest.{EndsRequest};
-ghost use Rattle.sas_requests.specs.Questions.{detail_of};
+ghost use Rattle.sas_requests.specs.EndsRequest.{EndsFile, EndsRequest};
+ghost use Rattle.sas_requests.specs.Answering.{OutBy, PlanBy, VerdictBy, detail_of};
 
 use crate::question::PlanDetail;
 use crate::refusals::write_plan_refusal;
@@ -35,13 +33,13 @@ pub fn judge_files<T: Read, P: Read, W: Write>(
         Request.Plan task.old task.new plan.old plan.new)
         out.old out.new result }
 {
-    match read_layered(alloc, detail.detail(), task, out)? {
+    match read_layered(alloc, detail.detail(), task, out) {
         ReadTask::Layered(layered) => {
             let ended = judge_plan_file(alloc, detail, &layered, plan, out);
             drop(layered);
             ended
         }
-        ReadTask::Refused(status) => Ok(status),
+        ReadTask::Ended(ended) => ended,
     }
 }
 

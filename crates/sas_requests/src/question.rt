@@ -1,6 +1,6 @@
 // What is asked, and how much is reported.
 ghost use Rattle.std.specs.Prelude.{◌≡◌};
-ghost use Rattle.sas_requests.specs.Questions.{detail_of, plan_detail_of, request_of};
+ghost use Rattle.sas_requests.specs.Answering.{detail_of, plan_detail_of, request_of};
 
 use crate::Request;
 
@@ -16,7 +16,7 @@ pub enum Question {
 }
 
 /// How much is reported.
-#[derive(Clone, Copy)]
+#[derive(Clone, Copy, Debug, PartialEq, Eq)]
 pub enum Detail {
     /// The answer alone.
     Plain,
@@ -25,7 +25,7 @@ pub enum Detail {
 }
 
 /// How much is reported where a plan is judged.
-#[derive(Clone, Copy)]
+#[derive(Clone, Copy, Debug, PartialEq, Eq)]
 pub enum PlanDetail {
     /// The answer alone.
     Plain,

@@ -1,11 +1,11 @@
 // The reports on plans, one after another, and on all of them.
-ghost use Rattle.std.specs.Prelude.{◌≡◌, ◌↔◌, ◌⊎◌, ◌<◌, ◌++◌, ℕ, List, [], length, codes, decimal, false, Option, IfOk, IfErr, IsErrAnd, IsTrue, OnOk, Err, slice_index_or};
+ghost use Rattle.std.specs.Prelude.{◌≡◌, ◌↔◌, ◌⊎◌, ◌<◌, ◌++◌, ℕ, List, [], length, codes, decimal, false, Option, IfOk, IfErr, IsErrAnd, IsTrue, OnOk, Err, IfSome, slice_index_or};
 ghost use Rattle.std.specs.Io.KnownBytes.{Appends};
 ghost use Rattle.sas_answers.specs.Ending.{IsWrite};
 ghost use Rattle.sas_requests.specs.Inputs.{tool_fault};
 ghost use Rattle.sas_requests.specs.Judged.{IsJudged, Judged, labelled, summary_of};
 ghost use Rattle.sas_requests.specs.InTurn.{EndsAt, IsOpened, OpensFirst, OpensInTurn};
-ghost use Rattle.sas_requests.specs.Judging.{AreReported, HoldsOf, IsPlace, IsUnsaid, Judges, JudgesPlans};
+ghost use Rattle.sas_requests.specs.Judging.{AreReported, HoldsOf, IsUnsaid, Judges, JudgesPlans};
 
 use crate::inputs::{JudgeFault, PlanInputs, judge_ended};
 use crate::loaded::load;
@@ -40,10 +40,7 @@ pub fn report_plans<S: PlanInputs, W: Write>(
     let mut text = Vec::new(alloc);
     let reported = report_each(alloc, &mut loaded, plans, &mut text);
     drop(loaded);
-    let tally = match reported {
-        Ok(tally) => tally,
-        Err(fault) => return Err(fault),
-    };
+    let tally = reported?;
     push_summary(&mut text, tally, plans)?;
     let status = if tally.valid == plans.count() {
         Status::Yes
@@ -72,10 +69,8 @@ fn report_each<S: PlanInputs>(
 {
     let mut tally = Tally::new();
     for number in 0..plans.count() {
-        match report_plan(alloc, loaded, plans, number, text) {
-            Ok(cost) => tally.add(number, cost),
-            Err(fault) => return Err(fault),
-        }
+        let cost = report_plan(alloc, loaded, plans, number, text)?;
+        tally.add(number, cost);
     }
     Ok(tally)
 }
@@ -102,10 +97,7 @@ fn report_plan<S: PlanInputs>(
     ensures labels { S.labels plans.new ≡ S.labels plans.old }
     ensures later { (k : ℕ) → number < k → S.bytes plans.new k ≡ S.bytes plans.old k }
 {
-    let verdict = match judge_plan(alloc, loaded, plans, number) {
-        Ok(verdict) => verdict,
-        Err(fault) => return Err(fault),
-    };
+    let verdict = judge_plan(alloc, loaded, plans, number)?;
     let cost = verdict.cost;
     let pushed = push_labelled(text, plans.label(number), verdict.answer.text.as_slice());
     drop(verdict);
@@ -120,8 +112,7 @@ fn push_labelled(text: &mut Vec<u8>, label: &[u8], line: &[u8]) -> Result<(), Al
 {
     text.extend_from_slice(label)?;
     text.extend_from_slice(b": ")?;
-    text.extend_from_slice(line)?;
-    Ok(())
+    text.extend_from_slice(line)
 }
 
 /// Adds the last line: how many plans there are, how many of them are valid, and the best of these.
@@ -130,7 +121,7 @@ fn push_summary<S: PlanInputs>(
     tally: Tally,
     plans: &S,
 ) -> Result<(), AllocError>
-    requires { IsPlace (S.labels plans.now) tally.best }
+    requires { IfSome tally.best (λ best. best.number < length (S.labels plans.now)) }
     ensures { OnOk result (text.new.items
         ≡ text.old.items ++ summary_of (S.labels plans.now) tally) }
 {
@@ -153,6 +144,5 @@ fn push_best(text: &mut Vec<u8>, cost: u64, label: &[u8]) -> Result<(), AllocErr
     text.extend_from_slice(b", best cost ")?;
     push_number(text, u128::from(cost))?;
     text.extend_from_slice(b": ")?;
-    text.extend_from_slice(label)?;
-    Ok(())
+    text.extend_from_slice(label)
 }

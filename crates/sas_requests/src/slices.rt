@@ -3,8 +3,7 @@ ghost use Rattle.std.specs.Prelude.{◌≡◌, ◌↔◌, All, Some, None, IfOk,
 ghost use Rattle.sas_answers.specs.Ending.{output_of};
 ghost use Rattle.sas_requests.specs.Inputs.{IsLabel, tool_fault};
 ghost use Rattle.sas_requests.specs.InTurn.{IsRightlyLong};
-ghost use Rattle.sas_requests.specs.Judged.{JudgeOut};
-ghost use Rattle.sas_requests.specs.PlansHeadline.{PlansHeadline};
+ghost use Rattle.sas_requests.specs.Judged.{JudgeOut, PlansHeadline};
 ghost use Rattle.sas_requests.specs.Slices.{IsOfOpened, bytes_of, known_bytes, labels_of};
 
 use crate::inputs::{JudgeFault, PlanInputs, is_label};

@@ -9,7 +9,7 @@ ghost use Rattle.sas_answers.specs.Sink.{Pushes};
 ghost use Rattle.sas_requests.specs.Summary as spec;
 ghost use Rattle.sas_requests.specs.Summary.{summary_lines};
 
-use sas_answers::{Indent, Pieces, Sink, Status, ToolFault, Word, Words};
+use sas_answers::{Pieces, Sink, Status, ToolFault, Word, Words};
 use sas_flat::{Outline, Variables};
 use sas_lines::{Watched, push_number};
 use std::alloc::{AllocError, Global};
@@ -80,21 +80,13 @@ fn derived_count(variables: &Variables) -> usize
     count
 }
 
-/// The number of a variable, and one of its values.
-#[derive(Clone, Copy)]
-struct VariableValue {
-    var: usize,
-    value: u32,
-}
-
 /// Adds a line for each variable: its value in the state section.
 fn push_state<W: Write>(sink: &mut Sink<'_, W>, outline: &Outline)
     ensures { Pushes W.contents sink.old sink.new
         (text (initial_lines outline.now.variables outline.now.init)) }
 {
     for (var, value) in outline.init.as_slice().iter().enumerate() {
-        let valued = VariableValue { var, value: *value };
-        push_summary_fact(sink, b"initial", outline, valued);
+        push_summary_fact(sink, b"initial", outline, var, *value);
     }
 }
 
@@ -104,11 +96,7 @@ fn push_goal<W: Write>(sink: &mut Sink<'_, W>, outline: &Outline)
         (text (spec.goal_fact_lines outline.now.variables outline.now.goal)) }
 {
     for fact in outline.goal.as_slice() {
-        let valued = VariableValue {
-            var: fact.var as usize,
-            value: fact.value,
-        };
-        push_summary_fact(sink, b"goal", outline, valued);
+        push_summary_fact(sink, b"goal", outline, fact.var as usize, fact.value);
     }
 }
 
@@ -117,29 +105,28 @@ fn push_summary_fact<W: Write>(
     sink: &mut Sink<'_, W>,
     word: &[u8],
     outline: &Outline,
-    valued: VariableValue,
+    var: usize,
+    value: u32,
 )
     ensures { Pushes W.contents sink.old sink.new
-        (fact_line word.now outline.now.variables valued.var valued.value ++ 10 ∷ []) }
+        (fact_line word.now outline.now.variables var value ++ 10 ∷ []) }
 {
     let rest = [
-        Word::Number(valued.var as u64),
-        Word::Number(u64::from(valued.value)),
-        Word::Text(shown_value_name(&outline.variables, valued)),
+        Word::Number(var as u64),
+        Word::Number(u64::from(value)),
+        Word::Text(shown_value_name(&outline.variables, var, value)),
     ];
     sink.push_line(Words {
-        indent: Indent::None,
         first: word,
         rest: &rest,
     });
 }
 
 /// Returns the name of a variable's value; if there is no such value, no bytes.
-fn shown_value_name(variables: &Variables, valued: VariableValue) -> &[u8]
-    ensures { result.now
-        ≡ unwrap_or (value_name variables.now valued.var valued.value) [] }
+fn shown_value_name(variables: &Variables, var: usize, value: u32) -> &[u8]
+    ensures { result.now ≡ unwrap_or (value_name variables.now var value) [] }
 {
-    match variables.value_name(valued.var, valued.value as usize) {
+    match variables.value_name(var, value as usize) {
         Some(name) => name,
         None => b"",
     }

@@ -4,8 +4,8 @@ ghost use Rattle.sas_meaning.specs.Layers.{IsLayered};
 ghost use Rattle.sas_answers.specs.Ending.{Answers, EndsCounting, Writes};
 ghost use Rattle.sas_reader.specs.Devices.{ReadsAll, ValueOf};
 ghost use Rattle.sas_task_file.specs.TaskFormat.{task_format};
-ghost use Rattle.sas_requests.specs.EndsFile.{EndsFile};
-ghost use Rattle.sas_requests.specs.Answering.{IfLayered, IfRefused, TaskBy, UnlayeredBy, layers_by};
+ghost use Rattle.sas_requests.specs.EndsRequest.{EndsFile};
+ghost use Rattle.sas_requests.specs.Answering.{IfEnded, IfLayered, TaskBy, UnlayeredBy, layers_by};
 
 use crate::question::Detail;
 use crate::refusals::write_task_refusal;
@@ -24,41 +24,40 @@ use std::io::{Read, Write};
 pub enum ReadTask {
     /// The task, which is layered.
     Layered(Layered<FlatTask>),
-    /// It is refused. The refusal was written, with this status.
-    Refused(Status),
+    /// How the run has ended without one.
+    Ended(Result<Status, ToolFault>),
 }
 
-/// Reads a layered task. Where the file is no task, or the task isn't layered, writes the refusal instead. At `Write` the first bytes of
-/// the refusal were written; at any other fault nothing was. Not to be called with a device that has failed.
+/// Reads a layered task. Where the file is no task, or the task isn't layered, the run ends with the refusal, which is written. At
+/// `Write` the first bytes of the refusal were written; at any other fault nothing was. Not to be called with a device that has failed.
 pub fn read_layered<R: Read, W: Write>(
     alloc: Global,
     detail: Detail,
     task: &mut Watched<R>,
     out: &mut Watched<W>,
-) -> Result<ReadTask, ToolFault>
+) -> ReadTask
     requires task { task.old.failed ≡ false }
     requires out { out.old.failed ≡ false }
     ensures read { IfLayered result (λ p.
         ReadsAll R.remaining task_format (ValueOf task_format) task.old task.new (Ok p)) }
     ensures layered { IfLayered result IsLayered }
     ensures silent { IfLayered result (λ p. out.new ≡ out.old) }
-    ensures refused { IfRefused result (Answers W.contents
+    ensures refused { IfEnded result (Answers W.contents
         (EndsFile R.remaining (TaskBy detail (UnlayeredBy detail)) task.old task.new)
         out.old out.new) }
 {
     let read = match read_flat_task(alloc, task) {
         Ok(read) => read,
         Err(refusal) => {
-            let status = write_task_refusal(alloc, detail, refusal, out)?;
-            return Ok(ReadTask::Refused(status));
+            return ReadTask::Ended(write_task_refusal(alloc, detail, refusal, out));
         }
     };
     match Layered::new(alloc, read) {
-        Ok(layered) => Ok(ReadTask::Layered(layered)),
+        Ok(layered) => ReadTask::Layered(layered),
         Err((read, fault)) => {
             let ended = refuse_unlayered(alloc, detail, &read, fault, out);
             drop(read);
-            Ok(ReadTask::Refused(ended?))
+            ReadTask::Ended(ended)
         }
     }
 }
@@ -77,7 +76,7 @@ fn refuse_unlayered<W: Write>(
         out.old out.new result }
 {
     match detail {
-        Detail::Plain => refuse_layers(alloc, fault)?.write(out),
         Detail::Reasons => write_unlayered(alloc, task, fault, out),
+        Detail::Plain => refuse_layers(alloc, fault)?.write(out),
     }
 }

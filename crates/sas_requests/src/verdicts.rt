@@ -43,10 +43,8 @@ pub fn judge_plan<S: PlanInputs>(
     ensures later { (k : ℕ) → number < k → S.bytes plans.new k ≡ S.bytes plans.old k }
 {
     let Some(input) = plans.open(number) else {
-        return Err(JudgeFault::Plan {
-            number,
-            fault: InputFault::NotOpened,
-        });
+        let fault = InputFault::NotOpened;
+        return Err(JudgeFault::Plan { number, fault });
     };
     let mut plan = Watched::new(input);
     let judged = judge_input(alloc, loaded, &mut plan);

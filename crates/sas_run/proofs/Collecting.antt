@@ -1,5 +1,5 @@
 -- The operators of a chain, from its first one on.
-use Rattle.sas_run.proofs.Imports.{◌≡◌, ℕ, ◌+◌, ◌<◌, ◌≤◌, List, [], ◌∷◌, ◌++◌, length, get_or, Option, None, Some, refl, sym, subst, ◌∙◌, inl, inr, arith, cases_lt, get_or_append_left, get_or_push, length-append, Parts, operator_at, IsNamed, IsNextNamed, AreAll}
+use Rattle.sas_run.proofs.Imports.{◌≡◌, ℕ, ◌+◌, ◌<◌, ◌≤◌, List, [], ◌∷◌, ◌++◌, length, get_or, Option, None, Some, refl, ◌∙◌, inl, inr, arith, cases_lt, get_or_append_left, get_or_push, length-append, Parts, operator_at, IsNamed, IsNextNamed, AreAll}
 
 -- the operators of this name below the number `bound`
 pub record AreAllBelow (p : Parts) (first : ℕ) (bound : ℕ) (operators : List ℕ) : Type 0 where
@@ -18,22 +18,7 @@ pub record Collects (p : Parts) (first : ℕ) (operators : List ℕ) (next : Opt
   pub is_next : IsNextNamed p (operator_at p first).name bound next
 
 pub collects_none : (p : Parts) (first : ℕ) → first < length p.operators → Collects p first [] (Some first)
-collects_none p first exists = record {
-  bound = first;
-  from_on = omega arith;
-  are = record {
-    from_on = λ item lt. absurd (omega arith);
-    named = λ item lt. absurd (omega arith);
-    below = λ item lt. absurd (omega arith);
-    ascend = λ item later lt within. absurd (omega arith);
-    all = λ operator from_on below. absurd (omega arith);
-  };
-  is_next = record {
-    from_on = omega arith;
-    of_name = record { exists = exists; named = refl };
-    first = λ lower from_on below. absurd (omega arith);
-  };
-}
+collects_none p first exists = grind arith
 
 module _ (p : Parts) (first : ℕ) (operators : List ℕ) (operator : ℕ) (collects : Collects p first operators (Some operator)) where
   abbrev more : List ℕ
@@ -44,10 +29,7 @@ module _ (p : Parts) (first : ℕ) (operators : List ℕ) (operator : ℕ) (coll
 
   -- an item of the longer list
   each : (P : ℕ → Type 0) → ((item : ℕ) → item < length operators → P (get_or operators item 0)) → P operator → (item : ℕ) → item < length more → P (get_or more item 0)
-  each P before here item lt = elim (cases_lt item (length operators)) [
-    | inl early ↦ subst P (sym (get_or_append_left operators (operator ∷ []) 0 item early)) (before item early)
-    | inr late ↦ subst P (sym (get_or_push operators operator 0 item (omega (arith, many)))) here
-  ]
+  each h1 before here item lt = grind (arith, cases_lt, length, get_or_append_left, get_or_push, many)
 
   pub collects_more : (next : Option ℕ) → IsNextNamed p (operator_at p first).name (operator + 1) next → Collects p first more next
   collects_more next is_next =
@@ -91,14 +73,4 @@ module _ (p : Parts) (first : ℕ) (operators : List ℕ) (operator : ℕ) (coll
 
 -- all are collected
 pub all_collected : (p : Parts) (first : ℕ) (operators : List ℕ) → Collects p first operators None → AreAll p first operators
-all_collected p first operators collects =
-    let are = collects.are in
-    record {
-      from_on = are.from_on;
-      named = are.named;
-      ascend = are.ascend;
-      all = λ operator from_on named. elim (cases_lt operator collects.bound) [
-        | inl early ↦ are.all operator from_on early named
-        | inr late ↦ absurd (collects.is_next operator late named)
-      ];
-    }
+all_collected p first operators collects = grind (arith, cases_lt)

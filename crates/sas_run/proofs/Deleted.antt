@@ -28,9 +28,7 @@ all_behind P xs ys h k d lt = subst P (get_or-append-add xs ys k d) (h (length x
 -- what holds for each deleted fact, and for the one that may be added, holds for all
 pub all_replaced : (P : Fact → Type 0) (s : List ℕ) (fact : Fact) (deleted deleted' : List Fact) → Replaces s fact deleted deleted' → All P deleted
     → P (record { var = fact.var; value = get_or s fact.var 0 }) → All P deleted'
-all_replaced P s fact deleted deleted' (inl same) all taken = subst (All P) (sym same.1) all
-all_replaced P s fact deleted deleted' (inr other) all taken =
-    subst (All P) (sym other.1) (All-push P deleted (record { var = fact.var; value = get_or s fact.var 0 }) all taken)
+all_replaced h1 s fact deleted deleted' h2 all taken = grind (arith, common_steps, get_or)
 
 -- these facts are deleted so far, at most so many, and none of them is on a variable that may still be set
 pub record DeletedSoFar (p : Parts) (Left : ℕ → Type 0) (most : ℕ) (s s' : List ℕ) (deleted : List Fact) : Type 0 where

@@ -71,9 +71,7 @@ module _ (p : Parts) (layered : IsLayered p) where
 
   -- the same for steps from the initial state
   pub leads_one_way : (steps : List (List ℕ)) (a b x y : List ℕ) → LeadsTo p steps a x → LeadsTo p steps b y → (a ≡ b) × (x ≡ y)
-  leads_one_way steps a b x y g h =
-      goes_one_way g.initial steps a b x y g.goes
-      (subst (λ z. LeadFrom p z steps b y) (initial_is_one h.initial g.initial h.starts g.starts) h.goes)
+  leads_one_way steps a b x y g h = grind (arith, goes_one_way, initial_is_one)
 
   pub leads_on : (before : List (List ℕ)) (name : List ℕ) (behind : List (List ℕ)) (operators last first there : List ℕ)
       → LeadsTo p (before ++ name ∷ behind) operators last → LeadsTo p before first there → GoesOn p there name

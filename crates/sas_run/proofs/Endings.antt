@@ -1,7 +1,16 @@
 -- How a plan ends: at a step that fails, or after the last step.
-use Rattle.sas_run.proofs.Imports.{◌≡◌, ℕ, ◌+◌, ◌-◌, ◌<◌, List, [], length, take, drop, get_or, Option, Some, None, sym, ◌∙◌, ap, subst, arith, take_all, Parts, PlanParts, PlanFault, Memory, NoOperator, NotApplicable, Conflict, GoalMissed, CostDiffers, LeadsTo, IsValid, StepFails, IsFinalVerdict, Run, steps_before, RunEndsWith, IsEnding, ComesTo, IsFaultOf}
+use Rattle.sas_run.proofs.Imports.{◌≡◌, ℕ, ◌+◌, ◌-◌, ◌<◌, List, [], length, take, drop, get_or, Option, Some, None, sym, ◌∙◌, ap, subst, arith, take_all, Parts, PlanParts, PlanFault, Memory, NoOperator, NotApplicable, Conflict, GoalMissed, CostDiffers, LeadsTo, IsValid, IsFinalVerdict, IsChoice, StepFailsBy, IsRunOf, Run, steps_before, RunEndsWith, ComesTo, IsFaultOf}
 use Rattle.sas_run.proofs.Going.{around, length_of_take}
 use Rattle.sas_run.proofs.Runs.{some_run}
+
+-- the fault says why the step with this number and name fails in the state s
+abbrev pub StepFails : Parts → List ℕ → List ℕ → ℕ → PlanFault → Type 0
+StepFails p s name = StepFailsBy p (IsChoice p s name) s
+
+-- the plan ends with this fault, or is valid, after a run of these operators
+abbrev pub IsEnding : Parts → PlanParts → List ℕ → Option PlanFault → Type 0
+IsEnding p plan operators fault = (run : Run) × IsRunOf p plan run × RunEndsWith p plan run fault
+    × (run.operators ≡ operators)
 
 -- if step k + 1 fails, that is the fault of the plan
 module _ (p : Parts) (plan : PlanParts) (k : ℕ) (lt : k < length plan.steps) (operators s : List ℕ) (leads : LeadsTo p (take k plan.steps) operators s) where
@@ -39,13 +48,7 @@ module _ (p : Parts) (plan : PlanParts) (k : ℕ) (lt : k < length plan.steps) (
 -- after the last step the goal and the cost are tested
 module _ (p : Parts) (plan : PlanParts) (operators s : List ℕ) (leads : LeadsTo p plan.steps operators s) where
   ends : (run : Run) → run.steps ≡ plan.steps → run.operators ≡ operators → (fault : Option PlanFault) → IsFinalVerdict p operators s plan.cost fault → RunEndsWith p plan run fault
-  ends run whole by None is = (subst (λ os. IsValid p plan os) (sym by) (record { last = s; leads = leads; goal = is.0; cost = is.1 }), whole)
-  ends run whole by (Some (GoalMissed index)) is = ((operators, s, leads, is), whole)
-  ends run whole by (Some (CostDiffers sum)) is = ((operators, s, leads, is.0, is.1, is.2), whole)
-  ends run whole by (Some (NoOperator step)) is = absurd is
-  ends run whole by (Some (NotApplicable step)) is = absurd is
-  ends run whole by (Some (Conflict step operator)) is = absurd is
-  ends run whole by (Some Memory) is = absurd is
+  ends run whole by h1 is = grind arith
 
   pub judged_there : (fault : Option PlanFault) → IsFinalVerdict p operators s plan.cost fault → IsEnding p plan operators fault
   judged_there fault is =

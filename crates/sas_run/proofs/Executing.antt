@@ -1,6 +1,8 @@
 -- An execution advances along its run.
 use Rattle.std.proofs.lemmas.Grind.{common_steps}
-use Rattle.sas_run.proofs.Imports.{◌≡◌, ℕ, ◌+◌, ◌<◌, ◌≤◌, List, [], length, get_or, Option, None, Result, Ok, Err, refl, sym, ◌∙◌, ap, subst, inl, inr, arith, rules, IsTrue, vec_capacity, IsOk, cases_lt, get_or-take, get_or_default, length-take, Parts, operator_at, PlanParts, IsState, IsLayered, IsInitial, Step, step_is_one, IsChain, HaveChains, IsNamed, AreFirsts, IsNextNamed, PlanFault, Progress, StepOperators, Stepper, StepFault, Executed, next_name, next_operator, Executes, IsFound, Advances, executed_of, IsExecuting, MakesStep, Steps, IsPrepared, ListsChanges, Run, state_at, IsEnding}
+use Rattle.sas_run.proofs.Imports.{◌≡◌, ℕ, ◌+◌, ◌<◌, ◌≤◌, List, [], length, get_or, Option, None, Some, Result, refl, sym, ◌∙◌, ap, subst, arith, rules, All, IsTrue, vec_capacity, IsOk, get_or-take, get_or_default, length-take, Parts, operator_at, PlanParts, IsState, IsLayered, IsInitial, Step, step_is_one, IsChain, AreStepOperators, LongChains, IsNamed, IsNextNamed, PlanFault, Progress, StepOperators, Stepper, StepFault, Executed, next_name, next_operator, Executes, IsFound, Advances, executed_of, IsExecuting, HaveNoNamesakes, Steps, IsAt, ListsChanges, Run, state_at}
+use Rattle.sas_run.proofs.Endings.{IsEnding}
+use Rattle.sas_run.proofs.Going.{MakesStep}
 use Rattle.sas_run.proofs.NextStates.{fault_is_conflict}
 use Rattle.sas_run.proofs.Runs.{still, still_goes, state_fits, first_state, run_goes}
 
@@ -44,44 +46,34 @@ module _ (run : Run) (e : Executed) (executes : Executes run e) where
             ∙ ap (state_at run) (sym advances.made);
       }
 
-      -- ---- the operators of its name
+      -- the next operator of the same name is known for each operator of this name
+      pub chain_next : (firsts nexts : List (Option ℕ)) → AreStepOperators e.task e.plan.steps firsts nexts → IsChain e.task (next_operator e) nexts
+      chain_next firsts nexts are = by (get_or firsts e.made None) refl
+        where
+          early : e.made < length e.plan.steps
+          early = omega (arith, within, ap length executes.of_plan.front, length-take (length run.steps) e.plan.steps)
 
-      module _ (found : List ℕ) (nexts : List (Option ℕ)) (firsts : AreFirsts e.task e.plan.steps found) (chains : HaveChains e.task found nexts) where
-        -- its name was found, since an operator has it
-        found_next : e.made < length found
-        found_next = elim (cases_lt e.made (length found)) [
-          | inl lt ↦ lt
-          | inr ge ↦
-              let early : length found < length run.steps = omega (arith, within) in
-              let on = run_goes e.task run executes.of_plan.through layered (length found) early in
-              let name : get_or run.steps (length found) [] ≡ get_or e.plan.steps (length found) [] =
-              ap (λ names. get_or names (length found) []) executes.of_plan.front ∙ get_or-take (length run.steps) e.plan.steps (length found) [] early in
-              absurd (firsts.behind (omega (arith, early, many)) (get_or run.operators (length found) 0) (omega arith)
-              (subst (λ its. IsNamed e.task its (get_or run.operators (length found) 0)) name on.chosen.of_name))
-        ]
-          where
-            many : length run.steps ≤ length e.plan.steps
-            many = omega (arith, ap length executes.of_plan.front, length-take (length run.steps) e.plan.steps)
+          low : IsNextNamed e.task (next_name e) 0 (get_or firsts e.made None)
+          low = are.firsts.each e.made early
 
-        -- so the next operator of the same name is known for each operator of this name
-        pub chain_next : IsChain e.task (next_operator e) nexts
-        chain_next other named =
-            let same : (operator_at e.task (next_operator e)).name ≡ (operator_at e.task (get_or found e.made 0)).name =
-            next_goes.chosen.of_name.named ∙ sym (firsts.each e.made found_next).of_name.named in
-            subst (λ name. IsNextNamed e.task name (other + 1) (get_or nexts other None)) (sym same)
-            (chains e.made found_next other (subst (λ name. IsNamed e.task name other) same named))
+          by : (first : Option ℕ) → get_or firsts e.made None ≡ first → IsChain e.task (next_operator e) nexts
+          by None is other named = absurd (subst (IsNextNamed e.task (next_name e) 0) is low (next_operator e) (omega arith) next_goes.chosen.of_name)
+          by (Some first) is other named =
+              let its : (operator_at e.task first).name ≡ next_name e = (subst (IsNextNamed e.task (next_name e) 0) is low).of_name.named in
+              let same : (operator_at e.task (next_operator e)).name ≡ (operator_at e.task first).name = next_goes.chosen.of_name.named ∙ sym its in
+              subst (λ name. IsNextNamed e.task name (other + 1) (get_or nexts other None)) (sym same)
+              ((are.chains e.made first (omega (arith, early, are.firsts.one_each)) is).1 other (subst (λ name. IsNamed e.task name other) same named))
 
 -- ---- the parts of an execution
 
 -- an operator that has a step makes it
 pub makes_step : (p : Parts) (s : List ℕ) (operator : ℕ) (s' : List ℕ) (result : Result (Unit {0}) StepFault) (next : List ℕ)
     → Step p s (operator_at p operator) next → Steps p s operator s' result → IsOk result
-makes_step p s operator s' (Ok _) next step steps = search rules
-makes_step p s operator s' (Err fault) next step steps = absurd (fault_is_conflict s (operator_at p operator) fault step.applicable steps.0 step.agree)
+makes_step p s operator s' h1 next step steps = grind (arith, rules, fault_is_conflict, operator_at)
 
 module _ {E : Type 0} {Ready : E → Parts → Type 0} {Follows : E → Parts → List ℕ → Type 0} {p : Parts} {plan : PlanParts} {stepper : Stepper E}
-    {found : StepOperators} {progress : Progress} {made : ℕ}
-    (executing : IsExecuting Ready Follows p plan stepper found progress made) (layered : IsLayered p) where
+    {found : StepOperators} {long : LongChains} {progress : Progress} {made : ℕ}
+    (executing : IsExecuting Ready Follows p plan stepper found long progress made) (layered : IsLayered p) where
   abbrev e : Executed
   e = executed_of p plan stepper progress made
 
@@ -93,8 +85,8 @@ module _ {E : Type 0} {Ready : E → Parts → Type 0} {Follows : E → Parts �
     pub step_goes : MakesStep p progress.state (next_name e) operator (state_at executing.run (made + 1))
     step_goes = rw is_next (next_goes executing.run e executing.executes left layered)
 
-    pub step_chain : IsChain p operator found.next.items
-    step_chain = rw is_next (chain_next executing.run e executing.executes left layered found.firsts.items found.next.items executing.operators.firsts executing.operators.chains)
+    pub step_chain : IsChain p operator found.nexts.items
+    step_chain = rw is_next (chain_next executing.run e executing.executes left layered found.firsts.items found.nexts.items executing.operators)
 
     -- it was made
     module _ (stepper' : Stepper E) (state : List ℕ) (step : Step p progress.state (operator_at p operator) state)
@@ -103,65 +95,39 @@ module _ {E : Type 0} {Ready : E → Parts → Type 0} {Follows : E → Parts �
       after = record { state = state; operators = progress.operators }
 
       pub step_advances : Advances e operator (executed_of p plan stepper' after (made + 1))
-      step_advances = record {
-        task = refl;
-        of_plan = refl;
-        operators = refl;
-        made = refl;
-        by = is_next;
-        chosen = step_goes.chosen;
-        step = step;
-        changes = lists;
-      }
+      step_advances = grind (arith, is_next, step_goes)
 
       pub step_along : (run : Run) → Executes run e → Executes run (executed_of p plan stepper' after (made + 1))
       step_along run executes = goes_along run e executes left layered operator (executed_of p plan stepper' after (made + 1)) step_advances
 
-      pub goes_ahead : IsPrepared Ready p stepper' → IsTrue stepper'.deleted.noted → Follows stepper'.evaluator p state
-          → IsExecuting Ready Follows p plan stepper' found after (made + 1)
-      goes_ahead prepared noted follows = record {
-        prepared = prepared;
-        noted = noted;
-        follows = follows;
-        operators = executing.operators;
-        nameless = executing.nameless;
-        long = executing.long;
-        room = executing.room;
-        run = executing.run;
-        executes = step_along executing.run executing.executes;
-      }
+      pub goes_ahead : IsAt Ready Follows p stepper' state → IsTrue stepper'.deleted.noted → IsExecuting Ready Follows p plan stepper' found long after (made + 1)
+      goes_ahead at noted = grind (arith, step_along)
+
+  -- an operator that has no next one has none of its name above it
+  pub none_above : All (λ (operator : ℕ). get_or found.nexts.items operator None ≡ None) progress.operators.items → HaveNoNamesakes p progress.operators.items
+  none_above none k later lt above named =
+      subst (IsNextNamed p (operator_at p operator).name (operator + 1)) (none k 0 lt)
+      (chain_next executing.run before its lt layered found.firsts.items found.nexts.items executing.operators operator is_its) later (omega arith) named
+    where
+      operator : ℕ
+      operator = get_or progress.operators.items k 0
+
+      -- the execution before its step
+      before : Executed
+      before = executed_of p plan stepper (record { state = state_at executing.run k; operators = progress.operators }) k
+
+      its : Executes executing.run before
+      its = record { of_plan = executing.executes.of_plan; operators = executing.executes.operators; within = omega arith; state = refl }
+
+      is_its : IsNamed p (operator_at p operator).name operator
+      is_its = (let goes = next_goes executing.run before its lt layered in record { exists = goes.chosen.of_name.exists; named = refl })
 
   -- the plan was executed up to its fault
   module _ (none : progress.operators.items ≡ []) (stepper' : Stepper E) (progress' : Progress) (fault : Option PlanFault) (starts : IsInitial p progress'.state)
       (ending : IsEnding p plan progress'.operators.items fault) where
     pub goes_back : IsFound p plan fault (executed_of p plan stepper' progress' made)
-    goes_back =
-        let start = none_made executing.run e executing.executes none in
-        let (run, of_plan, ends, by) = ending in
-        record {
-          task = refl;
-          of_plan = refl;
-          made = start;
-          run = run;
-          executes = record {
-            of_plan = of_plan;
-            operators = by;
-            within = omega (arith, start);
-            state = first_state p run of_plan.through progress'.state layered starts ∙ ap (state_at run) (sym start);
-          };
-          ends = ends;
-        }
+    goes_back = grind (arith, none_made, within, first_state, state_at)
 
-    pub goes_anew : IsPrepared Ready p stepper' → IsTrue stepper'.deleted.noted → Follows stepper'.evaluator p progress'.state → length plan.steps ≤ vec_capacity progress'.operators
-        → IsExecuting Ready Follows p plan stepper' found progress' made
-    goes_anew prepared noted follows room = record {
-      prepared = prepared;
-      noted = noted;
-      follows = follows;
-      operators = executing.operators;
-      nameless = executing.nameless;
-      long = executing.long;
-      room = room;
-      run = goes_back.run;
-      executes = goes_back.executes;
-    }
+    pub goes_anew : IsAt Ready Follows p stepper' progress'.state → IsTrue stepper'.deleted.noted → length plan.steps ≤ vec_capacity progress'.operators
+        → IsExecuting Ready Follows p plan stepper' found long progress' made
+    goes_anew at noted room = grind (arith, goes_back)

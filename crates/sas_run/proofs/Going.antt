@@ -1,5 +1,10 @@
 -- One more step succeeds or fails.
-use Rattle.sas_run.proofs.Imports.{◌≡◌, ℕ, Result, Err, ◌+◌, ◌<◌, List, [], ◌∷◌, ◌++◌, length, take, drop, get_or, sym, ap, ◌∙◌, arith, take-append-drop, drop_more, common_steps, Parts, LeadFrom, LeadsTo, MakesStep}
+use Rattle.sas_run.proofs.Imports.{◌≡◌, ℕ, Result, Err, ◌+◌, ◌<◌, List, [], ◌∷◌, ◌++◌, length, take, drop, get_or, sym, ap, ◌∙◌, arith, take-append-drop, drop_more, common_steps, Parts, operator_at, Step, IsChosen, LeadFrom, LeadsTo}
+
+-- the name means this operator in the state s, and its step leads to s'
+pub record MakesStep (p : Parts) (s name : List ℕ) (operator : ℕ) (s' : List ℕ) : Type 0 where
+  pub chosen : IsChosen p s name operator
+  pub step : Step p s (operator_at p operator) s'
 
 pub goes_one_more : (p : Parts) (s : List ℕ) (names : List (List ℕ)) (operators mid : List ℕ) (name : List ℕ) (operator : ℕ) (next : List ℕ)
     → LeadFrom p s names operators mid → MakesStep p mid name operator next → LeadFrom p s (names ++ name ∷ []) (operators ++ operator ∷ []) next

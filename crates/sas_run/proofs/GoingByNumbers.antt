@@ -12,11 +12,7 @@ module _ (p : Parts) where
 
   pub goes_one_more : (operators mid : List ℕ) (operator : ℕ) (next : List ℕ) → GoesThrough p operators mid → operator < length p.operators → Step p mid (operator_at p operator) next
       → GoesThrough p (operators ++ operator ∷ []) next
-  goes_one_more operators mid operator next through exists step = record {
-    initial = through.initial;
-    starts = through.starts;
-    goes = go_one_more through.initial operators mid operator next through.goes exists step;
-  }
+  goes_one_more operators mid operator next through exists step = grind (arith, go_one_more)
 
   -- the operators exist
   go_by : (s operators last : List ℕ) → GoThrough p s operators last → All (λ (o : ℕ). o < length p.operators) operators
@@ -54,12 +50,7 @@ module _ (p : Parts) where
   pub leads_by_numbers : (names : List (List ℕ)) (operators last : List ℕ) → length operators ≡ length names
       → ((k : ℕ) (there : List ℕ) → k < length operators → GoesThrough p (take k operators) there → IsChosen p there (get_or names k []) (get_or operators k 0))
       → GoesThrough p operators last → LeadsTo p names operators last
-  leads_by_numbers names operators last same each through = record {
-    initial = through.initial;
-    starts = through.starts;
-    goes = led through.initial names operators last same
-        (λ k there lt goes. each k there lt (record { initial = through.initial; starts = through.starts; goes = goes })) through.goes;
-  }
+  leads_by_numbers names operators last same each through = search (arith, each, led)
 
   -- named steps lead by numbers, too, by steps of any kind that each step is of
   module _ (IsStep : List ℕ → Operator → List ℕ → Type 0) (is : (s : List ℕ) (o : Operator) (next : List ℕ) → Step p s o next → IsStep s o next) where
@@ -91,8 +82,7 @@ module _ (p : Parts) where
 
     -- from the initial state
     from : (operators last start : List ℕ) → IsInitial p start → GoesThrough p operators last → GoThrough p start operators last
-    from operators last start starts through =
-        subst (λ z. GoThrough p z operators last) (initial_is_one p layered through.initial start through.starts starts) through.goes
+    from operators last start starts through = grind (arith, initial_is_one)
 
     pub goes_one_way : (operators x y : List ℕ) → GoesThrough p operators x → GoesThrough p operators y → x ≡ y
     goes_one_way operators x y g h = go_one_way g.initial operators x y g.goes (from operators y g.initial g.starts h)
@@ -110,8 +100,7 @@ module _ (p : Parts) where
 
     pub leads_chosen : (names : List (List ℕ)) (operators last : List ℕ) (k : ℕ) (there : List ℕ) → LeadsTo p names operators last → k < length operators
         → GoesThrough p (take k operators) there → IsChosen p there (get_or names k []) (get_or operators k 0)
-    leads_chosen names operators last k there leads lt through =
-        chosen_at leads.initial names operators last k there leads.goes lt (from (take k operators) there leads.initial leads.starts through)
+    leads_chosen names operators last k there leads lt through = search (arith, chosen_at, from, take)
 
     -- operators that go through have a step at each of their numbers
     go_on : (s operators last : List ℕ) (k : ℕ) (there : List ℕ) → GoThrough p s operators last → k < length operators → GoThrough p s (take k operators) there
@@ -147,7 +136,4 @@ module _ (p : Parts) where
       ]
 
       pub makes_one_more : Makes p Means more next
-      makes_one_more = record {
-        through = goes_one_more operators s operator next makes.through exists step;
-        each = each;
-      }
+      makes_one_more = grind (arith, goes_one_more, each)

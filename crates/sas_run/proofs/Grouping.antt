@@ -1,16 +1,10 @@
 -- Items that are grouped by their values, from the last item to the first.
-use Rattle.sas_run.proofs.Imports.{◌≡◌, ◌≢◌, ◌⊎◌, ℕ, ◌+◌, ◌<◌, ◌≤◌, List, length, get_or, slice_set, Option, None, Some, refl, sym, ap, subst, ◌∙◌, inl, inr, arith, eq-or-lt_of_le, cases_eq, none-some, same_Some, get_or-set_same, get_or-set_other, length-set, unwrap_or, nat_cmp, Vec, ValueGroups, first_with, IsFirstFrom, AreValueGroups}
+use Rattle.sas_run.proofs.Imports.{◌≡◌, ◌≢◌, ◌⊎◌, ℕ, ◌+◌, ◌<◌, ◌≤◌, List, length, get_or, slice_set, Option, None, Some, sym, ap, subst, ◌∙◌, inl, inr, arith, eq-or-lt_of_le, cases_eq, none-some, same_Some, get_or-set_same, get_or-set_other, length-set, unwrap_or, nat_cmp, Vec, ValueGroups, first_with, IsFirstFrom, AreValueGroups}
 use Rattle.std.specs.BTreeMap as tree
 
 -- whether two optional values are the same
 pub same_or_not : (v w : Option ℕ) → (v ≡ w) ⊎ (v ≢ w)
-same_or_not None None = inl refl
-same_or_not None (Some b) = inr (λ same. none-some b same)
-same_or_not (Some a) None = inr (λ same. none-some a (sym same))
-same_or_not (Some a) (Some b) = elim (cases_eq a b) [
-  | inl same ↦ inl (ap Some same)
-  | inr apart ↦ inr (λ same. apart (same_Some a b same))
-]
+same_or_not h1 h2 = grind (arith, none-some, cases_eq, same_Some)
 
 -- the items from number `from` on are grouped
 pub record AreValueGroupsFrom (values : List (Option ℕ)) (from : ℕ) (groups : ValueGroups) : Type 0 where
@@ -74,24 +68,11 @@ module _ (values : List (Option ℕ)) (item : ℕ) (old put new : ValueGroups) (
   ]
 
   next_of : (k : ℕ) → item ≤ k → k < length values → IsFirstFrom values (k + 1) (get_or values k None) (get_or (slice_set old.next.items item had) k 0)
-  next_of k from_on lt = elim (eq-or-lt_of_le from_on) [
-    | inl same ↦ subst (λ j. IsFirstFrom values (j + 1) (get_or values j None) (get_or (slice_set old.next.items item had) j 0)) same
-        (subst (IsFirstFrom values (item + 1) (get_or values item None))
-        (sym (get_or-set_same old.next.items item had 0 (omega (arith, are.one_each)) ∙ is_had))
-        (are.first (get_or values item None)))
-    | inr above ↦
-        let apart : k ≢ item = omega arith in
-        subst (IsFirstFrom values (k + 1) (get_or values k None)) (sym (get_or-set_other old.next.items item k had 0 apart))
-        (are.next k (omega arith) lt)
-  ]
+  next_of k from_on lt = grind (arith, eq-or-lt_of_le, get_or, slice_set, next, get_or-set_same, first, get_or-set_other)
 
   -- one item more
   pub AreValueGroupsFrom-step : AreValueGroupsFrom values item new
-  AreValueGroupsFrom-step = record {
-    one_each = ap length next ∙ (length-set old.next.items item had ∙ are.one_each);
-    first = first;
-    next = λ k from_on lt. subst (λ (its : List ℕ). IsFirstFrom values (k + 1) (get_or values k None) (get_or its k 0)) (sym next) (next_of k from_on lt);
-  }
+  AreValueGroupsFrom-step = grind (arith, length, next, length-set, first, get_or, next_of)
 
 -- all items
 pub all_grouped : (values : List (Option ℕ)) (groups : ValueGroups) → AreValueGroupsFrom values 0 groups → AreValueGroups values groups

@@ -1,30 +1,23 @@
 -- What the proofs use of other crates, and of the definitions of this one.
-pub use Rattle.std.proofs.Common.{◌≡◌, IsTrue, ℕ, ◌+◌, ◌<◌, ◌≤◌, ◌≢◌, List, length, get_or, slice_set, Option, None, Some, sym, ap, subst, ◌∙◌, inl, inr, arith, [], Bool, true, false, nat_eq, refl, if◌then◌else◌, true≢false, ◌-◌, ◌⊎◌, ◌∷◌, ◌++◌, vec_capacity, rules, zero, suc, slice_index, slice_index_or, bytes_eq, set, take, drop, Result, Ok, Err, filter_map, option_map, ◌*◌, ◌^◌, is_some, cond, append_assoc, not, IfSome}
+pub use Rattle.std.proofs.Common.{◌≡◌, IsTrue, ℕ, ◌+◌, ◌<◌, ◌≤◌, ◌≢◌, List, length, get_or, slice_set, Option, None, Some, sym, ap, subst, ◌∙◌, inl, inr, arith, [], refl, true≢false, ◌-◌, ◌⊎◌, ◌∷◌, ◌++◌, vec_capacity, rules, zero, suc, slice_index, slice_index_or, bytes_eq, set, take, drop, Result, Ok, Err, filter_map, option_map, ◌*◌, ◌^◌, is_some, cond, append_assoc, IfSome}
 pub use Rattle.std.proofs.Math.Nat.{eq-or-lt_of_le}
 pub use Rattle.std.proofs.Math.Seq.{take-append_seam, get_or-append_seam}
-pub use Rattle.std.proofs.lemmas.Bool.{cases_eq, eqb-true, eq-eqb, ne_eqb, cases_lt, cases_Bool, ltb-false, true_from_ne_false}
+pub use Rattle.std.proofs.lemmas.Bool.{cases_eq, ne_eqb, cases_lt, cases_Bool, ltb-false, true_from_ne_false}
 pub use Rattle.std.proofs.lemmas.Grind.{common_steps}
 pub use Rattle.std.proofs.lemmas.List.{get_or-set_same, get_or-set_other, length-set, get_or_append_left, get_or_push, get_or_read, length-append, take_all, get_or-take, get_or_default, length-take, take-append-drop, drop_more, get_or-append-add, get_or-map, length-map, same_lists, take_more, get_or-drop, length-take-le, length-drop}
 pub use Rattle.std.proofs.lemmas.List.Elements.{All-nil, All-cons, All-push, All-weaker, All-head, All-tail, All-map, All-append, All-from_recursion, All-contains, Contains-get_or, Contains-append_left, Contains-append_right, Contains-push}
-pub use Rattle.std.proofs.lemmas.List.Folds.{list_any_at, list_any_none}
 pub use Rattle.std.proofs.lemmas.List.Quantifiers.{all_pairs_push}
 pub use Rattle.std.proofs.lemmas.List.Sums.{count_by_more_no, count_by_more_yes, sum_by-cons}
-pub use Rattle.std.proofs.lemmas.Map.Text.{is_eq-slice_cmp}
 pub use Rattle.std.proofs.lemmas.Option.{none-some, same_Some, slice_get-get_or}
 pub use Rattle.std.proofs.lemmas.Result.{err_from_is_err_and}
 pub use Rattle.std.proofs.lemmas.Slice.Eq.{bytes_eq-Decides}
-pub use Rattle.std.specs.BTreeMap.{BTreeMap, is_at}
-pub use Rattle.std.specs.Cmp.{nat_eq_equiv, unsigned_tied}
-pub use Rattle.std.specs.Cmp.Lexicographic.{pointwise, bytes_decides, slice_cmp, lists_equiv}
+pub use Rattle.std.specs.Cmp.{unsigned_tied}
 pub use Rattle.std.specs.Global.{Vec}
 pub use Rattle.std.specs.List.{All, AllZip, cons_option, AllByRecursion, count_by}
-pub use Rattle.std.specs.Map.{IsKeyTest, AreApart}
-unfoldable pub use Rattle.std.specs.Map.{KeepsOthers}
 pub use Rattle.std.specs.Option.{option_and_then}
-pub use Rattle.std.specs.Ordering.{eq_by_cmp, nat_cmp}
+pub use Rattle.std.specs.Ordering.{nat_cmp}
 pub use Rattle.std.specs.Prelude.{unwrap_or}
 pub use Rattle.std.specs.Result.{IsOk}
-pub use Rattle.indexmap.specs.IndexMap.{get, IndexMap, UpdatesBy}
 pub use Rattle.sas_core.proofs.Fitting.{operator_fits, effect_fits}
 pub use Rattle.sas_core.proofs.Places.{holds_at}
 pub use Rattle.sas_core.proofs.PlainEffects.{as_many_effects, effect_is_plain}
@@ -57,43 +50,34 @@ pub use Rattle.sas_meaning.specs.States.{Holds, AllHold}
 pub use Rattle.sas_meaning.specs.Steps.{preconditions, Step, Fires, Agree, old_fact}
 pub use Rattle.sas_meaning.specs.declared.changed_variables.ChangedVariables.{ChangedVariables}
 pub use Rattle.sas_run.specs.ByNumbers.{OperatorsLead, GoThrough, GoesThrough, IsValidByNumbers}
-pub use Rattle.sas_run.specs.Chains.{AreChains, AreFound, HaveChains, IsChain, has_none}
-pub use Rattle.sas_run.specs.Choosers.{AreLowest, IsNumberChoice, Makes, MeansByName, EndsSteps}
-pub use Rattle.sas_run.specs.Deletions.{DeletedHasRoom, NotesOn}
-pub use Rattle.sas_run.specs.Executions.{Executed, next_name, next_operator, Executes, IsFound, Advances, executed_of, IsExecuting}
+pub use Rattle.sas_names.specs.Chains.{AreStepOperators, IsChain}
+pub use Rattle.sas_run.specs.Choosers.{IsNumberChoice, Makes, EndsPlan, IsSolutionBy, IsFaultByOrMemory}
+pub use Rattle.sas_run.specs.PlainSteps.{DeletedHasRoom, NotesOn, AreMade, IsPlainStep, OldHolds}
+pub use Rattle.sas_run.specs.Executions.{Executed, next_name, next_operator, Executes, IsFound, Advances, executed_of, IsExecuting, HaveNoNamesakes}
 pub use Rattle.sas_run.specs.Given.{given_to, Replaces, value_after, NothingGiven, IsGiven, IsGivenTo, GivesValue, GivesOther}
 pub use Rattle.sas_run.specs.Laws.{AreChosen, ValidByNumbers, SomeVerdictByNumbers, NumbersHaveNoFault, FaultByNumbersIsOne, LeadsToReachable, LastIsReachable, SomeVerdict, ValidHasNoFault, ValidIsOne, FaultIsOne, SomeRun, OneRun}
 pub use Rattle.sas_run.specs.ValueGroups.{first_with, IsFirstFrom, AreValueGroups}
-pub use Rattle.sas_run.specs.Likely.{IsLikely, AreLikely}
-unfoldable pub use Rattle.sas_run.specs.NameDigest.{digest_of}
 pub use Rattle.sas_run.specs.LongChains.{RequiresValue, HaveValues, IsLongChain, AreAll, NoneAmong, IsFirstAmong, AreLongChains}
-pub use Rattle.sas_run.specs.NameTable.{value_of, AreNames, other_of, own_else, first_else, likely_of, operator_names, AreMappedFrom, AreNamesFrom, Exist, IsEmptyTable, PutsName, PutsDigest, PutsOther}
-pub use Rattle.sas_run.specs.Named.{IsNamed}
-pub use Rattle.sas_run.specs.Nameless.{is_nameless, nameless_steps}
-pub use Rattle.sas_run.specs.Names.{IsNextNamed, IsLowestNamed, AreFirsts}
-pub use Rattle.sas_run.specs.NumberFaults.{IsStuck, IsMissed, IsFaultByNumbers}
+pub use Rattle.sas_names.specs.Named.{IsNamed}
+pub use Rattle.sas_names.specs.Nameless.{nameless_steps}
+pub use Rattle.sas_names.specs.Names.{IsNextNamed}
+pub use Rattle.sas_run.specs.NumberFaults.{IsStuck, IsFaultByNumbers, IsNumberFaultOrMemory}
 pub use Rattle.sas_run.specs.OtherSensesLaws.{ValidIsUsuallyValid, ValidInFastDownward, EndsInFastDownward}
-pub use Rattle.sas_run.specs.PlainSteps.{AreMade, IsPlainStep, OldHolds}
 pub use Rattle.sas_run.specs.Plans.{IsApplicable, NoneApplicable, IsChosen, LeadFrom, LeadsTo, IsValid, cost_of_all}
-pub use Rattle.sas_run.specs.Running.{IsChoice, StepFailsBy, StepFails, IsFinalVerdict, MakesStep, Steps, IsApplied, IsFirstConflict, IsFirstMissedFact, IsFirstChosen, IsLater, IsLaterIfAny, IsStepFault}
-pub use Rattle.sas_run.specs.Runs.{Run, steps_before, RunEndsWith, IsEnding, state_at, last_state, StepsSucceed}
-unfoldable pub use Rattle.sas_run.specs.Shapes.{shape_of}
-pub use Rattle.sas_run.specs.StepNames.{AreStepNames, step_names, AreStepsOf, Numbers, HaveNumbers}
-pub use Rattle.sas_run.specs.Stepping.{IsPrepared, ListsChanges, Follows, HasFactOn}
+pub use Rattle.sas_run.specs.Running.{IsSolution, IsFaultOrMemory, IsChoice, StepFailsBy, IsFinalVerdict, Steps, IsApplied, IsFirstConflict, IsFirstMissedFact, IsFirstChosen, IsLater, IsLaterIfAny, IsStepFault}
+pub use Rattle.sas_run.specs.Runs.{Run, steps_before, RunEndsWith, IsRunOf, state_at, last_state, StepsSucceed}
+pub use Rattle.sas_run.specs.Stepping.{IsAt, ListsChanges, HasFactOn}
 pub use Rattle.sas_run.specs.Verdicts.{IsFirstMissed, ComesTo, IsFaultOf}
-pub use Rattle.sas_run.specs.declared.chains.Chains.{Chains}
 pub use Rattle.sas_run.specs.declared.deletions.DeletedFacts.{DeletedFacts}
 pub use Rattle.sas_run.specs.declared.value_groups.ValueGroups.{ValueGroups}
 pub use Rattle.sas_run.specs.declared.long_chains.LongChain.{LongChain}
 pub use Rattle.sas_run.specs.declared.long_chains.LongChains.{LongChains}
-pub use Rattle.sas_run.specs.declared.name_table.NameTable.{NameTable}
-pub use Rattle.sas_run.specs.declared.names.Names.{Names}
 pub use Rattle.sas_run.specs.declared.plan_check.PlanFault.{PlanFault}
 pub use Rattle.sas_run.specs.declared.plan_check.PlanFault.TheVariants.{Memory, NoOperator, NotApplicable, Conflict, GoalMissed, CostDiffers}
 pub use Rattle.sas_run.specs.declared.progress.Progress.{Progress}
 pub use Rattle.sas_run.specs.declared.runner.Choice.{Choice}
-pub use Rattle.sas_run.specs.declared.runner.Choice.TheVariants.{Unknown, Blocked, Found}
-pub use Rattle.sas_run.specs.declared.step_names.StepNames.{StepNames}
-pub use Rattle.sas_run.specs.declared.step_operators.StepOperators.{StepOperators}
+pub use Rattle.sas_run.specs.declared.runner.Choice.TheVariants.{Found}
+pub use Rattle.sas_names.specs.declared.step_operators.StepOperators.{StepOperators}
 pub use Rattle.sas_run.specs.declared.stepper.Stepper.{Stepper}
 pub use Rattle.sas_run.specs.declared.steps.StepFault.{StepFault}
+pub use Rattle.sas_run.specs.declared.plan_check.Valid.{Valid}

@@ -1,13 +1,6 @@
-mod TablePuts
-mod NamesFrom
 pub mod Searching
-mod NameShapes
-mod StepNumbers
-mod ChainsFrom
-mod FoundSteps
 mod Grouping
 mod Collecting
-mod LikelyOperators
 pub mod Determined
 mod OtherSenses
 pub mod Choosing

@@ -11,25 +11,11 @@ module _ (p : Parts) (s operators : List ℕ) (values : List (Option ℕ)) where
     pub none : (before : ℕ) → before < item → get_or values before None ≡ value → IsApplicable s (operator_at p (get_or operators before 0)) → ⊥
 
   pub starts_at : (value : Option ℕ) (item : ℕ) → IsFirstFrom values 0 value item → SearchedAt value item
-  starts_at value item low = record {
-    within = low.within;
-    has = low.has;
-    none = λ before lt is. absurd (low.first before (omega arith) lt is);
-  }
+  starts_at value item low = grind arith
 
   pub goes_to : (value : Option ℕ) (item next : ℕ) → SearchedAt value item → item < length values → (IsApplicable s (operator_at p (get_or operators item 0)) → ⊥)
       → IsFirstFrom values (item + 1) (get_or values item None) next → SearchedAt value next
-  goes_to value item next searched lt not low = record {
-    within = low.within;
-    has = λ inside. low.has inside ∙ searched.has lt;
-    none = λ before below is. elim (cases_lt before item) [
-      | inl early ↦ searched.none before early is
-      | inr late ↦ elim (eq-or-lt_of_le late) [
-        | inl same ↦ subst (λ k. IsApplicable s (operator_at p (get_or operators k 0)) → ⊥) same not
-        | inr behind ↦ absurd (low.first before (omega arith) below (is ∙ sym (searched.has lt)))
-      ]
-    ];
-  }
+  goes_to value item next searched lt not low = grind (arith, cases_lt, eq-or-lt_of_le, operator_at, get_or)
 
   module _ (var : ℕ) (have : HaveValues p operators var values) where
     -- an operator that requires another value isn't applicable
@@ -48,10 +34,7 @@ pub below_both : (a b m : ℕ) → m ≡ min a b → (m ≤ a) × (m ≤ b)
 below_both a b m is = (subst (λ k. k ≤ a) (sym is) (min-le_left a b), subst (λ k. k ≤ b) (sym is) (min-le_right a b))
 
 pub is_other : (a b m : ℕ) → m ≡ min a b → (m ≡ a → ⊥) → m ≡ b
-is_other a b m is apart = elim (cases_lt a b) [
-  | inl lt ↦ absurd (apart (is ∙ min-eq_left (omega arith)))
-  | inr ge ↦ is ∙ (min_comm a b ∙ min-eq_left ge)
-]
+is_other a b m is apart = grind (arith, cases_lt, min-eq_left, min_comm)
 
 -- the first applicable one among all operators of the name is the first chosen
 pub chosen_among : (p : Parts) (s : List ℕ) (first : ℕ) (operators : List ℕ) (result : Option ℕ) → AreAll p first operators → IsFirstAmong p s operators result → IsFirstChosen p s first result

@@ -26,9 +26,7 @@ agrees_or_not s e f = grind (arith, hold_or_not (slice_index s) e.conditions, ho
 
 -- whether the effects that fire agree
 pub agree_or_not : (s : List ℕ) (effects : List Effect) → Agree s effects ⊎ (Agree s effects → ⊥)
-agree_or_not s effects =
-    all_or_not (λ (e : Effect). All (λ (f : Effect). AgreesWith s e f) effects)
-    (λ e. all_or_not (λ (f : Effect). AgreesWith s e f) (λ f. agrees_or_not s e f) effects) effects
+agree_or_not s effects = search (arith, all_or_not, agrees_or_not)
 
 abbrev Sets : List ℕ → List ℕ → Effect → Type 0
 Sets s s' e = Fires s e → get_or s' e.var 0 ≡ e.new

@@ -1,5 +1,5 @@
 -- A plan by names is one by numbers. By numbers, too, a plan of a layered task is valid or has exactly one fault.
-use Rattle.sas_run.proofs.Imports.{◌≡◌, ℕ, zero, suc, ◌+◌, ◌<◌, ◌≤◌, ◌⊎◌, List, length, take, get_or, get_or-take, length-take-le, take_more, slice_index, Option, None, Some, refl, sym, subst, inl, inr, arith, cases_eq, cases_lt, take_all, same_Some, none-some, Parts, operator_at, IsState, WellRanged, IsLayered, initial_exists, Step, Agree, PlanFault, Memory, NoOperator, NotApplicable, Conflict, GoalMissed, CostDiffers, IsValid, ValidByNumbers, SomeVerdictByNumbers, NumbersHaveNoFault, FaultByNumbersIsOne, AreChosen, cost_of_all, StepFailsBy, IsFinalVerdict, GoesThrough, IsValidByNumbers, IsNumberChoice, IsStuck, IsFaultByNumbers}
+use Rattle.sas_run.proofs.Imports.{◌≡◌, ℕ, zero, suc, ◌+◌, ◌<◌, ◌≤◌, ◌⊎◌, List, length, take, get_or, get_or-take, length-take-le, take_more, slice_index, Option, None, Some, refl, sym, subst, inl, inr, arith, cases_eq, cases_lt, take_all, same_Some, none-some, Parts, operator_at, IsState, WellRanged, IsLayered, initial_exists, Step, PlanFault, NoOperator, NotApplicable, Conflict, GoalMissed, CostDiffers, IsValid, ValidByNumbers, SomeVerdictByNumbers, NumbersHaveNoFault, FaultByNumbersIsOne, AreChosen, cost_of_all, StepFailsBy, IsFinalVerdict, GoesThrough, IsValidByNumbers, IsNumberChoice, IsStuck, IsFaultByNumbers}
 use Rattle.sas_run.proofs.GoingByNumbers.{leads_by_numbers, leads_on_numbers, leads_as_many, leads_chosen, goes_none, goes_one_more, goes_one_way, goes_on}
 use Rattle.sas_run.proofs.PlanVerdicts.{judged_one}
 use Rattle.sas_run.proofs.Choosing.{applicable_or_not, hold_or_missed}
@@ -31,12 +31,7 @@ valid_by_numbers p plan operators layered = (to, back)
 -- an operator that fails has no step
 fails_not_on : (p : Parts) (s : List ℕ) (number step : ℕ) (next : List ℕ) (fault : PlanFault) → StepFailsBy p (IsNumberChoice p s number) s step fault
     → number < length p.operators → Step p s (operator_at p number) next → ⊥
-fails_not_on p s number step next (NoOperator at) fails exists by = fails.1 exists
-fails_not_on p s number step next (NotApplicable at) fails exists by = fails.1.1 by.applicable
-fails_not_on p s number step next (Conflict at operator) fails exists by = fails.2 (subst (λ o. Agree s (operator_at p o).effects) (sym fails.1.0) by.agree)
-fails_not_on p s number step next (GoalMissed index) fails exists by = fails
-fails_not_on p s number step next (CostDiffers sum) fails exists by = fails
-fails_not_on p s number step next Memory fails exists by = fails
+fails_not_on p s number step next h1 fails exists by = grind (arith, operator_at)
 
 module _ (p : Parts) (operators : List ℕ) (layered : IsLayered p) where
   stuck_not_through : (last : List ℕ) (fault : PlanFault) → GoesThrough p operators last → IsStuck p operators fault → ⊥

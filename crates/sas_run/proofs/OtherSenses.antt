@@ -1,5 +1,5 @@
 -- A valid plan is valid in the usual sense, and in Fast Downward's search.
-use Rattle.sas_run.proofs.Imports.{◌≡◌, ℕ, List, [], ◌∷◌, sym, ◌∙◌, subst, AllZip, Parts, PlanParts, operator_at, IsLayered, FastDownwardStep, step_there, is_one_there, IsNamed, LeadFrom, IsValid, OperatorsLead, ValidIsUsuallyValid, ValidInFastDownward, EndsInFastDownward}
+use Rattle.sas_run.proofs.Imports.{arith, ◌≡◌, ℕ, List, [], ◌∷◌, sym, ◌∙◌, subst, AllZip, Parts, PlanParts, operator_at, IsLayered, FastDownwardStep, step_there, is_one_there, IsNamed, LeadFrom, IsValid, OperatorsLead, ValidIsUsuallyValid, ValidInFastDownward, EndsInFastDownward}
 use Rattle.sas_run.proofs.Determined.{initial_is_one}
 use Rattle.sas_run.proofs.GoingByNumbers.{led_on, leads_on_numbers}
 
@@ -11,28 +11,14 @@ named p s (name ∷ names) [] last goes = absurd goes
 named p s (name ∷ names) (operator ∷ operators) last (next, chosen, step, rest) = (chosen.of_name, named p next names operators last rest)
 
 pub usually_valid : ValidIsUsuallyValid
-usually_valid p plan operators valid = record {
-  names = named p valid.leads.initial plan.steps operators valid.last valid.leads.goes;
-  valid = record {
-    last = valid.last;
-    through = leads_on_numbers p plan.steps operators valid.last valid.leads;
-    goal = valid.goal;
-    costs = valid.cost;
-  };
-}
+usually_valid p plan operators valid = search (arith, named, leads_on_numbers)
 
 lead_there : (p : Parts) (plan : PlanParts) (operators : List ℕ) (valid : IsValid p plan operators)
     → OperatorsLead p (FastDownwardStep p) valid.leads.initial operators valid.last
 lead_there p plan operators valid = led_on p (FastDownwardStep p) (step_there p) valid.leads.initial plan.steps operators valid.last valid.leads.goes
 
 pub valid_there : ValidInFastDownward
-valid_there p plan operators valid = record {
-  initial = valid.leads.initial;
-  starts = valid.leads.starts;
-  last = valid.last;
-  lead = lead_there p plan operators valid;
-  goal = valid.goal;
-}
+valid_there p plan operators valid = search (arith, lead_there)
 
 -- in Fast Downward the same operators lead to one state
 one_end : (p : Parts) → IsLayered p → (s : List ℕ) (operators a b : List ℕ) → OperatorsLead p (FastDownwardStep p) s operators a → OperatorsLead p (FastDownwardStep p) s operators b → a ≡ b

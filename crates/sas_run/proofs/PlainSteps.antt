@@ -1,5 +1,6 @@
 -- Making changes on different variables one after another.
-use Rattle.sas_run.proofs.Imports.{◌≡◌, ◌≢◌, ℕ, ◌+◌, ◌<◌, List, [], ◌∷◌, ◌++◌, length, get_or, set, Option, None, Some, sym, ◌∙◌, ap, subst, arith, filter_map, option_map, All, cons_option, cases_eq, get_or-set_same, get_or-set_other, get_or-map, length-map, All-nil, All-cons, All-head, All-tail, All-map, All-append, All-weaker, same_Some, Replaces, AreMade, IsPlainStep, OldHolds, IsApplied, Change, Effect, Fact, Operator, Parts, plain_effect, plain_effects, change_of, operator_at, effect_at, HasValue, IsState, WellRanged, IsBasic, IsLayered, Holds, AllHold, preconditions, old_fact, Fires, fact_within, state_set, no_effect, as_many_effects, effect_is_plain}
+use Rattle.std.proofs.lemmas.Grind.{common_steps}
+use Rattle.sas_run.proofs.Imports.{◌≡◌, ◌≢◌, ℕ, ◌+◌, ◌<◌, List, [], ◌∷◌, ◌++◌, length, get_or, set, Option, None, Some, sym, ◌∙◌, ap, subst, arith, filter_map, option_map, All, cons_option, cases_eq, get_or-set_same, get_or-set_other, get_or-map, length-map, All-nil, All-cons, All-head, All-tail, All-map, same_Some, Replaces, AreMade, IsPlainStep, OldHolds, IsApplied, Change, Effect, Fact, Operator, Parts, plain_effect, plain_effects, change_of, operator_at, effect_at, HasValue, IsState, WellRanged, IsBasic, IsLayered, Holds, AllHold, preconditions, old_fact, Fires, fact_within, state_set, no_effect, as_many_effects, effect_is_plain}
 use Rattle.sas_run.specs.PlainSteps.{AreApart}
 use Rattle.sas_run.proofs.NextStates.{effects_fit, effects_basic}
 use Rattle.sas_run.proofs.Deleted.{all_front, all_behind, DeletedSoFar, deleted_more}
@@ -38,11 +39,7 @@ module _ (p : Parts) (s s' : List ℕ) (changes : List Change) (n : ℕ) (made :
   another var not same = not n no_change (omega arith) (ap (λ (c : Change). c.var) (at no_change) ∙ sym same)
 
   pub one_more_made : HasValue p.variables change.var change.new → MadeSoFar p s changes (n + 1) (set s' change.var change.new)
-  one_more_made fits = record {
-    state = state_set p s' change.var change.new made.state fits;
-    set = now_set;
-    kept = λ var not. get_or-set_other s' change.var var change.new 0 (another var not) ∙ made.kept var (fewer var not);
-  }
+  one_more_made fits = grind (arith, state_set, set, now_set, get_or-set_other, another, fewer)
 
   -- what it deletes
   pub one_more_deleted : (deleted : List Fact) → DeletedSoFar p (Untouched changes n) n s s' deleted → IsBasic p change.var → (deleted' : List Fact)
@@ -78,8 +75,7 @@ module _ (p : Parts) (operator : ℕ) (exists : operator < length p.operators) (
       (effects_fit p operator ranged exists)
 
   pub changes_within : WellRanged p → All (λ (c : Change). c.var < length p.variables) changes
-  changes_within ranged = All-weaker (λ (c : Change). HasValue p.variables c.var c.new) (λ (c : Change). c.var < length p.variables)
-      (λ c fits. fact_within p c.var c.new fits) changes (changes_fit ranged)
+  changes_within ranged = grind (arith, length, fact_within, changes_fit)
 
   pub changes_basic : IsLayered p → All (λ (c : Change). IsBasic p c.var) changes
   changes_basic layered = of_changes (operator_at p operator) changes effects (λ (e : Effect). IsBasic p e.var) (effects_basic p operator layered exists)
@@ -128,17 +124,14 @@ preconditions_are o changes effects = ap (λ (es : List Effect). o.prevail ++ fi
 
 module _ (s : List ℕ) (o : Operator) (changes : List Change) (effects : o.effects ≡ plain_effects changes) where
   pub met : AllHold (λ v. get_or s v 0) o.prevail → All (OldHolds s) changes → AllHold (λ v. get_or s v 0) (preconditions o)
-  met prevail olds = subst (AllHold (λ v. get_or s v 0)) (sym (preconditions_are o changes effects))
-      (All-append (Holds (λ v. get_or s v 0)) o.prevail (filter_map old_fact (plain_effects changes)) prevail (olds_hold s changes olds))
+  met prevail olds = grind (arith, common_steps, get_or, preconditions_are, filter_map, old_fact, plain_effects, olds_hold)
 
   pub prevail_met : AllHold (λ v. get_or s v 0) (preconditions o) → AllHold (λ v. get_or s v 0) o.prevail
-  prevail_met all = all_front (Holds (λ v. get_or s v 0)) o.prevail (filter_map old_fact (plain_effects changes))
-      (subst (AllHold (λ v. get_or s v 0)) (preconditions_are o changes effects) all)
+  prevail_met all = search (arith, all_front, get_or, filter_map, old_fact, plain_effects, preconditions_are)
 
   pub olds_met : AllHold (λ v. get_or s v 0) (preconditions o) → All (OldHolds s) changes
   olds_met all = olds_held s changes (all_behind (Holds (λ v. get_or s v 0)) o.prevail (filter_map old_fact (plain_effects changes))
       (subst (AllHold (λ v. get_or s v 0)) (preconditions_are o changes effects) all))
 
   pub prevail_within : (n : ℕ) → All (λ (f : Fact). f.var < n) (preconditions o) → All (λ (f : Fact). f.var < n) o.prevail
-  prevail_within n all = all_front (λ (f : Fact). f.var < n) o.prevail (filter_map old_fact (plain_effects changes))
-      (subst (All (λ (f : Fact). f.var < n)) (preconditions_are o changes effects) all)
+  prevail_within n all = search (arith, all_front, filter_map, old_fact, plain_effects, preconditions_are)

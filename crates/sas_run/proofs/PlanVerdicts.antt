@@ -1,9 +1,9 @@
 -- A plan of a layered task is valid in one way, or has exactly one fault.
 use Rattle.std.proofs.Math.Numerals.{add-one}
-use Rattle.sas_run.proofs.Imports.{◌≡◌, ℕ, zero, suc, ◌+◌, ◌≤◌, ◌⊎◌, List, [], ◌∷◌, ◌++◌, length, take, get_or, slice_index, Option, None, Some, refl, sym, ◌∙◌, ap, inl, inr, arith, cases_eq, cases_lt, take_all, take_more, same_Some, Parts, PlanParts, IsState, WellRanged, IsLayered, initial_exists, PlanFault, Memory, NoOperator, NotApplicable, Conflict, GoalMissed, CostDiffers, SomeVerdict, ValidHasNoFault, ValidIsOne, FaultIsOne, LeadsTo, cost_of_all, IsValid, StepFails, ComesTo, IsFaultOf, IsFinalVerdict}
+use Rattle.sas_run.proofs.Imports.{◌≡◌, ℕ, zero, suc, ◌+◌, ◌≤◌, ◌⊎◌, List, [], ◌∷◌, ◌++◌, length, take, get_or, slice_index, Option, None, Some, refl, sym, ◌∙◌, ap, inl, inr, arith, cases_eq, cases_lt, take_all, take_more, same_Some, Parts, PlanParts, IsState, WellRanged, IsLayered, initial_exists, PlanFault, Memory, NoOperator, NotApplicable, Conflict, GoalMissed, CostDiffers, SomeVerdict, ValidHasNoFault, ValidIsOne, FaultIsOne, LeadsTo, cost_of_all, IsValid, ComesTo, IsFaultOf, IsFinalVerdict}
 use Rattle.sas_run.proofs.Choosing.{named_or_none, chosen_or_none, hold_or_missed, first_missed_is_one, none_missed}
 use Rattle.sas_run.proofs.Determined.{chosen_is_one, GoesOn, leads_one_way, comes_on, comes_past, comes_one_way}
-use Rattle.sas_run.proofs.Endings.{stops_there, ends_faulty}
+use Rattle.sas_run.proofs.Endings.{StepFails, stops_there, ends_faulty}
 use Rattle.sas_run.proofs.Going.{leads_one_more}
 use Rattle.sas_run.proofs.NextStates.{step_or_conflict}
 use Rattle.sas_run.proofs.PlanStates.{leads_to_rest}

@@ -1,5 +1,6 @@
 -- The operators of a task and their effects are well ranged, and their variables exist.
-use Rattle.sas_run.proofs.Imports.{◌≡◌, ℕ, ◌<◌, List, [], ◌∷◌, length, Option, None, Some, sym, subst, filter_map, option_map, All, AllByRecursion, cons_option, All-append, All-weaker, All-from_recursion, Fact, Variable, FactExists, MayHaveValue, Effect, Parts, Change, change_of, operator_at, effect_at, WellRanged, EffectFits, old_fact, preconditions, fact_within, operator_fits, effect_fits}
+use Rattle.std.proofs.lemmas.Grind.{common_steps}
+use Rattle.sas_run.proofs.Imports.{arith, ◌≡◌, ℕ, ◌<◌, List, [], ◌∷◌, length, Option, None, Some, sym, subst, filter_map, option_map, All, AllByRecursion, cons_option, Fact, Variable, FactExists, MayHaveValue, Effect, Parts, Change, change_of, operator_at, effect_at, WellRanged, EffectFits, old_fact, preconditions, fact_within, operator_fits, effect_fits}
 
 -- the old values that effects require exist
 old_facts_exist : (variables : List Variable) (effects : List Effect) → AllByRecursion (EffectFits variables) effects
@@ -25,13 +26,8 @@ module _ (p : Parts) (ranged : WellRanged p) (operator : ℕ) (exists : operator
   -- and so do those of its conditions
   pub conditions_within : (effect : ℕ) → effect < length (operator_at p operator).effects
       → All (λ (f : Fact). f.var < length p.variables) (effect_at (operator_at p operator) effect).conditions
-  conditions_within effect lt = All-weaker (FactExists p.variables) (λ (f : Fact). f.var < length p.variables) (λ f is. fact_within p f.var f.value is) (effect_at (operator_at p operator) effect).conditions
-      (All-from_recursion (FactExists p.variables) (effect_at (operator_at p operator) effect).conditions (effect_fits p ranged operator exists effect lt).conditions.each)
+  conditions_within effect lt = grind (arith, common_steps, length, fact_within, effect_at, operator_at, effect_fits)
 
   -- the variables of its preconditions exist
   pub preconditions_within : All (λ (f : Fact). f.var < length p.variables) (preconditions (operator_at p operator))
-  preconditions_within = All-weaker (FactExists p.variables) (λ (f : Fact). f.var < length p.variables) (λ f is. fact_within p f.var f.value is) (preconditions (operator_at p operator))
-      (All-append (FactExists p.variables) (operator_at p operator).prevail (filter_map old_fact (operator_at p operator).effects)
-      (All-from_recursion (FactExists p.variables) (operator_at p operator).prevail (operator_fits p ranged operator exists).prevail.each)
-      (All-from_recursion (FactExists p.variables) (filter_map old_fact (operator_at p operator).effects)
-      (old_facts_exist p.variables (operator_at p operator).effects (operator_fits p ranged operator exists).effects.each)))
+  preconditions_within = grind (arith, common_steps, length, fact_within, preconditions, operator_at, filter_map, old_fact, operator_fits, old_facts_exist)

@@ -1,8 +1,8 @@
 -- Executable steps are those of exactly one run. Laws about runs.
 use Rattle.std.proofs.lemmas.Grind.{common_steps}
-use Rattle.sas_run.proofs.Imports.{◌≡◌, ℕ, zero, suc, ◌+◌, ◌-◌, ◌<◌, ◌≤◌, List, [], ◌∷◌, ◌++◌, length, take, get_or, refl, sym, ◌∙◌, ap, subst, arith, All, take-append_seam, get_or-append_seam, same_lists, take_all, take_more, get_or_default, get_or-take, Parts, PlanParts, IsState, IsLayered, IsInitial, IsSettled, LeadFrom, LeadsTo, MakesStep, PlanFault, Memory, NoOperator, NotApplicable, Conflict, GoalMissed, CostDiffers, Run, state_at, last_state, StepsSucceed, steps_before, ComesTo, IsFaultOf, SomeRun, OneRun}
+use Rattle.sas_run.proofs.Imports.{◌≡◌, ℕ, zero, suc, ◌+◌, ◌-◌, ◌<◌, ◌≤◌, List, [], ◌∷◌, ◌++◌, length, take, get_or, refl, sym, ◌∙◌, ap, subst, arith, All, take-append_seam, get_or-append_seam, same_lists, take_all, take_more, get_or_default, get_or-take, Parts, PlanParts, IsState, IsLayered, IsInitial, IsSettled, LeadFrom, LeadsTo, PlanFault, Memory, NoOperator, NotApplicable, Conflict, GoalMissed, CostDiffers, Run, state_at, last_state, StepsSucceed, steps_before, ComesTo, IsFaultOf, SomeRun, OneRun}
 use Rattle.sas_run.proofs.Determined.{leads_on, leads_one_way, initial_is_one}
-use Rattle.sas_run.proofs.Going.{leads_one_more, length_of_take}
+use Rattle.sas_run.proofs.Going.{MakesStep, leads_one_more, length_of_take}
 use Rattle.sas_run.proofs.PlanStates.{leads_to_rest, leads_by}
 
 -- the states to which steps from s lead
@@ -96,15 +96,11 @@ module _ (p : Parts) (run : Run) (through : StepsSucceed p run) where
 
   -- the first one is the initial state
   pub first_state : (s : List ℕ) → IsLayered p → IsInitial p s → s ≡ state_at run 0
-  first_state s layered starts =
-      let leads = through.leads 0 (omega arith) in
-      initial_is_one p layered s leads.initial starts leads.starts ∙ sym leads.goes
+  first_state s layered starts = grind (arith, initial_is_one)
 
   -- all steps lead to the last one
   pub leads_to_last : LeadsTo p run.steps run.operators (last_state run)
-  leads_to_last =
-      rw (take_all (length run.steps) run.steps (omega arith), take_all (length run.steps) run.operators (omega (arith, through.operators)))
-      at (through.leads (length run.steps) (omega arith))
+  leads_to_last = grind (arith, take_all, length)
 
   pub last_rests : IsState p.variables (last_state run) × IsSettled p (last_state run)
   last_rests = leads_to_rest p run.steps run.operators (last_state run) leads_to_last
@@ -131,11 +127,7 @@ module _ (p : Parts) (run : Run) (through : StepsSucceed p run) (layered : IsLay
         (leads_one_more p (take k run.steps) (take k run.operators) (state_at run k) name operator next leads_here on)
 
     same_operator : operator ≡ get_or run.operators k 0
-    same_operator =
-        let long : k < length run.operators = omega (arith, through.operators) in
-        let at_end : k ≡ length (take k run.operators) = sym (length_of_take run.operators k long) in
-        sym (ap (λ n. get_or (take k run.operators ++ operator ∷ []) n 0) at_end ∙ get_or-append_seam (take k run.operators) operator [] 0)
-        ∙ (ap (λ (os : List ℕ). get_or os k 0) (sym same.0) ∙ get_or-take (k + 1) run.operators k 0 (omega arith))
+    same_operator = grind (arith, common_steps, length, take, length_of_take, get_or, get_or-append_seam, same, get_or-take)
 
   -- each step leads, by its operator, to the next state
   pub run_goes : MakesStep p (state_at run k) name (get_or run.operators k 0) (state_at run (k + 1))

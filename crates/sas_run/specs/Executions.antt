@@ -1,21 +1,22 @@
 -- Executions of plans.
-use Rattle.std.specs.Prelude.{◌≡◌, ℕ, ◌+◌, ◌≤◌, [], IsTrue, List, length, Option, slice_index, slice_index_or, vec_capacity}
+use Rattle.std.specs.Prelude.{◌≡◌, ℕ, ◌+◌, ◌<◌, ◌≤◌, [], IsTrue, List, length, Option, slice_index, slice_index_or, vec_capacity}
 use Rattle.sas_core.specs.declared.parts.Fact.{Fact}
 use Rattle.sas_core.specs.declared.parts.Parts.{Parts}
 use Rattle.sas_core.specs.Grounded.{operator_at}
 use Rattle.sas_core.specs.PlanParts.{PlanParts}
 use Rattle.sas_meaning.specs.declared.changed_variables.ChangedVariables.{ChangedVariables}
 use Rattle.sas_meaning.specs.Steps.{Step}
-use Rattle.sas_run.specs.Chains.{AreStepOperators}
+use Rattle.sas_names.specs.Chains.{AreStepOperators}
+use Rattle.sas_names.specs.Named.{IsNamed}
 use Rattle.sas_run.specs.declared.plan_check.PlanFault.{PlanFault}
 use Rattle.sas_run.specs.declared.progress.Progress.{Progress}
-use Rattle.sas_run.specs.declared.step_operators.StepOperators.{StepOperators}
+use Rattle.sas_names.specs.declared.step_operators.StepOperators.{StepOperators}
 use Rattle.sas_run.specs.declared.stepper.Stepper.{Stepper}
+use Rattle.sas_run.specs.declared.long_chains.LongChains.{LongChains}
 use Rattle.sas_run.specs.LongChains.{AreLongChains}
-use Rattle.sas_run.specs.Nameless.{nameless_steps}
 use Rattle.sas_run.specs.Plans.{IsChosen}
 use Rattle.sas_run.specs.Runs.{Run, state_at, IsRunOf, RunEndsWith}
-use Rattle.sas_run.specs.Stepping.{IsPrepared, ListsChanges}
+use Rattle.sas_run.specs.Stepping.{IsAt, ListsChanges}
 
 -- The task, the plan, the operators of the steps that are known to succeed, how many of these steps
 -- have been made, and the current state. Then what the last step changed: the facts that it made
@@ -36,6 +37,11 @@ next_name e = slice_index_or e.plan.steps e.made []
 -- the operator of the next step
 abbrev pub next_operator : Executed → ℕ
 next_operator e = slice_index e.operators e.made
+
+-- none of these operators has another of its name above it
+abbrev pub HaveNoNamesakes : Parts → List ℕ → Type 0
+HaveNoNamesakes p operators = (k later : ℕ) → k < length operators → slice_index operators k < later
+    → IsNamed p (operator_at p (slice_index operators k)).name later → ⊥
 
 -- no step is known to succeed yet
 pub record IsNew (p : Parts) (plan : PlanParts) (e : Executed) : Type 0 where
@@ -87,13 +93,11 @@ executed_of p plan stepper progress made = record {
 -- the invariant of an execution: everything that the next steps need is known
 pub record IsExecuting {E : Type 0} (Ready : E → Parts → Type 0)
     (Follows : E → Parts → List ℕ → Type 0) (p : Parts) (plan : PlanParts) (stepper : Stepper E)
-    (found : StepOperators) (progress : Progress) (made : ℕ) : Type 0 where
-  pub prepared : IsPrepared Ready p stepper
+    (found : StepOperators) (long : LongChains) (progress : Progress) (made : ℕ) : Type 0 where
+  pub at : IsAt Ready Follows p stepper progress.state
   pub noted : IsTrue stepper.deleted.noted
-  pub follows : Follows stepper.evaluator p progress.state
-  pub operators : AreStepOperators p plan.steps found.firsts.items found.next.items
-  pub nameless : found.nameless ≡ nameless_steps p plan.steps
-  pub long : AreLongChains p found.long
+  pub operators : AreStepOperators p plan.steps found.firsts.items found.nexts.items
+  pub chains : AreLongChains p long
   pub room : length plan.steps ≤ vec_capacity progress.operators
   pub run : Run
   pub executes : Executes run (executed_of p plan stepper progress made)

@@ -1,13 +1,4 @@
 -- The modules that public contracts cite.
-pub mod Named
-pub mod Nameless
-pub mod Names
-pub mod Likely
-pub mod NameDigest
-pub mod NameTable
-pub mod Shapes
-pub mod StepNames
-pub mod Chains
 pub mod ValueGroups
 pub mod LongChains
 pub mod Plans
@@ -19,9 +10,9 @@ pub mod OtherSensesLaws
 pub mod Runs
 pub mod Running
 pub mod Choosers
+pub mod Checkers
 pub mod NumberFaults
 pub mod Given
 pub mod PlainSteps
 pub mod Stepping
-pub mod Deletions
 pub mod Executions

@@ -9,7 +9,7 @@ use Rattle.sas_meaning.specs.Steps.{preconditions}
 use Rattle.sas_run.specs.declared.long_chains.LongChain.{LongChain}
 use Rattle.sas_run.specs.declared.long_chains.LongChains.{LongChains}
 use Rattle.sas_run.specs.ValueGroups.{AreValueGroups}
-use Rattle.sas_run.specs.Named.{IsNamed}
+use Rattle.sas_names.specs.Named.{IsNamed}
 use Rattle.sas_run.specs.Plans.{IsApplicable}
 
 -- a precondition of the operator requires this value of the variable

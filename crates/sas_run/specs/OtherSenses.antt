@@ -8,7 +8,7 @@ use Rattle.sas_core.specs.PlanParts.{PlanParts}
 use Rattle.sas_meaning.specs.States.{AllHold}
 use Rattle.sas_meaning.specs.InitialStates.{IsInitial}
 use Rattle.sas_run.specs.ByNumbers.{OperatorsLead, IsValidByNumbers}
-use Rattle.sas_run.specs.Named.{IsNamed}
+use Rattle.sas_names.specs.Named.{IsNamed}
 
 -- the plan is valid in the usual sense: these operators have the names of its steps, and are a valid
 -- plan of its cost

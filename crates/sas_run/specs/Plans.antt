@@ -8,7 +8,7 @@ use Rattle.sas_core.specs.Tasks.{cost_of}
 use Rattle.sas_meaning.specs.States.{AllHold}
 use Rattle.sas_meaning.specs.Steps.{preconditions, Step}
 use Rattle.sas_meaning.specs.InitialStates.{IsInitial}
-use Rattle.sas_run.specs.Named.{IsNamed}
+use Rattle.sas_names.specs.Named.{IsNamed}
 
 -- an operator is applicable in a state if its preconditions hold there
 abbrev pub IsApplicable : List ℕ → Operator → Type 0

@@ -9,7 +9,7 @@ use Rattle.sas_core.specs.PlanParts.{PlanParts}
 use Rattle.sas_core.specs.Variables.{IsState}
 use Rattle.sas_meaning.specs.States.{AllHold}
 use Rattle.sas_meaning.specs.Steps.{preconditions, Fires, Agree, Step}
-use Rattle.sas_run.specs.Named.{IsNamed}
+use Rattle.sas_names.specs.Named.{IsNamed}
 use Rattle.sas_run.specs.declared.plan_check.PlanFault.{PlanFault}
 use Rattle.sas_run.specs.declared.plan_check.PlanFault.TheVariants as plan_fault
 use Rattle.sas_run.specs.declared.plan_check.Valid.{Valid}
@@ -104,11 +104,6 @@ abbrev pub IsGoalAnswer : List ℕ → List Fact → Option ℕ → Type 0
 IsGoalAnswer s goal None = AllHold (slice_index s) goal
 IsGoalAnswer s goal (Some index) = IsFirstMissed (slice_index s) goal index
 
--- the name means this operator in the state s, and its step leads to s'
-pub record MakesStep (p : Parts) (s name : List ℕ) (operator : ℕ) (s' : List ℕ) : Type 0 where
-  pub chosen : IsChosen p s name operator
-  pub step : Step p s (operator_at p operator) s'
-
 -- The fault says why the step with this number, counted from 1, fails in the state s. `Means` holds
 -- for what it means there.
 abbrev pub StepFailsBy : Parts → (Choice → Type 0) → List ℕ → ℕ → PlanFault → Type 0
@@ -118,10 +113,6 @@ StepFailsBy p Means s step (plan_fault.Conflict at operator) = (at ≡ step)
     × Means (Found operator)
     × (Agree s (operator_at p operator).effects → ⊥)
 StepFailsBy p Means s step _ = ⊥
-
--- the same for a step with this name
-abbrev pub StepFails : Parts → List ℕ → List ℕ → ℕ → PlanFault → Type 0
-StepFails p s name = StepFailsBy p (IsChoice p s name) s
 
 -- The verdict after the last step: nothing fails if the goal holds and the operators' costs add up
 -- to `cost`. Otherwise it is the first fact of the goal that doesn't hold, or the sum of the costs.

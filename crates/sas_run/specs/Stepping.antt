@@ -1,17 +1,19 @@
 -- When a stepper is ready for a task, and what it lists after a step.
-use Rattle.std.specs.Prelude.{◌≡◌, ◌≢◌, ◌⊎◌, ℕ, ◌<◌, List, length, All, Contains, IsTrue, IsFalse, slice_index, count_by, is_some}
+use Rattle.std.specs.Prelude.{◌≡◌, ◌≢◌, ◌⊎◌, ℕ, ◌<◌, ◌≤◌, List, [], length, All, Contains, IsTrue, IsFalse, slice_index, count_by, is_some, vec_capacity}
 use Rattle.std.specs.List.{AllPairs}
 use Rattle.sas_core.specs.declared.parts.Fact.{Fact}
 use Rattle.sas_core.specs.declared.parts.Parts.{Parts}
 use Rattle.sas_core.specs.declared.parts.Variable.{Variable}
 use Rattle.sas_core.specs.Grounded.{operator_at}
-use Rattle.sas_core.specs.Variables.{IsDerived}
+use Rattle.sas_core.specs.Variables.{IsDerived, IsState}
 use Rattle.sas_meaning.specs.declared.changed_variables.ChangedVariables.{ChangedVariables}
+use Rattle.sas_meaning.specs.InitialStates.{IsInitial}
 use Rattle.sas_meaning.specs.Layers.{IsBasic}
 use Rattle.sas_meaning.specs.States.{AllHold}
 use Rattle.sas_meaning.specs.ChangedVariables.{MayHaveChanged}
+use Rattle.sas_run.specs.declared.progress.Progress.{Progress}
 use Rattle.sas_run.specs.declared.stepper.Stepper.{Stepper}
-use Rattle.sas_run.specs.Deletions.{DeletedHasRoom}
+use Rattle.sas_run.specs.PlainSteps.{DeletedHasRoom}
 use Rattle.sas_run.specs.Given.{NothingGiven}
 
 -- The evaluator is ready, and no value is given. If deleted facts are noted, each operator's
@@ -24,10 +26,19 @@ pub record IsPrepared {E : Type 0} (Ready : E → Parts → Type 0) (p : Parts) 
       → DeletedHasRoom w.deleted (length (operator_at p operator).effects)
   pub basic : IsFalse w.deleted.noted → (var : ℕ) → IsBasic p var
 
--- if deleted facts are noted, this is the state that the evaluator settled last
-abbrev pub Follows : {E : Type 0} → (E → Parts → List ℕ → Type 0) → Parts → Stepper E → List ℕ
-    → Type 0
-Follows follows p w s = IsTrue w.deleted.noted → follows w.evaluator p s
+-- The stepper is ready for a step from the state s. If deleted facts are noted, the evaluator settled
+-- s last.
+pub record IsAt {E : Type 0} (Ready : E → Parts → Type 0) (Follows : E → Parts → List ℕ → Type 0)
+    (p : Parts) (w : Stepper E) (s : List ℕ) : Type 0 where
+  pub prepared : IsPrepared Ready p w
+  pub follows : IsTrue w.deleted.noted → Follows w.evaluator p s
+  pub state : IsState p.variables s
+
+-- the progress before the first of so many steps
+pub record IsStart (p : Parts) (steps : ℕ) (progress : Progress) : Type 0 where
+  pub initial : IsInitial p progress.state
+  pub none : progress.operators.items ≡ []
+  pub room : steps ≤ vec_capacity progress.operators
 
 -- how many derived variables the task has
 abbrev pub derived_variable_count : Parts → ℕ

@@ -1,11 +1,14 @@
 // What the steps of a plan mean: by their names, or by numbers.
 ghost use Rattle.std.specs.Prelude.{⊤, length, slice_index};
-ghost use Rattle.sas_run.specs.Choosers.{AreLowest, IsNumberChoice, MeansByName};
+ghost use Rattle.sas_core.specs.Stepwise.{step_at};
+ghost use Rattle.sas_names.specs.Chains.{AreStepOperators};
+ghost use Rattle.sas_run.specs.Choosers.{IsNumberChoice};
 ghost use Rattle.sas_run.specs.LongChains.{AreLongChains};
+ghost use Rattle.sas_run.specs.Running.{IsChoice};
 
-use crate::runner::{Choice, is_applicable, later_applicable};
-use crate::step_operators::{NameChains, PlanOperators};
-use sas_core::Grounded;
+use crate::long_chains::LongChains;
+use crate::runner::{Choice, is_applicable};
+use sas_core::{Grounded, Stepwise};
 use sas_meaning::{Layered, State};
 
 /// Chooses the operators of a plan's steps. Steps are counted from 0.
@@ -22,12 +25,19 @@ pub trait Chooser<T: Grounded> {
     /// For how many steps it chooses.
     ghost count: { Self → ℕ };
 
+    /// The plan's cost.
+    ghost costs: { Self → ℕ };
+
     /// What the step means in the state.
     ghost means: { Self → Parts → ℕ → List ℕ → Choice → Type 0 };
 
     /// Returns for how many steps it chooses.
     fn steps(&self) -> usize
         ensures { result ≡ count self.now };
+
+    /// Returns the plan's cost.
+    fn cost(&self) -> u64
+        ensures { result ≡ costs self.now };
 
     /// Returns what the step means in the state.
     fn choose(&self, task: &Layered<T>, state: &State, step: usize) -> Choice
@@ -38,49 +48,47 @@ pub trait Chooser<T: Grounded> {
         ensures possible { IsPossible task.now state.now result };
 }
 
+/// A plan with the operators of its steps' names, borrowed.
+#[derive(Drop)]
+pub struct NamedPlan<'f, P: Stepwise> {
+    pub plan: &'f P,
+    /// The lowest operator of the name of each step, if any.
+    pub firsts: &'f [Option<u32>],
+    /// The next operator of the same name, for each operator of one of these names.
+    pub nexts: &'f [Option<u32>],
+    /// The long chains of operators of one name.
+    pub long: &'f LongChains,
+}
+
 /// By name: a step means the lowest applicable operator of its name.
-impl<'f, T: Grounded> Chooser<T> for NameChains<'f> {
-    ghost ready = { λ found p. AreLowest p found.firsts.now found.nexts.now };
+impl<'f, T: Grounded, P: Stepwise> Chooser<T> for NamedPlan<'f, P> {
+    ghost ready = { λ named p. AreStepOperators p (P.says named.plan.now).steps
+        named.firsts.now named.nexts.now × AreLongChains p named.long.now };
 
-    ghost count = { λ found. length found.firsts.now };
+    ghost count = { λ named. length (P.says named.plan.now).steps };
 
-    ghost means = { λ found p. MeansByName p found.firsts.now };
+    ghost costs = { λ named. (P.says named.plan.now).cost };
+
+    ghost means = { λ named p step s. IsChoice p s (step_at (P.says named.plan.now) step) };
 
     fn steps(&self) -> usize {
-        self.firsts.len()
+        self.plan.steps()
+    }
+
+    fn cost(&self) -> u64 {
+        self.plan.cost()
     }
 
     #[inline(always)]
     fn choose(&self, task: &Layered<T>, state: &State, step: usize) -> Choice {
-        let first = self.firsts[step];
+        let Some(first) = self.firsts[step] else {
+            return Choice::Unknown;
+        };
         if is_applicable(task, state, first) {
             return Choice::Found(first);
         }
-        // The list is read only here, so that a step of an ordinary plan has more registers.
-        match later_applicable(task, self.nexts, state, first) {
-            Some(operator) => Choice::Found(operator),
-            None => Choice::Blocked,
-        }
-    }
-}
-
-/// By name, too: among the operators of a long chain, only those that may be applicable are tried.
-impl<'f, T: Grounded> Chooser<T> for PlanOperators<'f> {
-    ghost ready = { λ found p. AreLowest p found.chains.firsts.now found.chains.nexts.now
-        × AreLongChains p found.long.now };
-
-    ghost count = { λ found. length found.chains.firsts.now };
-
-    ghost means = { λ found p. MeansByName p found.chains.firsts.now };
-
-    fn steps(&self) -> usize {
-        self.chains.firsts.len()
-    }
-
-    #[inline(always)]
-    fn choose(&self, task: &Layered<T>, state: &State, step: usize) -> Choice {
-        let NameChains { firsts, nexts } = self.chains;
-        match self.long.first_applicable(task, nexts, state, firsts[step]) {
+        // The lists are read only here, so that a step of an ordinary plan has more registers.
+        match self.long.later_applicable(task, self.nexts, state, first) {
             Some(operator) => Choice::Found(operator),
             None => Choice::Blocked,
         }
@@ -100,10 +108,16 @@ impl<'n, T: Grounded> Chooser<T> for NumberedPlan<'n> {
 
     ghost count = { λ plan. length plan.operators.now };
 
+    ghost costs = { λ plan. plan.cost };
+
     ghost means = { λ plan p step s. IsNumberChoice p s (slice_index plan.operators.now step) };
 
     fn steps(&self) -> usize {
         self.operators.len()
+    }
+
+    fn cost(&self) -> u64 {
+        self.cost
     }
 
     #[inline(always)]

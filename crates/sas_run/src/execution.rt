@@ -1,18 +1,20 @@
 // Executions of plans.
-ghost use Rattle.std.specs.Prelude.{◌≡◌, ◌<◌, [], length, IfOk};
+ghost use Rattle.std.specs.Prelude.{◌≡◌, ◌<◌, ℕ, [], length, All, IfOk, IsFalse, None, slice_index_or};
 ghost use Rattle.sas_core.specs.Variables.{IsState};
-ghost use Rattle.sas_run.specs.Nameless.{nameless_steps};
+ghost use Rattle.sas_names.specs.Nameless.{nameless_steps};
 ghost use Rattle.sas_run.specs.Running.{IsLaterIfAny};
 ghost use Rattle.sas_run.specs.Runs.{Run};
-ghost use Rattle.sas_run.specs.Executions.{IsNew, Executes, IsFound, Advances, next_operator};
+ghost use Rattle.sas_run.specs.Executions.{IsNew, Executes, IsFound, Advances, next_operator, HaveNoNamesakes};
 
-use crate::StepOperators;
+use crate::choosers::NamedPlan;
+use crate::long_chains::LongChains;
 use crate::plan_check::{PlanFault, find_fault};
 use crate::progress::Progress;
 use crate::runner::later_applicable;
-use crate::stepper::{Stepper, go_back, go_on_from, stepper_listing};
+use crate::stepper::{Stepper, go_back, go_on_from, stepper_for};
 use sas_core::{Fact, Grounded, Stepwise};
 use sas_meaning::{ChangedVariables, Layered, Settle, State};
+use sas_names::{StepOperators, next_in};
 use std::alloc::{AllocError, Global};
 use std::marker::Model;
 
@@ -24,6 +26,7 @@ pub struct Execution<'t, 'p, E: Settle<T> + Drop, T: Grounded, P: Stepwise> {
     plan: &'p P,
     stepper: Stepper<E>,
     found: StepOperators,
+    long: LongChains,
     progress: Progress,
     made: usize,
 }
@@ -35,11 +38,13 @@ impl<'t, 'p, E: Settle<T> + Drop, T: Grounded, P: Stepwise> Drop for Execution<'
             plan: _,
             stepper,
             found,
+            long,
             progress,
             made: _,
         } = self;
         drop(stepper);
         drop(found);
+        drop(long);
         drop(progress);
     }
 }
@@ -52,7 +57,7 @@ impl<'t, 'p, E: Settle<T> + Drop, T: Grounded, P: Stepwise> Model for Execution<
     ghost view = { λ e. executed_of e.layered.now (P.says e.plan.now) e.stepper e.progress e.made };
 
     ghost invariant = { λ e. IsExecuting E.ready E.follows e.layered.now (P.says e.plan.now)
-        e.stepper e.found e.progress e.made };
+        e.stepper e.found e.long e.progress e.made };
 }
 
 impl<'t, 'p, E: Settle<T> + Drop, T: Grounded, P: Stepwise> Execution<'t, 'p, E, T, P> {
@@ -67,16 +72,19 @@ impl<'t, 'p, E: Settle<T> + Drop, T: Grounded, P: Stepwise> Execution<'t, 'p, E,
         requires { E.ready evaluator layered.now }
         ensures { IfOk result (IsNew layered.now (P.says plan.now)) }
     {
-        let Ok(mut stepper) = stepper_listing(alloc, layered, evaluator) else {
+        let Ok(mut stepper) = stepper_for(alloc, layered, evaluator, true) else {
             return Err(AllocError);
         };
-        let found = StepOperators::new(alloc, layered, plan, true)?;
+        let found = StepOperators::new(alloc, layered, plan)?;
+        let firsts = found.firsts.as_slice();
+        let long = LongChains::new(alloc, layered, firsts, found.nexts.as_slice())?;
         let progress = Progress::new(alloc, layered, &mut stepper, plan.steps())?;
         Ok(Execution {
             layered,
             plan,
             stepper,
             found,
+            long,
             progress,
             made: 0,
         })
@@ -100,7 +108,7 @@ impl<'t, 'p, E: Settle<T> + Drop, T: Grounded, P: Stepwise> Execution<'t, 'p, E,
     pub fn nameless(&self) -> usize
         ensures { result ≡ nameless_steps self.now.task self.now.plan.steps }
     {
-        self.found.nameless
+        self.found.nameless()
     }
 
     /// Returns the current state: the one after the steps made so far.
@@ -133,14 +141,13 @@ impl<'t, 'p, E: Settle<T> + Drop, T: Grounded, P: Stepwise> Execution<'t, 'p, E,
     {
         // By its contract the task is well ranged and layered.
         let _ = self.layered.task();
-        let found = self.found.found();
-        let fault = find_fault(
-            self.layered,
-            &mut self.stepper,
-            self.plan,
-            found,
-            &mut self.progress,
-        );
+        let named = NamedPlan {
+            plan: self.plan,
+            firsts: self.found.firsts.as_slice(),
+            nexts: self.found.nexts.as_slice(),
+            long: &self.long,
+        };
+        let fault = find_fault(self.layered, &mut self.stepper, &named, &mut self.progress);
         go_back(self.layered, &mut self.stepper, &mut self.progress.state);
         fault
     }
@@ -155,9 +162,21 @@ impl<'t, 'p, E: Settle<T> + Drop, T: Grounded, P: Stepwise> Execution<'t, 'p, E,
         let _ = self.layered.task();
         later_applicable(
             self.layered,
-            self.found.nexts(),
+            self.found.nexts.as_slice(),
             &self.progress.state,
             self.progress.operators[self.made],
+        )
+    }
+
+    /// Returns whether one of the steps that are known to succeed has another operator of its name above its own.
+    pub fn has_namesakes(&self) -> bool
+        ensures { IsFalse result → HaveNoNamesakes self.now.task self.now.operators }
+    {
+        // By its contract the task is well ranged and layered.
+        let _ = self.layered.task();
+        have_next(
+            self.progress.operators.as_slice(),
+            self.found.nexts.as_slice(),
         )
     }
 
@@ -191,9 +210,20 @@ impl<'t, 'p, E: Settle<T> + Drop, T: Grounded, P: Stepwise> Execution<'t, 'p, E,
             plan: _,
             stepper: _,
             found: _,
+            long: _,
             progress,
             made: _,
         } = self;
         (progress.operators, progress.state)
     }
+}
+
+/// Returns whether one of the operators has a next one in the list.
+fn have_next(operators: &[u32], nexts: &[Option<u32>]) -> bool
+    ensures { IsFalse result → All (λ (operator : ℕ).
+        slice_index_or nexts.now operator None ≡ None) operators.now }
+{
+    operators
+        .iter()
+        .any(|operator| next_in(nexts, *operator).is_some())
 }

@@ -3,17 +3,17 @@ ghost use Rattle.std.specs.Prelude.{◌≡◌, ◌<◌, All, length, IfOk, OnOk,
 ghost use Rattle.sas_core.specs.declared.parts.Parts.{Parts};
 ghost use Rattle.sas_core.specs.Grounded.{operator_at};
 ghost use Rattle.sas_core.specs.Variables.{IsState};
-ghost use Rattle.sas_run.specs.Chains.{IsChain, HaveChains};
+ghost use Rattle.sas_names.specs.Chains.{IsChain, HaveChains};
 ghost use Rattle.sas_run.specs.LongChains.{AreAll, AreLongChains, HaveValues, IsFirstAmong, IsLongChain, RequiresValue};
-ghost use Rattle.sas_run.specs.NameTable.{AreNames};
+ghost use Rattle.sas_names.specs.NameTable.{AreNames};
+ghost use Rattle.sas_run.specs.Plans.{IsApplicable};
 ghost use Rattle.sas_run.specs.Running.{IsFirstChosen};
 
-use crate::Names;
-use crate::chains::next_in;
-use crate::runner::{first_applicable, is_applicable};
+use crate::runner::{is_applicable, later_applicable};
 use crate::value_groups::ValueGroups;
 use sas_core::{Fact, Grounded};
 use sas_meaning::{Layered, Preconditions, State};
+use sas_names::{Names, next_in};
 use std::alloc::{AllocError, Global};
 use std::collections::BTreeMap;
 
@@ -95,11 +95,10 @@ impl LongChains {
     pub fn new<T: Grounded>(
         alloc: Global,
         layered: &Layered<T>,
-        firsts: &[u32],
+        firsts: &[Option<u32>],
         nexts: &[Option<u32>],
     ) -> Result<LongChains, AllocError>
-        requires exist { All (λ first. first < length layered.now.operators) firsts.now }
-        requires chains { HaveChains layered.now firsts.now nexts.now }
+        requires { HaveChains layered.now firsts.now nexts.now }
         ensures { IfOk result (AreLongChains layered.now) }
     {
         let mut long = LongChains::none(alloc);
@@ -107,7 +106,9 @@ impl LongChains {
             return Ok(long);
         }
         for first in firsts {
-            long.add(alloc, layered, *first, nexts)?;
+            if let Some(first) = *first {
+                long.add(alloc, layered, first, nexts)?;
+            }
         }
         Ok(long)
     }
@@ -157,15 +158,8 @@ impl LongChains {
         Ok(())
     }
 
-    /// Returns whether there is no long chain.
-    #[inline(always)]
-    pub fn is_empty(&self) -> bool {
-        self.chains.is_empty()
-    }
-
     /// Returns the first applicable operator, among this one and the later ones of the same name. `nexts` has, for each of them, the next
     /// one.
-    #[inline(never)]
     pub fn first_applicable<T: Grounded>(
         &self,
         task: &Layered<T>,
@@ -179,9 +173,32 @@ impl LongChains {
         requires state { IsState task.now.variables state.now }
         ensures { IsFirstChosen task.now state.now first result }
     {
+        if is_applicable(task, state, first) {
+            return Some(first);
+        }
+        self.later_applicable(task, nexts, state, first)
+    }
+
+    /// Does the same, if the first operator isn't applicable. It isn't inlined, since most steps need only the first operator of their name.
+    #[tactic(auto, using(crate::proofs::NamedAlike::chosen_later))]
+    #[inline(never)]
+    pub fn later_applicable<T: Grounded>(
+        &self,
+        task: &Layered<T>,
+        nexts: &[Option<u32>],
+        state: &State,
+        first: u32,
+    ) -> Option<u32>
+        requires long { AreLongChains task.now self.now }
+        requires chain { IsChain task.now first nexts.now }
+        requires first { first < length task.now.operators }
+        requires state { IsState task.now.variables state.now }
+        requires not_first { IsApplicable state.now (operator_at task.now first) → ⊥ }
+        ensures { IsFirstChosen task.now state.now first result }
+    {
         match self.chains.get(&first) {
             Some(chain) => chain.first_applicable(task, state),
-            None => first_applicable(task, nexts, state, first),
+            None => later_applicable(task, nexts, state, first),
         }
     }
 }

@@ -4,9 +4,8 @@ ghost use Rattle.std.specs.Prelude.{◌≡◌, ◌≢◌, ◌+◌, ◌<◌, leng
 ghost use Rattle.sas_core.specs.declared.grounded.Change.{Change};
 ghost use Rattle.sas_core.specs.Grounded.{operator_at};
 ghost use Rattle.sas_core.specs.Variables.{IsState};
-ghost use Rattle.sas_run.specs.Deletions.{DeletedHasRoom, NotesOn, NotesGone};
+ghost use Rattle.sas_run.specs.PlainSteps.{DeletedHasRoom, NotesOn, NotesGone, AreApart, AreMade, IsPlainStep, OldHolds};
 ghost use Rattle.sas_run.specs.Given.{Replaces};
-ghost use Rattle.sas_run.specs.PlainSteps.{AreApart, AreMade, IsPlainStep, OldHolds};
 
 use crate::deletions::DeletedFacts;
 use sas_core::{Change, Fact, Grounded};

@@ -1,12 +1,11 @@
 // The progress of a plan's execution, and the test of the goal and the cost.
-ghost use Rattle.std.specs.Prelude.{◌≡◌, ◌<◌, ◌≤◌, ℕ, [], length, All, IfOk, IfSome, IfNone, slice_index, vec_capacity};
+ghost use Rattle.std.specs.Prelude.{◌≡◌, ◌<◌, ℕ, length, All, IfOk, IfSome, IfNone, slice_index};
 ghost use Rattle.sas_core.specs.declared.parts.Fact.{Fact};
 ghost use Rattle.sas_core.specs.Variables.{IsState};
-ghost use Rattle.sas_meaning.specs.InitialStates.{IsInitial};
 ghost use Rattle.sas_meaning.specs.States.{AllHold};
 ghost use Rattle.sas_run.specs.Plans.{cost_of_all};
 ghost use Rattle.sas_run.specs.Running.{IsFinalVerdict};
-ghost use Rattle.sas_run.specs.Stepping.{IsPrepared};
+ghost use Rattle.sas_run.specs.Stepping.{IsAt, IsPrepared, IsStart};
 ghost use Rattle.sas_run.specs.Verdicts.{IsFirstMissed};
 
 use crate::plan_check::PlanFault;
@@ -32,11 +31,9 @@ impl Progress {
     ) -> Result<Progress, AllocError>
         requires prepared { IsPrepared E.ready layered.now stepper.old }
         ensures prepared { IsPrepared E.ready layered.now stepper.new }
-        ensures deleted { stepper.new.deleted ≡ stepper.old.deleted }
-        ensures initial { IfOk result (λ p. IsInitial layered.now p.state) }
-        ensures follows { IfOk result (λ p. E.follows stepper.new.evaluator layered.now p.state) }
-        ensures empty { IfOk result (λ p. p.operators.items ≡ []) }
-        ensures room { IfOk result (λ p. steps ≤ vec_capacity p.operators) }
+        ensures noted { stepper.new.deleted.noted ≡ stepper.old.deleted.noted }
+        ensures at { IfOk result (λ p. IsAt E.ready E.follows layered.now stepper.new p.state) }
+        ensures start { IfOk result (IsStart layered.now steps) }
     {
         let operators = Vec::with_capacity(alloc, steps)?;
         let state = initial_of(alloc, layered, stepper)?;

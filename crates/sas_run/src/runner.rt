@@ -3,18 +3,19 @@ ghost use Rattle.std.specs.Prelude.{◌≡◌, ◌<◌, ◌↔◌, length, IfOk,
 ghost use Rattle.sas_core.specs.Grounded.{operator_at};
 ghost use Rattle.sas_core.specs.Variables.{IsState};
 ghost use Rattle.sas_meaning.specs.InitialStates.{IsInitial};
-ghost use Rattle.sas_run.specs.Chains.{IsChain};
+ghost use Rattle.sas_names.specs.Chains.{IsChain};
 ghost use Rattle.sas_run.specs.Plans.{IsApplicable};
-ghost use Rattle.sas_run.specs.Running.{IsChoice, IsFirstChosen, IsLaterIfAny, IsGoalAnswer, Steps};
+ghost use Rattle.sas_run.specs.Running.{IsChoice, IsFaultOrMemory, IsGoalAnswer, IsLaterIfAny, IsSolution, Steps};
 
-use crate::long_chains::LongChains;
+use crate::checker::{Checker, checker_for};
 use crate::plain_steps::old_values_hold;
+use crate::plan_check::{PlanFault, Valid};
 use crate::progress::first_missed;
-use crate::stepper::{Stepper, initial_of, step_on, stepper_for};
+use crate::stepper::{initial_of, step_on};
 use crate::steps::{StepFault, missed_precondition};
-use crate::{Names, next_in};
-use sas_core::{Grounded, Task};
+use sas_core::{Grounded, Stepwise, Task};
 use sas_meaning::{Layered, Settle, State};
+use sas_names::next_in;
 use std::alloc::{AllocError, Global};
 use std::marker::Model;
 
@@ -31,38 +32,29 @@ pub enum Choice {
 
 /// Makes steps of a layered task, with an evaluator that is ready for the task. In a contract its value is the parts of the task.
 pub struct Runner<'a, E: Settle<T> + Drop, T: Grounded = Task> {
-    pub(crate) layered: &'a Layered<T>,
-    pub(crate) names: Names,
-    pub(crate) long: LongChains,
-    pub(crate) stepper: Stepper<E>,
+    layered: &'a Layered<T>,
+    checker: Checker<E>,
 }
 
 impl<'a, E: Settle<T> + Drop, T: Grounded> Drop for Runner<'a, E, T> {
     fn drop(self) {
         let Runner {
             layered: _,
-            names,
-            long,
-            stepper,
+            checker,
         } = self;
-        drop(names);
-        drop(long);
-        drop(stepper);
+        drop(checker);
     }
 }
 
 impl<'a, E: Settle<T> + Drop, T: Grounded> Model for Runner<'a, E, T> {
     ghost use Rattle.sas_core.specs.declared.parts.Parts.{Parts};
-    ghost use Rattle.sas_run.specs.LongChains.{AreLongChains};
-    ghost use Rattle.sas_run.specs.NameTable.{AreNames};
-    ghost use Rattle.sas_run.specs.Stepping.{IsPrepared};
+    ghost use Rattle.sas_run.specs.Checkers.{IsChecker};
 
     ghost Value = { Parts };
 
     ghost view = { λ r. r.layered.now };
 
-    ghost invariant = { λ r. AreNames r.layered.now r.names × AreLongChains r.layered.now r.long
-        × IsPrepared E.ready r.layered.now r.stepper };
+    ghost invariant = { λ r. IsChecker E.ready r.layered.now r.checker };
 }
 
 impl<'a, E: Settle<T> + Drop, T: Grounded> Runner<'a, E, T> {
@@ -77,19 +69,9 @@ impl<'a, E: Settle<T> + Drop, T: Grounded> Runner<'a, E, T> {
         ensures task { IfOk result (λ r. r ≡ layered.now) }
         ensures handed_back { IfErr result (λ e. e.0 ≡ evaluator) }
     {
-        let names = match Names::new(alloc, layered) {
-            Ok(names) => names,
-            Err(error) => return Err((evaluator, error)),
-        };
-        let long = match LongChains::of_task(alloc, layered, &names) {
-            Ok(long) => long,
-            Err(error) => return Err((evaluator, error)),
-        };
         Ok(Runner {
             layered,
-            names,
-            long,
-            stepper: stepper_for(alloc, layered, evaluator)?,
+            checker: checker_for(alloc, layered, evaluator)?,
         })
     }
 
@@ -98,7 +80,7 @@ impl<'a, E: Settle<T> + Drop, T: Grounded> Runner<'a, E, T> {
         ensures initial { IfOk result (λ s. IsInitial self.old s) }
         ensures same { self.new ≡ self.old }
     {
-        initial_of(alloc, self.layered, &mut self.stepper)
+        initial_of(alloc, self.layered, &mut self.checker.stepper)
     }
 
     /// Returns whether the operator's preconditions hold in the state.
@@ -115,13 +97,12 @@ impl<'a, E: Settle<T> + Drop, T: Grounded> Runner<'a, E, T> {
         requires { IsState self.now.variables state.now }
         ensures { IsChoice self.now state.now name.now result }
     {
-        let Some(first) = self.names.first(self.layered, name) else {
+        let names = &self.checker.names;
+        let long = &self.checker.long;
+        let Some(first) = names.first(self.layered, name) else {
             return Choice::Unknown;
         };
-        match self
-            .long
-            .first_applicable(self.layered, self.names.next(), state, first)
-        {
+        match long.first_applicable(self.layered, names.next(), state, first) {
             Some(operator) => Choice::Found(operator),
             None => Choice::Blocked,
         }
@@ -136,7 +117,7 @@ impl<'a, E: Settle<T> + Drop, T: Grounded> Runner<'a, E, T> {
     {
         match missed_precondition(self.layered, operator, state) {
             Some(fact) => Err(StepFault::NotApplicable { fact }),
-            None => step_on(self.layered, &mut self.stepper, operator, state),
+            None => step_on(self.layered, &mut self.checker.stepper, operator, state),
         }
     }
 
@@ -149,6 +130,16 @@ impl<'a, E: Settle<T> + Drop, T: Grounded> Runner<'a, E, T> {
             Some(index) => Some(index as u32),
             None => None,
         }
+    }
+
+    /// Checks whether the plan is valid. Returns its operators and its cost, or its fault. A step means the lowest-numbered applicable
+    /// operator of its name. All memory is allocated before the first step.
+    pub fn check_plan<P: Stepwise>(&mut self, alloc: Global, plan: &P) -> Result<Valid, PlanFault>
+        ensures valid { IfOk result (IsSolution self.old (P.says plan.now)) }
+        ensures fault { IfErr result (IsFaultOrMemory self.old (P.says plan.now)) }
+        ensures same { self.new ≡ self.old }
+    {
+        self.checker.check_plan(alloc, self.layered, plan)
     }
 
     /// Returns the task.
@@ -174,26 +165,6 @@ pub fn is_applicable<T: Grounded>(layered: &Layered<T>, state: &State, operator:
     };
     let task = layered.task();
     state.holds_all(task.prevail(operator)) && old_values_hold(state, changes)
-}
-
-/// Returns the first applicable operator, among this one and the later ones of the same name. `nexts` has, for each of them, the next one.
-#[tactic(auto, using(crate::proofs::NamedAlike::chosen_later))]
-#[inline(always)]
-pub fn first_applicable<T: Grounded>(
-    task: &Layered<T>,
-    nexts: &[Option<u32>],
-    state: &State,
-    first: u32,
-) -> Option<u32>
-    requires chain { IsChain task.now first nexts.now }
-    requires first { first < length task.now.operators }
-    requires state { IsState task.now.variables state.now }
-    ensures { IsFirstChosen task.now state.now first result }
-{
-    if is_applicable(task, state, first) {
-        return Some(first);
-    }
-    later_applicable(task, nexts, state, first)
 }
 
 /// Returns the first applicable operator among the later ones of the same name. `nexts` has, for each of them, the next one. It isn't

@@ -4,11 +4,11 @@ ghost use Rattle.sas_core.specs.Grounded.{operator_at};
 ghost use Rattle.sas_core.specs.Variables.{IsState};
 ghost use Rattle.sas_meaning.specs.Layers.{IsBasic};
 ghost use Rattle.sas_meaning.specs.InitialStates.{IsInitial};
-ghost use Rattle.sas_run.specs.Deletions.{DeletedHasRoom};
+ghost use Rattle.sas_run.specs.PlainSteps.{DeletedHasRoom};
 ghost use Rattle.sas_run.specs.Given.{NothingGiven};
 ghost use Rattle.sas_run.specs.Plans.{IsApplicable};
 ghost use Rattle.sas_run.specs.Running.{Steps};
-ghost use Rattle.sas_run.specs.Stepping.{Follows, IsPrepared, ListsChanges, derived_variable_count};
+ghost use Rattle.sas_run.specs.Stepping.{IsAt, IsPrepared, ListsChanges, derived_variable_count};
 
 use crate::deletions::DeletedFacts;
 use crate::steps::{StepFault, apply};
@@ -43,68 +43,23 @@ impl<E: Drop> Drop for Stepper<E> {
     }
 }
 
-/// Returns a stepper that doesn't list which derived variables may have changed. All memory for the steps is allocated here. If that fails,
-/// the evaluator is returned unchanged.
+/// Returns a stepper. `listing` is whether it lists the deleted facts and the derived variables that may have changed. All memory for the
+/// steps is allocated here. If that fails, the evaluator is returned unchanged.
 pub fn stepper_for<E: Settle<T> + Drop, T: Grounded>(
     alloc: Global,
     layered: &Layered<T>,
     evaluator: E,
+    listing: bool,
 ) -> Result<Stepper<E>, (E, AllocError)>
     requires { E.ready evaluator layered.now }
     ensures prepared { IfOk result (λ s. IsPrepared E.ready layered.now s) }
+    ensures noted { IfOk result (λ s. IsTrue listing → IsTrue s.deleted.noted) }
+    ensures room { IfOk result (λ s. IsTrue listing
+        → vec_capacity s.touched.vars ≡ derived_variable_count layered.now) }
     ensures handed_back { IfErr result (λ e. e.0 ≡ evaluator) }
 {
-    let noted = count_derived(layered) > 0;
-    stepper_with(
-        alloc,
-        layered,
-        evaluator,
-        noted,
-        ChangedVariables::none(alloc),
-    )
-}
-
-/// Returns a stepper that lists the deleted facts and which derived variables may have changed. It has room for all derived variables of
-/// the task. All memory for the steps is allocated here. If that fails, the evaluator is returned unchanged.
-pub fn stepper_listing<E: Settle<T> + Drop, T: Grounded>(
-    alloc: Global,
-    layered: &Layered<T>,
-    evaluator: E,
-) -> Result<Stepper<E>, (E, AllocError)>
-    requires { E.ready evaluator layered.now }
-    ensures prepared { IfOk result (λ s. IsPrepared E.ready layered.now s) }
-    ensures noted { IfOk result (λ s. IsTrue s.deleted.noted) }
-    ensures room { IfOk result (λ s. vec_capacity s.touched.vars
-        ≡ derived_variable_count layered.now) }
-    ensures handed_back { IfErr result (λ e. e.0 ≡ evaluator) }
-{
-    match ChangedVariables::with_room(alloc, count_derived(layered)) {
-        Ok(touched) => stepper_with(alloc, layered, evaluator, true, touched),
-        Err(error) => Err((evaluator, error)),
-    }
-}
-
-/// Returns a stepper that lists in `touched` which derived variables may have changed. `noted` is whether it lists the deleted facts.
-fn stepper_with<E: Settle<T> + Drop, T: Grounded>(
-    alloc: Global,
-    layered: &Layered<T>,
-    evaluator: E,
-    noted: bool,
-    touched: ChangedVariables,
-) -> Result<Stepper<E>, (E, AllocError)>
-    requires ready { E.ready evaluator layered.now }
-    requires basic { IsFalse noted → (var : ℕ) → IsBasic layered.now var }
-    ensures prepared { IfOk result (λ s. IsPrepared E.ready layered.now s) }
-    ensures noted { IfOk result (λ s. s.deleted.noted ≡ noted) }
-    ensures touched { IfOk result (λ s. s.touched ≡ touched) }
-    ensures handed_back { IfErr result (λ e. e.0 ≡ evaluator) }
-{
-    let deleted = match nothing_deleted(alloc, layered, noted) {
-        Ok(deleted) => deleted,
-        Err(error) => return Err((evaluator, error)),
-    };
-    match nothing_given(alloc, layered) {
-        Ok(given) => Ok(Stepper {
+    match memory_for(alloc, layered, listing) {
+        Ok((given, deleted, touched)) => Ok(Stepper {
             evaluator,
             given,
             deleted,
@@ -112,6 +67,37 @@ fn stepper_with<E: Settle<T> + Drop, T: Grounded>(
         }),
         Err(error) => Err((evaluator, error)),
     }
+}
+
+/// Returns the memory for a step: `given`, `deleted` and `touched` of a stepper, with room for those of any step.
+fn memory_for<T: Grounded>(
+    alloc: Global,
+    layered: &Layered<T>,
+    listing: bool,
+) -> Result<(Items<Option<u32>>, DeletedFacts, ChangedVariables), AllocError>
+    ensures clean { IfOk result (λ m. NothingGiven layered.now m.0) }
+    ensures room { IfOk result (λ m. (operator : ℕ) → operator < length layered.now.operators
+        → DeletedHasRoom m.1 (length (operator_at layered.now operator).effects)) }
+    ensures basic { IfOk result (λ m. IsFalse m.1.noted → (var : ℕ) → IsBasic layered.now var) }
+    ensures noted { IfOk result (λ m. IsTrue listing → IsTrue m.1.noted) }
+    ensures touched { IfOk result (λ m. IsTrue listing
+        → vec_capacity m.2.vars ≡ derived_variable_count layered.now) }
+{
+    let derived = count_derived(layered);
+    let noted = listing || derived > 0;
+    let room = if noted { most_effects(layered) } else { 0 };
+    let facts = Vec::with_capacity(alloc, room)?;
+    let given = vec![in alloc; None; layered.variables() as usize]?;
+    let touched = if listing {
+        ChangedVariables::with_room(alloc, derived)?
+    } else {
+        ChangedVariables::none(alloc)
+    };
+    Ok((
+        Items::from_vec(given),
+        DeletedFacts { noted, facts },
+        touched,
+    ))
 }
 
 /// Returns the initial state: the values of the state section, with the derived variables computed from the basic ones.
@@ -122,9 +108,9 @@ pub fn initial_of<E: Settle<T> + Drop, T: Grounded>(
 ) -> Result<State, AllocError>
     requires prepared { IsPrepared E.ready layered.now stepper.old }
     ensures prepared { IsPrepared E.ready layered.now stepper.new }
-    ensures deleted { stepper.new.deleted ≡ stepper.old.deleted }
-    ensures initial { IfOk result (λ s. IsInitial layered.now s) }
-    ensures follows { IfOk result (λ s. E.follows stepper.new.evaluator layered.now s) }
+    ensures noted { stepper.new.deleted.noted ≡ stepper.old.deleted.noted }
+    ensures at { IfOk result (IsAt E.ready E.follows layered.now stepper.new) }
+    ensures initial { IfOk result (IsInitial layered.now) }
 {
     let mut state = State::of_section(alloc, layered.task())?;
     stepper.evaluator.settle(layered, &mut state);
@@ -137,12 +123,10 @@ pub fn go_back<E: Settle<T> + Drop, T: Grounded>(
     stepper: &mut Stepper<E>,
     state: &mut State,
 )
-    requires prepared { IsPrepared E.ready layered.now stepper.old }
-    requires state { IsState layered.now.variables state.old }
-    ensures prepared { IsPrepared E.ready layered.now stepper.new }
-    ensures deleted { stepper.new.deleted ≡ stepper.old.deleted }
+    requires at { IsAt E.ready E.follows layered.now stepper.old state.old }
+    ensures at { IsAt E.ready E.follows layered.now stepper.new state.new }
+    ensures noted { stepper.new.deleted.noted ≡ stepper.old.deleted.noted }
     ensures initial { IsInitial layered.now state.new }
-    ensures follows { E.follows stepper.new.evaluator layered.now state.new }
 {
     set_section(layered, state);
     stepper.evaluator.settle(layered, state);
@@ -192,15 +176,12 @@ pub fn go_on_from<E: Settle<T> + Drop, T: Grounded>(
     operator: u32,
     state: &mut State,
 ) -> Result<(), StepFault>
-    requires prepared { IsPrepared E.ready layered.now stepper.old }
+    requires at { IsAt E.ready E.follows layered.now stepper.old state.old }
     requires operator { operator < length layered.now.operators }
-    requires state { IsState layered.now.variables state.old }
     requires applicable { IsApplicable state.old (operator_at layered.now operator) }
-    requires follows { Follows E.follows layered.now stepper.old state.old }
-    ensures prepared { IsPrepared E.ready layered.now stepper.new }
-    ensures steps { Steps layered.now state.old operator state.new result }
+    ensures at { IsAt E.ready E.follows layered.now stepper.new state.new }
     ensures noted { stepper.new.deleted.noted ≡ stepper.old.deleted.noted }
-    ensures follows { Follows E.follows layered.now stepper.new state.new }
+    ensures steps { Steps layered.now state.old operator state.new result }
     ensures lists { OnOk result (IsTrue stepper.new.deleted.noted
         → ListsChanges layered.now state.old state.new stepper.new.deleted.facts.items
         stepper.new.touched) }
@@ -217,31 +198,6 @@ pub fn go_on_from<E: Settle<T> + Drop, T: Grounded>(
         );
     }
     Ok(())
-}
-
-/// Returns a list with `None` for each variable of the task.
-fn nothing_given<T: Grounded>(
-    alloc: Global,
-    task: &Layered<T>,
-) -> Result<Items<Option<u32>>, AllocError>
-    ensures { IfOk result (λ given. NothingGiven task.now given) }
-{
-    Ok(Items::from_vec(vec![in alloc; None; task.variables() as usize]?))
-}
-
-/// Returns an empty list of deleted facts. If they are noted, it has room for those of any step.
-fn nothing_deleted<T: Grounded>(
-    alloc: Global,
-    task: &Layered<T>,
-    noted: bool,
-) -> Result<DeletedFacts, AllocError>
-    ensures noted { IfOk result (λ deleted. deleted.noted ≡ noted) }
-    ensures room { IfOk result (λ deleted. (operator : ℕ) → operator < length task.now.operators
-        → DeletedHasRoom deleted (length (operator_at task.now operator).effects)) }
-{
-    let room = if noted { most_effects(task) } else { 0 };
-    let facts = Vec::with_capacity(alloc, room)?;
-    Ok(DeletedFacts { noted, facts })
 }
 
 /// Returns an upper bound on the number of effects of an operator.

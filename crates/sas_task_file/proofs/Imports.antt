@@ -31,10 +31,9 @@ pub use Rattle.sas_lines.proofs.Beginnings.{lines_stand_first, ended_lines_then}
 pub use Rattle.sas_lines.proofs.EndedLines.{text_of_both}
 pub use Rattle.sas_lines.proofs.Splitting.{lines-plain, unfinished-end, Plain}
 pub use Rattle.sas_lines.proofs.Words.{NoSpace, same_words, NoSpace-number, NoSpace-signed, same_signed, ten_pos, words-first, words-joined, joined-words}
-pub use Rattle.sas_lines.specs.FirstLines.{LinesStandFirst}
+pub use Rattle.sas_lines.specs.FirstLines.{LinesStandFirst, EndedLines}
 unfoldable pub use Rattle.sas_lines.specs.Lines.{lines, unfinished}
 pub use Rattle.sas_lines.specs.Lines.{text}
-pub use Rattle.sas_lines.specs.EndedLines.{EndedLines}
 unfoldable pub use Rattle.sas_lines.specs.Segments.{segments}
 pub use Rattle.sas_lines.specs.Spelling.{signed_decimal, joined}
 pub use Rattle.sas_reader.proofs.About.{about_laws_of}
@@ -55,10 +54,9 @@ pub use Rattle.sas_reader.specs.declared.fault.Fault.{Fault}
 pub use Rattle.sas_reader.specs.declared.fault.Kind.{Kind}
 pub use Rattle.sas_reader.specs.declared.fault.Kind.TheVariants.{Keyword, Name, Shape, Value, Memory}
 pub use Rattle.sas_reader.specs.declared.reader.Front.{Front}
-pub use Rattle.sas_task_file.specs.Ahead.{LineAhead, NumberAhead, SignedAhead, FactAhead, ChangeAhead}
+pub use Rattle.sas_task_file.specs.Ahead.{LineAhead, NumberAhead, SignedAhead, FactAhead, ChangeAhead, LinesBefore, AppendedBefore, EffectsBefore, FactsBefore, NamesBefore}
 pub use Rattle.sas_task_file.specs.Counts.{Counted, in_order, uncounted, before_items, list_counts, section_counts, variable_counts, group_counts, operator_counts, rule_counts, task_counts, IsCounted, OneCount, SomeCount}
-pub use Rattle.sas_task_file.specs.FirstWrong.{HasWrong, FirstWrong}
-pub use Rattle.sas_task_file.specs.LinesBefore.{LinesBefore, AppendedBefore, EffectsBefore, FactsBefore, NamesBefore}
+pub use Rattle.sas_task_file.specs.TaskReasons.{HasWrong, FirstWrong, first_wrong, line_bounds, OneTaskReason, OneWrongWord, Bounded, fact_bounds, change_bounds, IsTaskReason, SomeTaskReason, IsFirstWrong, SpeaksOfFacts, SomeWrongWord, WrongWordIsNamed, below}
 pub use Rattle.sas_task_file.specs.Marks.{fixed_word_bytes, slot_of_due, IsDue, any_number, task_marks, OneDue, SomeDue, between_words, counted_dues, there, variable_dues, group_dues, operator_dues, rule_dues, numbered, positive_number}
 pub use Rattle.sas_task_file.specs.Sections.{spelled, LinesAhead, VariableAhead, GroupAhead, OperatorAhead, RuleAhead}
 pub use Rattle.sas_task_file.specs.TaskFormat.{TaskLine, TaskLineFits, TaskSlot, task_line_bytes, task_layout, task_format, task_slot, fact, effect, head, word_slot, name_slot, number_slot, signed_slot, fact_slot, effect_slot, head_slot, NumbersKind, no_shape, no_value, TaskKind, task_texts, HasShape, number, word, name, signed, fact_words, head_words, FactNumbers, HeadNumbers, EffectNumbers, effect_words, single_line, between, counted, version_lines, metric_lines, variable_lines, group_lines, goal_lines, operator_lines, rule_lines, state_lines}
@@ -70,7 +68,6 @@ pub use Rattle.sas_task_file.specs.TaskValues.{name_in, number_in, signed_in, fa
 pub use Rattle.sas_task_file.specs.declared.so_far.SoFar.{SoFar}
 pub use Rattle.sas_task_file.specs.declared.marks.FixedWord.{FixedWord}
 pub use Rattle.sas_task_file.specs.TaskRanges.{value_in, fact_in_ranges, effect_in_ranges, change_in_ranges, ranges_of, range_in}
-pub use Rattle.sas_task_file.specs.TaskReasons.{first_wrong, line_bounds, OneTaskReason, OneWrongWord, Bounded, fact_bounds, change_bounds, IsTaskReason, SomeTaskReason, IsFirstWrong, SpeaksOfFacts, SomeWrongWord, WrongWordIsNamed, below}
 pub use Rattle.sas_task_file.specs.TaskWords.{Spells, TakesNumber, TakesFact, TakesFacts, TakesHead}
 pub use Rattle.sas_task_file.specs.Tracker.{after_move, tracker_start, track, mark_in, by_count, track_line, mark, row_at, row_in, IsRow, this_number, counts_start, after_count, counts_after, count_at}
 pub use Rattle.sas_task_file.specs.declared.counts.Counts.{Counts}

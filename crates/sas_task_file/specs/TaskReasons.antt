@@ -14,8 +14,9 @@ use Rattle.sas_task_file.specs.declared.marks.Due.TheVariants as due
 use Rattle.sas_task_file.specs.declared.marks.Location.TheVariants as at
 use Rattle.sas_task_file.specs.declared.marks.Mark.{Mark}
 use Rattle.sas_task_file.specs.declared.marks.WrongWord.{WrongWord}
-use Rattle.sas_task_file.specs.TaskFormat.{TaskLine, fact, effect, head, HasShape, task_format}
+use Rattle.sas_task_file.specs.TaskFormat.{TaskLine, fact, effect, head, HasShape, task_format, TaskSlot, task_slot}
 use Rattle.sas_task_file.specs.Marks.{IsDue, slot_of_due}
+use Rattle.sas_task_file.specs.TaskWords.{Spells}
 
 -- A number on a line (`None` for `-1`). Allowed are numbers less than the bound, and none if
 -- `may_be_none`.
@@ -110,3 +111,16 @@ WrongWordIsNamed = (bytes : List ℕ) (f : Fault) (begun : List (List ℕ)) (fou
     (mark : Mark) (word : Option WrongWord) → IsAbout task_format most_bytes bytes f begun found
     → IsTaskReason f.kind begun found mark word
     → f.kind ≡ kinds.Value → SpeaksOfFacts mark.due → IsSome word
+
+module _ (ranges : List ℕ) where
+  -- this number is the first of the line that isn't allowed; a line of this slot is expected
+  pub record HasWrong (slot : TaskSlot) (line : List ℕ) (w : WrongWord) : Type 0 where
+    pub item : TaskLine
+    pub belongs : task_slot item ≡ slot
+    pub spells : Spells item line
+    pub first : first_wrong 1 (line_bounds ranges item) ≡ Some w
+
+  -- this is the first wrong number, or `None` if no number is wrong
+  abbrev pub FirstWrong : TaskSlot → List ℕ → Option WrongWord → Type 0
+  FirstWrong slot line None = (w : WrongWord) → HasWrong slot line w → ⊥
+  FirstWrong slot line (Some w) = HasWrong slot line w

@@ -8,8 +8,7 @@ ghost use Rattle.sas_flat.specs.Effects.{effect_with};
 ghost use Rattle.sas_flat.specs.Growing.{Kept};
 ghost use Rattle.sas_flat.specs.Operators.{operator};
 ghost use Rattle.sas_task_file.specs.TaskFormat as format;
-ghost use Rattle.sas_task_file.specs.Ahead.{EffectAhead};
-ghost use Rattle.sas_task_file.specs.LinesBefore.{LinesBefore, FactsBefore, EffectsBefore};
+ghost use Rattle.sas_task_file.specs.Ahead.{EffectAhead, LinesBefore, FactsBefore, EffectsBefore};
 ghost use Rattle.sas_task_file.specs.TaskRanges.{change_in_ranges};
 ghost use Rattle.sas_task_file.specs.Sections.{OperatorAhead, RuleAhead};
 
@@ -19,7 +18,7 @@ use crate::ahead::{
 use crate::task_line::{change_in, value_in};
 use sas_core::{Change, Fact, Items};
 use sas_flat::Effects;
-use sas_reader::Front;
+use sas_reader::{Front, LineEnd};
 use std::alloc::AllocError;
 
 /// The most facts that are read at once. Longer lists are often cut by the end of a piece, and the facts before the cut would then be read
@@ -44,7 +43,7 @@ pub struct ParsedRule {
 /// Reads a count and this many facts, and appends these to `facts`. Returns the count and the bytes after them. Returns `None` if a fact
 /// doesn't exist or the lines have another form. After `None` or `Err` some facts may have been appended.
 #[inline(always)]
-pub(crate) fn read_facts<'a>(
+pub(crate) fn read_facts<'a, E: LineEnd>(
     ranges: &Items<u32>,
     bytes: &'a [u8],
     facts: &mut Vec<Fact>,
@@ -53,14 +52,14 @@ pub(crate) fn read_facts<'a>(
         FactsBefore ranges.now f.0 f.0 facts.old.items facts.new.items bytes.now f.1.now)) }
     ensures kept { Kept facts.old.items facts.new.items }
 {
-    let Some((count, mut rest)) = read_number(bytes, b'\n') else {
+    let Some((count, mut rest)) = read_number::<E>(bytes, b'\n') else {
         return Ok(None);
     };
     if count > MOST_FACTS {
         return Ok(None);
     }
     for _i in 0..count {
-        let Some((fact, more)) = read_fact(rest) else {
+        let Some((fact, more)) = read_fact::<E>(rest) else {
             return Ok(None);
         };
         if !value_in(ranges, fact.var, fact.value) {
@@ -75,7 +74,7 @@ pub(crate) fn read_facts<'a>(
 /// Reads an effect whose facts exist, and stores its conditions in `conditions`. Returns its change and the bytes after its line. Returns
 /// `None` if a fact doesn't exist or the line has another form. After `None` or `Err` the content of `conditions` is unspecified.
 #[inline(always)]
-fn read_any_effect<'a>(
+fn read_any_effect<'a, E: LineEnd>(
     ranges: &Items<u32>,
     bytes: &'a [u8],
     conditions: &mut Vec<Fact>,
@@ -84,14 +83,14 @@ fn read_any_effect<'a>(
         EffectAhead ranges.now bytes.now (effect_with f.0 conditions.new.items) f.1.now)) }
 {
     conditions.clear();
-    let Some((count, mut rest)) = read_number(bytes, b' ') else {
+    let Some((count, mut rest)) = read_number::<E>(bytes, b' ') else {
         return Ok(None);
     };
     if count > MOST_FACTS {
         return Ok(None);
     }
     for _i in 0..count {
-        let Some((fact, more)) = read_fact_to(rest, b' ') else {
+        let Some((fact, more)) = read_fact_to::<E>(rest, b' ') else {
             return Ok(None);
         };
         if !value_in(ranges, fact.var, fact.value) {
@@ -100,7 +99,7 @@ fn read_any_effect<'a>(
         conditions.push(fact)?;
         rest = more;
     }
-    match read_change(rest) {
+    match read_change::<E>(rest) {
         Some((change, rest)) if change_in(ranges, change.var, change.old, change.new) => {
             Ok(Some((change, rest)))
         }
@@ -111,7 +110,7 @@ fn read_any_effect<'a>(
 /// Reads an effect whose facts exist, and appends it to `effects`. Returns the bytes after its line. Returns `None` if a fact doesn't exist
 /// or the line has another form. It isn't inlined, so that it takes no registers from the loop over effects without conditions.
 #[inline(never)]
-fn append_effect<'a>(
+fn append_effect<'a, E: LineEnd>(
     ranges: &Items<u32>,
     bytes: &'a [u8],
     effects: &mut Effects,
@@ -121,7 +120,7 @@ fn append_effect<'a>(
         × (effects.new ≡ effects.old ++ e ∷ []) × EffectAhead ranges.now bytes.now e rest.now)) }
     ensures kept { Kept effects.old effects.new }
 {
-    let Some((change, rest)) = read_any_effect(ranges, bytes, conditions)? else {
+    let Some((change, rest)) = read_any_effect::<E>(ranges, bytes, conditions)? else {
         return Ok(None);
     };
     effects.push(conditions.as_slice(), change)?;
@@ -132,7 +131,7 @@ fn append_effect<'a>(
 /// fact of an effect doesn't exist or the lines have another form. After `None` or `Err` some effects may have been appended. The content
 /// of `conditions` is unspecified afterwards. It isn't inlined, so that its loop has all registers.
 #[inline(never)]
-fn read_effects<'a>(
+fn read_effects<'a, E: LineEnd>(
     ranges: &Items<u32>,
     bytes: &'a [u8],
     effects: &mut Effects,
@@ -142,13 +141,13 @@ fn read_effects<'a>(
         EffectsBefore ranges.now f.0 f.0 effects.old effects.new bytes.now f.1.now)) }
     ensures kept { Kept effects.old effects.new }
 {
-    let Some((count, mut rest)) = read_number(bytes, b'\n') else {
+    let Some((count, mut rest)) = read_number::<E>(bytes, b'\n') else {
         return Ok(None);
     };
     for _i in 0..count {
         // Most effects have no conditions.
-        let Some((change, more)) = read_effect(rest) else {
-            let Some(more) = append_effect(ranges, rest, effects, conditions)? else {
+        let Some((change, more)) = read_effect::<E>(rest) else {
+            let Some(more) = append_effect::<E>(ranges, rest, effects, conditions)? else {
                 return Ok(None);
             };
             rest = more;
@@ -165,32 +164,32 @@ fn read_effects<'a>(
 
 /// Reads the cost and the last word of an operator. Returns the cost and the bytes after the word.
 #[inline(always)]
-fn read_operator_end(bytes: &[u8]) -> Option<(u32, &[u8])>
+fn read_operator_end<E: LineEnd>(bytes: &[u8]) -> Option<(u32, &[u8])>
     ensures { IfSome result (λ found.
         LinesBefore (format.number found.0 ∷ format.word (codes "end_operator") ∷ [])
         bytes.now found.1.now) }
 {
-    let (cost, rest) = read_number(bytes, b'\n')?;
-    let rest = read_word(rest, b"end_operator")?;
+    let (cost, rest) = read_number::<E>(bytes, b'\n')?;
+    let rest = read_word::<E, _>(rest, b"end_operator")?;
     Some((cost, rest))
 }
 
 /// Reads the first word and the name of an operator. Returns the name and the bytes after it.
 #[inline(always)]
-fn read_operator_begin(bytes: &[u8]) -> Option<(&[u8], &[u8])>
+fn read_operator_begin<E: LineEnd>(bytes: &[u8]) -> Option<(&[u8], &[u8])>
     ensures { IfSome result (λ found. IsName found.0.now
         × LinesBefore (format.word (codes "begin_operator") ∷ format.name found.0.now ∷ [])
         bytes.now found.1.now) }
 {
-    let rest = read_word(bytes, b"begin_operator")?;
-    read_name(rest)
+    let rest = read_word::<E, _>(bytes, b"begin_operator")?;
+    read_name::<E>(rest)
 }
 
 /// Reads a whole operator at the beginning of the bytes, and appends its prevail conditions to `prevail` and its effects to `effects`.
 /// Returns `None` if a fact doesn't exist or the lines have another form; then the operator has to be read line by line. After `None` or
 /// `Err` some of them may have been appended. The content of `conditions` is unspecified afterwards.
 #[inline(always)]
-pub fn read_operator<'a>(
+pub fn read_operator<'a, E: LineEnd>(
     ranges: &Items<u32>,
     bytes: &'a [u8],
     prevail: &mut Vec<Fact>,
@@ -203,16 +202,16 @@ pub fn read_operator<'a>(
     ensures prevail { Kept prevail.old.items prevail.new.items }
     ensures effects { Kept effects.old effects.new }
 {
-    let Some((name, rest)) = read_operator_begin(bytes) else {
+    let Some((name, rest)) = read_operator_begin::<E>(bytes) else {
         return Ok(None);
     };
-    let Some((facts, rest)) = read_facts(ranges, rest, prevail)? else {
+    let Some((facts, rest)) = read_facts::<E>(ranges, rest, prevail)? else {
         return Ok(None);
     };
-    let Some((changed, rest)) = read_effects(ranges, rest, effects, conditions)? else {
+    let Some((changed, rest)) = read_effects::<E>(ranges, rest, effects, conditions)? else {
         return Ok(None);
     };
-    let Some((cost, rest)) = read_operator_end(rest) else {
+    let Some((cost, rest)) = read_operator_end::<E>(rest) else {
         return Ok(None);
     };
     let front = Front {
@@ -224,17 +223,17 @@ pub fn read_operator<'a>(
 
 /// Reads the head and the last word of a rule. Returns the head, whose facts exist, and the bytes after the word.
 #[inline(always)]
-fn head_before<'a>(ranges: &Items<u32>, bytes: &'a [u8]) -> Option<(Change, &'a [u8])>
+fn head_before<'a, E: LineEnd>(ranges: &Items<u32>, bytes: &'a [u8]) -> Option<(Change, &'a [u8])>
     ensures { IfSome result (λ found.
         IsTrue (change_in_ranges ranges.now found.0.var found.0.old found.0.new)
         × LinesBefore (format.head found.0.var found.0.old found.0.new
         ∷ format.word (codes "end_rule") ∷ []) bytes.now found.1.now) }
 {
-    let (head, rest) = read_change(bytes)?;
+    let (head, rest) = read_change::<E>(bytes)?;
     if !change_in(ranges, head.var, head.old, head.new) {
         return None;
     }
-    let rest = read_word(rest, b"end_rule")?;
+    let rest = read_word::<E, _>(rest, b"end_rule")?;
     Some((head, rest))
 }
 
@@ -242,7 +241,7 @@ fn head_before<'a>(ranges: &Items<u32>, bytes: &'a [u8]) -> Option<(Change, &'a 
 /// the lines have another form; then the rule has to be read line by line. After `None` or `Err` some
 /// conditions may have been appended.
 #[inline(always)]
-pub fn read_rule(
+pub fn read_rule<E: LineEnd>(
     ranges: &Items<u32>,
     bytes: &[u8],
     conditions: &mut Vec<Fact>,
@@ -252,13 +251,13 @@ pub fn read_rule(
         × RuleAhead ranges.now bytes.now (effect_with f.head c) f.front)) }
     ensures kept { Kept conditions.old.items conditions.new.items }
 {
-    let Some(rest) = read_word(bytes, b"begin_rule") else {
+    let Some(rest) = read_word::<E, _>(bytes, b"begin_rule") else {
         return Ok(None);
     };
-    let Some((count, rest)) = read_facts(ranges, rest, conditions)? else {
+    let Some((count, rest)) = read_facts::<E>(ranges, rest, conditions)? else {
         return Ok(None);
     };
-    let Some((head, rest)) = head_before(ranges, rest) else {
+    let Some((head, rest)) = head_before::<E>(ranges, rest) else {
         return Ok(None);
     };
     let front = Front {

@@ -13,7 +13,7 @@ use crate::ahead::read_fact_to;
 use crate::task_events::LineValues;
 use sas_core::{Change, Effect, Fact, Items, is_name};
 use sas_lines::{Numbers, number, signed};
-use sas_reader::Kind;
+use sas_reader::{Kind, Lf};
 use std::alloc::AllocError;
 
 /// Checks that the line is the fixed word. Returns the kind of its fault if it isn't.
@@ -62,7 +62,8 @@ fn signed_at(line: &[u8]) -> Result<Option<u32>, Kind>
     }
 }
 
-/// Takes the next word, and returns it as a number.
+/// Takes the next word, and returns it as a number. It isn't inlined, since most words are read as parts of short facts.
+#[inline(never)]
 fn take_number(parts: &mut Numbers<'_>) -> Option<u32>
     ensures found { IfSome result (λ n. TakesNumber parts.old n parts.new) }
     ensures none { IfNone result
@@ -94,12 +95,13 @@ fn take_short_fact(parts: &mut Numbers<'_>) -> Option<Fact>
     ensures found { IfSome result (λ f. TakesFact parts.old f parts.new) }
     ensures none { IfNone result (parts.new ≡ parts.old) }
 {
-    let (fact, rest) = read_fact_to(parts.rest()?, b' ')?;
+    let (fact, rest) = read_fact_to::<Lf>(parts.rest()?, b' ')?;
     *parts = Numbers::new(rest);
     Some(fact)
 }
 
 /// Takes the next two words, and returns them as a fact.
+#[inline(always)]
 fn take_fact(parts: &mut Numbers<'_>) -> Option<Fact>
     ensures found { IfSome result (λ f. TakesFact parts.old f parts.new) }
     ensures none { IfNone result

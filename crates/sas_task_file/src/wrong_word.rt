@@ -2,8 +2,7 @@
 ghost use Rattle.std.specs.Prelude.{◌≡◌, ◌<◌, ◌^◌, ◌-◌, length, slice_index, [], ◌∷◌, true, false, Option, Some, IfOk};
 ghost use Rattle.sas_task_file.specs.TaskFormat as content;
 ghost use Rattle.sas_task_file.specs.TaskFormat.{fact_slot, effect_slot, head_slot};
-ghost use Rattle.sas_task_file.specs.TaskReasons.{below, below_or_none, change_bounds, fact_bounds, first_wrong, line_bounds};
-ghost use Rattle.sas_task_file.specs.FirstWrong.{FirstWrong};
+ghost use Rattle.sas_task_file.specs.TaskReasons.{below, below_or_none, change_bounds, fact_bounds, first_wrong, line_bounds, FirstWrong};
 
 use crate::WrongWord;
 use crate::task_line::{parse_change, parse_effect, parse_fact};

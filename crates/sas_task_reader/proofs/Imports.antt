@@ -33,7 +33,7 @@ pub use Rattle.sas_flat.specs.Outlines.{outline_of}
 pub use Rattle.sas_flat.specs.Variables.{variable}
 pub use Rattle.sas_lines.proofs.Splitting.{lines-one, unfinished-one, return_length, Plain, lines-none}
 pub use Rattle.sas_lines.specs.Lines.{text, without_return, without_returns}
-pub use Rattle.sas_lines.specs.EndedLines.{EndedLines}
+pub use Rattle.sas_lines.specs.FirstLines.{EndedLines}
 pub use Rattle.sas_lines.proofs.Beginnings.{FrontOf, front_of_lines, line_before_end}
 pub use Rattle.sas_lines.proofs.EndedLines.{ended_lines, text_of_both}
 pub use Rattle.sas_lines.proofs.Returns.{returns_gone}
@@ -74,7 +74,7 @@ pub use Rattle.sas_task_file.proofs.TaskSections.{less, is_less}
 pub use Rattle.sas_task_file.proofs.Tracking.{IsBehindVariables}
 pub use Rattle.sas_task_file.proofs.WrongWords.{HasBounds, same_bounds}
 pub use Rattle.sas_task_file.specs.Ahead.{LineAhead}
-pub use Rattle.sas_task_file.specs.FirstWrong.{HasWrong, FirstWrong}
+pub use Rattle.sas_task_file.specs.TaskReasons.{HasWrong, FirstWrong, first_wrong, line_bounds, IsFirstWrong, IsTaskReason}
 pub use Rattle.sas_task_file.specs.Marks.{slot_of_due, IsDue}
 pub use Rattle.sas_task_file.specs.Sections.{HasNames, OperatorInRanges, spelled, LinesAhead}
 pub use Rattle.sas_task_file.specs.TaskEvents.{after, nothing_yet, behind_variable, behind_group, behind_operator, behind_rule}
@@ -82,7 +82,6 @@ pub use Rattle.sas_task_file.specs.TaskFormat.{TaskLine, word, name, number, sig
 pub use Rattle.sas_task_file.specs.TaskLine.{ParsesDue, test_of_due, line_of_due}
 pub use Rattle.sas_task_file.specs.TaskValues.{name_in, fact_in, effect_in, number_in, is_from, head_in}
 pub use Rattle.sas_task_file.specs.TaskRanges.{ranges_of, fact_in_ranges, effect_in_ranges, change_in_ranges, head_in_ranges, value_in}
-pub use Rattle.sas_task_file.specs.TaskReasons.{first_wrong, line_bounds, IsFirstWrong, IsTaskReason}
 pub use Rattle.sas_task_file.specs.Tracker.{IsRow, value_due, tracker_start, track, mark_in, row_at, row_in, after_move, track_line, counts_start, after_count, counts_after, count_at}
 pub use Rattle.sas_task_file.specs.declared.marks.Due.{Due}
 pub use Rattle.sas_task_file.specs.declared.marks.Mark.{Mark}

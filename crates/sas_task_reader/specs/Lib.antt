@@ -2,7 +2,6 @@ pub mod TaskJudge
 pub mod TaskMachine
 pub mod Sections
 pub mod Marks
-pub mod Outline
 pub mod TaskOutline
 pub mod TaskReader
 pub mod TaskRefusal

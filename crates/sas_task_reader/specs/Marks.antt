@@ -4,7 +4,7 @@ use Rattle.sas_task_file.specs.declared.marks.Mark.{Mark}
 use Rattle.sas_task_file.specs.Tracker.{mark_in, count_at}
 use Rattle.sas_task_file.specs.declared.counts.ListCount.{ListCount}
 use Rattle.sas_task_file.specs.declared.places.Place.TheVariants as at
-use Rattle.sas_task_file.specs.FirstWrong.{FirstWrong}
+use Rattle.sas_task_file.specs.TaskReasons.{FirstWrong}
 use Rattle.sas_reader.specs.declared.fault.Kind.{Kind}
 use Rattle.sas_reader.specs.declared.fault.Kind.TheVariants as kinds
 use Rattle.sas_task_file.specs.declared.marks.WrongWord.{WrongWord}

@@ -1,7 +1,7 @@
 -- What the judge of the lines of a task file represents: what may still follow the content so far.
 use Rattle.std.specs.Prelude.{◌≡◌, ◌≢◌, ◌⊎◌, ◌<◌, ℕ, ◌-◌, List, [], ◌∷◌, ◌++◌, Result, Ok, Err}
 use Rattle.sas_core.specs.Plain.{IsPlain}
-use Rattle.sas_lines.specs.EndedLines.{EndedLines}
+use Rattle.sas_lines.specs.FirstLines.{EndedLines}
 use Rattle.sas_reader.specs.declared.fault.Kind.{Kind}
 use Rattle.sas_reader.specs.declared.fault.Kind.TheVariants as kinds
 use Rattle.sas_task_file.specs.declared.places.Event.{Event}

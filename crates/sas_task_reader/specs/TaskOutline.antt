@@ -1,10 +1,12 @@
--- What is stored of a task for its outline.
-use Rattle.std.specs.Prelude.{ℕ, ◌-◌, ◌^◌, min, List, [], length}
+-- The outline of a task, and what is stored for it.
+use Rattle.std.specs.Prelude.{ℕ, ◌-◌, ◌^◌, min, List, [], length, ◌≡◌}
 use Rattle.sas_core.specs.declared.parts.Parts.{Parts}
 use Rattle.sas_flat.specs.declared.outline.Outline.{Outline}
 use Rattle.sas_flat.specs.Outlines.{outline_of}
 use Rattle.sas_task_file.specs.declared.so_far.SoFar.{SoFar}
 use Rattle.sas_task_reader.specs.declared.task_outline.OutlineSoFar.{OutlineSoFar}
+use Rattle.sas_reader.specs.Devices.{ValueOf}
+use Rattle.sas_task_file.specs.TaskFormat.{task_format}
 
 -- the number of items, up to the greatest 32-bit number; no task has more
 abbrev pub as_far_as_counted : {A : Type 0} → List A → ℕ
@@ -31,3 +33,7 @@ outline_with p groups operators rules =
 -- the stored outline
 abbrev pub outline_in : OutlineSoFar → Outline
 outline_in kept = outline_with kept.rest.parts kept.groups kept.operators kept.rules
+
+-- the bytes are a text of a task with this outline
+abbrev pub OutlineOf : List ℕ → Outline → Type 0
+OutlineOf bytes outline = (p : Parts) × ValueOf task_format bytes p × (outline ≡ outline_of p)

@@ -20,7 +20,7 @@ use sas_flat::{
     Effects, FlatTask, ListColumns, Lists, OperatorColumns, Operators, Outline, TaskColumns,
     VariableColumns, Variables,
 };
-use sas_reader::{Front, Kind};
+use sas_reader::{Front, Kind, LineEnd};
 use sas_task_file::{Event, LineValues, read_group, read_operator, read_rule, read_variable};
 use std::alloc::{AllocError, Global};
 use std::marker::Model;
@@ -264,13 +264,13 @@ impl FlatSoFar {
     /// Stores a whole variable at the beginning of the bytes, if `read_variable` finds one. Returns the extent of its lines and the number
     /// of its values. After an `Err` the content is unspecified.
     #[inline(always)]
-    fn variable_ahead(&mut self, bytes: &[u8]) -> Result<KeptVariable, AllocError>
+    fn variable_ahead<E: LineEnd>(&mut self, bytes: &[u8]) -> Result<KeptVariable, AllocError>
         ensures took { IfOk result (λ kept. 0 < kept.front.bytes
             → (v : Variable) × VariableWithRange bytes.now v kept
             × (self.new ≡ behind_variable self.old v)) }
         ensures none { IfOk result (λ kept. kept.front.bytes ≡ 0 → self.new ≡ self.old) }
     {
-        match read_variable(bytes, &mut self.variables.values) {
+        match read_variable::<E>(bytes, &mut self.variables.values) {
             Ok(Some(found)) => {
                 if let Err(error) = self.variables.push(found.name, found.layer) {
                     self.variables.cut();
@@ -294,13 +294,17 @@ impl FlatSoFar {
 
     /// Stores a whole mutex group at the beginning of the bytes, if `read_group` finds one. Returns the extent of its lines. After an
     /// `Err` the content is unspecified.
-    fn group_ahead(&mut self, ranges: &Items<u32>, bytes: &[u8]) -> Result<Front, AllocError>
+    fn group_ahead<E: LineEnd>(
+        &mut self,
+        ranges: &Items<u32>,
+        bytes: &[u8],
+    ) -> Result<Front, AllocError>
         ensures took { IfOk result (λ front. 0 < front.bytes
             → (facts : List Fact) × GroupAhead ranges.now bytes.now facts front
             × (self.new ≡ behind_group self.old facts)) }
         ensures none { IfOk result (λ front. front.bytes ≡ 0 → self.new ≡ self.old) }
     {
-        match read_group(ranges, bytes, &mut self.groups.items) {
+        match read_group::<E>(ranges, bytes, &mut self.groups.items) {
             Ok(Some(front)) => {
                 self.groups.close()?;
                 self.begun.facts.clear();
@@ -316,13 +320,17 @@ impl FlatSoFar {
 
     /// Stores a whole operator at the beginning of the bytes, if `read_operator` finds one. Returns the extent of its lines. After an
     /// `Err` the content is unspecified.
-    fn operator_ahead(&mut self, ranges: &Items<u32>, bytes: &[u8]) -> Result<Front, AllocError>
+    fn operator_ahead<E: LineEnd>(
+        &mut self,
+        ranges: &Items<u32>,
+        bytes: &[u8],
+    ) -> Result<Front, AllocError>
         ensures took { IfOk result (λ front. 0 < front.bytes
             → (o : Operator) × OperatorAhead ranges.now bytes.now o front
             × (self.new ≡ behind_operator self.old o)) }
         ensures none { IfOk result (λ front. front.bytes ≡ 0 → self.new ≡ self.old) }
     {
-        match read_operator(
+        match read_operator::<E>(
             ranges,
             bytes,
             &mut self.operators.prevail,
@@ -349,14 +357,18 @@ impl FlatSoFar {
 
     /// Stores a whole rule at the beginning of the bytes, if `read_rule` finds one. Returns the extent of its lines. After an `Err` the
     /// content is unspecified.
-    fn rule_ahead(&mut self, ranges: &Items<u32>, bytes: &[u8]) -> Result<Front, AllocError>
+    fn rule_ahead<E: LineEnd>(
+        &mut self,
+        ranges: &Items<u32>,
+        bytes: &[u8],
+    ) -> Result<Front, AllocError>
         ensures took { IfOk result (λ front. 0 < front.bytes
             → (r : Effect) × RuleAhead ranges.now bytes.now r front
             × (self.new ≡ behind_rule self.old r)) }
         ensures none { IfOk result (λ front. front.bytes ≡ 0 → self.new ≡ self.old) }
     {
         self.heads.reserve(1)?;
-        match read_rule(ranges, bytes, &mut self.conditions.items) {
+        match read_rule::<E>(ranges, bytes, &mut self.conditions.items) {
             Ok(Some(found)) => {
                 self.conditions.close()?;
                 self.heads.push(found.head)?;
@@ -408,19 +420,23 @@ impl Keeper for FlatSoFar {
     }
 
     #[inline(always)]
-    fn keep_variable(&mut self, bytes: &[u8]) -> Result<KeptVariable, Kind> {
-        Ok(self.variable_ahead(bytes)?)
+    fn keep_variable<E: LineEnd>(&mut self, bytes: &[u8]) -> Result<KeptVariable, Kind> {
+        Ok(self.variable_ahead::<E>(bytes)?)
     }
 
-    fn keep_group(&mut self, ranges: &Items<u32>, bytes: &[u8]) -> Result<Front, Kind> {
-        Ok(self.group_ahead(ranges, bytes)?)
+    fn keep_group<E: LineEnd>(&mut self, ranges: &Items<u32>, bytes: &[u8]) -> Result<Front, Kind> {
+        Ok(self.group_ahead::<E>(ranges, bytes)?)
     }
 
-    fn keep_operator(&mut self, ranges: &Items<u32>, bytes: &[u8]) -> Result<Front, Kind> {
-        Ok(self.operator_ahead(ranges, bytes)?)
+    fn keep_operator<E: LineEnd>(
+        &mut self,
+        ranges: &Items<u32>,
+        bytes: &[u8],
+    ) -> Result<Front, Kind> {
+        Ok(self.operator_ahead::<E>(ranges, bytes)?)
     }
 
-    fn keep_rule(&mut self, ranges: &Items<u32>, bytes: &[u8]) -> Result<Front, Kind> {
-        Ok(self.rule_ahead(ranges, bytes)?)
+    fn keep_rule<E: LineEnd>(&mut self, ranges: &Items<u32>, bytes: &[u8]) -> Result<Front, Kind> {
+        Ok(self.rule_ahead::<E>(ranges, bytes)?)
     }
 }

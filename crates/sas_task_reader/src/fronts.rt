@@ -10,7 +10,7 @@ ghost use Rattle.sas_task_file.specs.Sections.{GroupAhead, OperatorAhead, RuleAh
 use crate::KeptVariable;
 use sas_core::{Fact, Items};
 use sas_flat::{Effects, Lists};
-use sas_reader::{Front, Kind};
+use sas_reader::{Front, Kind, LineEnd};
 use sas_task_file::{read_group, read_operator, read_rule, read_variable};
 use std::alloc::Global;
 
@@ -48,7 +48,7 @@ pub const NO_VARIABLE: KeptVariable = KeptVariable {
 /// Returns the extent of a whole variable at the beginning of the bytes and the number of its values, if `read_variable` finds one. The
 /// content of `gathered` is unspecified afterwards. Returns `Memory` if out of memory.
 #[inline(always)]
-pub fn variable_front(
+pub fn variable_front<E: LineEnd>(
     bytes: &[u8],
     gathered: &mut SectionLists,
 ) -> Result<Option<KeptVariable>, Kind>
@@ -57,7 +57,7 @@ pub fn variable_front(
     ensures err { IfErr result (λ k. k ≡ Kind.Memory) }
 {
     gathered.values.clear();
-    let Some(found) = read_variable(bytes, &mut gathered.values)? else {
+    let Some(found) = read_variable::<E>(bytes, &mut gathered.values)? else {
         return Ok(None);
     };
     Ok(Some(KeptVariable {
@@ -69,7 +69,7 @@ pub fn variable_front(
 /// Returns the extent of a whole mutex group at the beginning of the bytes, if `read_group` finds one. The content of `gathered` is
 /// unspecified afterwards. Returns `Memory` if out of memory.
 #[inline(always)]
-pub fn group_front(
+pub fn group_front<E: LineEnd>(
     ranges: &Items<u32>,
     bytes: &[u8],
     gathered: &mut SectionLists,
@@ -79,13 +79,13 @@ pub fn group_front(
     ensures err { IfErr result (λ k. k ≡ Kind.Memory) }
 {
     gathered.facts.clear();
-    Ok(read_group(ranges, bytes, &mut gathered.facts)?)
+    Ok(read_group::<E>(ranges, bytes, &mut gathered.facts)?)
 }
 
 /// Returns the extent of a whole operator at the beginning of the bytes, if `read_operator` finds one. The content of `gathered` is
 /// unspecified afterwards. Returns `Memory` if out of memory.
 #[inline(always)]
-pub fn operator_front(
+pub fn operator_front<E: LineEnd>(
     ranges: &Items<u32>,
     bytes: &[u8],
     gathered: &mut SectionLists,
@@ -96,7 +96,7 @@ pub fn operator_front(
 {
     gathered.facts.clear();
     gathered.effects.clear();
-    let found = read_operator(
+    let found = read_operator::<E>(
         ranges,
         bytes,
         &mut gathered.facts,
@@ -112,7 +112,7 @@ pub fn operator_front(
 /// Returns the extent of a whole rule at the beginning of the bytes, if `read_rule` finds one. The content of `gathered` is unspecified
 /// afterwards. Returns `Memory` if out of memory.
 #[inline(always)]
-pub fn rule_front(
+pub fn rule_front<E: LineEnd>(
     ranges: &Items<u32>,
     bytes: &[u8],
     gathered: &mut SectionLists,
@@ -122,7 +122,7 @@ pub fn rule_front(
     ensures err { IfErr result (λ k. k ≡ Kind.Memory) }
 {
     gathered.facts.clear();
-    let Some(found) = read_rule(ranges, bytes, &mut gathered.facts)? else {
+    let Some(found) = read_rule::<E>(ranges, bytes, &mut gathered.facts)? else {
         return Ok(None);
     };
     Ok(Some(found.front))

@@ -2,7 +2,7 @@
 ghost use Rattle.std.specs.Prelude.{◌≡◌, ◌++◌, ◌∷◌, [], List, ℕ, OnOk, IfErr};
 
 use sas_core::Items;
-use sas_reader::{Front, Kind};
+use sas_reader::{Front, Kind, LineEnd};
 use sas_task_file::{Event, LineValues, SoFar};
 
 /// A variable that a keeper has stored: the number of its lines and bytes, and the number of its values.
@@ -30,7 +30,7 @@ pub trait Keeper: Drop {
 
     /// Stores a whole variable at the beginning of the bytes. Returns the extent of its lines and the number of its values. It may also
     /// store nothing and return `Front::EMPTY`, as the default does; then the variable is read line by line.
-    fn keep_variable(&mut self, bytes: &[u8]) -> Result<KeptVariable, Kind>
+    fn keep_variable<E: LineEnd>(&mut self, bytes: &[u8]) -> Result<KeptVariable, Kind>
         ensures { KeepsVariable keeps bytes.now self.old self.new result }
     {
         Ok(KeptVariable {
@@ -41,7 +41,7 @@ pub trait Keeper: Drop {
 
     /// Stores a whole mutex group at the beginning of the bytes. Its facts must exist for variables with these ranges. Returns the extent
     /// of its lines, or `Front::EMPTY` if it stored nothing.
-    fn keep_group(&mut self, ranges: &Items<u32>, bytes: &[u8]) -> Result<Front, Kind>
+    fn keep_group<E: LineEnd>(&mut self, ranges: &Items<u32>, bytes: &[u8]) -> Result<Front, Kind>
         ensures { KeepsGroup keeps ranges.now bytes.now self.old self.new result }
     {
         Ok(Front::EMPTY)
@@ -49,7 +49,11 @@ pub trait Keeper: Drop {
 
     /// Stores a whole operator at the beginning of the bytes. Its facts must exist for variables with these ranges. Returns the extent of
     /// its lines, or `Front::EMPTY` if it stored nothing.
-    fn keep_operator(&mut self, ranges: &Items<u32>, bytes: &[u8]) -> Result<Front, Kind>
+    fn keep_operator<E: LineEnd>(
+        &mut self,
+        ranges: &Items<u32>,
+        bytes: &[u8],
+    ) -> Result<Front, Kind>
         ensures { KeepsOperator keeps ranges.now bytes.now self.old self.new result }
     {
         Ok(Front::EMPTY)
@@ -57,7 +61,7 @@ pub trait Keeper: Drop {
 
     /// Stores a whole rule at the beginning of the bytes. Its facts must exist for variables with these ranges. Returns the extent of its
     /// lines, or `Front::EMPTY` if it stored nothing.
-    fn keep_rule(&mut self, ranges: &Items<u32>, bytes: &[u8]) -> Result<Front, Kind>
+    fn keep_rule<E: LineEnd>(&mut self, ranges: &Items<u32>, bytes: &[u8]) -> Result<Front, Kind>
         ensures { KeepsRule keeps ranges.now bytes.now self.old self.new result }
     {
         Ok(Front::EMPTY)

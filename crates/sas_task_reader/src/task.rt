@@ -2,7 +2,7 @@
 ghost use Rattle.std.specs.Prelude.{◌≡◌, false};
 ghost use Rattle.sas_reader.specs.Devices.{ReadsAll, ValueOf, TextOf};
 ghost use Rattle.sas_task_file.specs.TaskFormat.{task_format};
-ghost use Rattle.sas_task_reader.specs.Outline.{OutlineOf};
+ghost use Rattle.sas_task_reader.specs.TaskOutline.{OutlineOf};
 ghost use Rattle.sas_task_reader.specs.TaskRefusal.{ReadsTask};
 
 use crate::TaskMachine;

@@ -4,7 +4,7 @@ ghost use Rattle.std.specs.Prelude.{◌≡◌, ◌≢◌};
 use crate::keeper::Keeper;
 use crate::task_judge::{Section, TaskJudge};
 use sas_lines::without_return;
-use sas_reader::{Front, Kind, Machine};
+use sas_reader::{Front, Kind, LineEnd, Machine};
 use sas_task_file::WrongWord;
 use std::alloc::Global;
 
@@ -61,11 +61,11 @@ impl<K: Keeper> TaskMachine<K> {
     }
 
     /// If a whole variable starts here, stores it and moves past it.
-    fn variable_ahead(&mut self, bytes: &[u8]) -> Result<Front, Kind>
+    fn variable_ahead<E: LineEnd>(&mut self, bytes: &[u8]) -> Result<Front, Kind>
         requires { SectionDue self.old.judge Section.Variable }
         ensures { AcceptsAhead (LedBy K.keeps) self.old bytes.now self.new result }
     {
-        let kept = self.kept.keep_variable(bytes)?;
+        let kept = self.kept.keep_variable::<E>(bytes)?;
         if kept.front.bytes == 0 {
             return Ok(kept.front);
         }
@@ -74,7 +74,7 @@ impl<K: Keeper> TaskMachine<K> {
     }
 
     /// If a whole section starts here and the keeper stores it at once, moves past it. Otherwise returns `Front::EMPTY`.
-    fn section_ahead(&mut self, bytes: &[u8]) -> Result<Front, Kind>
+    fn section_ahead<E: LineEnd>(&mut self, bytes: &[u8]) -> Result<Front, Kind>
         ensures { AcceptsAhead (LedBy K.keeps) self.old bytes.now self.new result }
     {
         let Some(section) = self.judge.section_due() else {
@@ -82,10 +82,10 @@ impl<K: Keeper> TaskMachine<K> {
         };
         let ranges = self.judge.ranges();
         let front = match section {
-            Section::Variable => return self.variable_ahead(bytes),
-            Section::Group => self.kept.keep_group(ranges, bytes)?,
-            Section::Operator => self.kept.keep_operator(ranges, bytes)?,
-            Section::Rule => self.kept.keep_rule(ranges, bytes)?,
+            Section::Variable => return self.variable_ahead::<E>(bytes),
+            Section::Group => self.kept.keep_group::<E>(ranges, bytes)?,
+            Section::Operator => self.kept.keep_operator::<E>(ranges, bytes)?,
+            Section::Rule => self.kept.keep_rule::<E>(ranges, bytes)?,
         };
         if front.bytes > 0 {
             self.judge.pass_section();
@@ -94,12 +94,12 @@ impl<K: Keeper> TaskMachine<K> {
     }
 
     /// Accepts the first lines of the bytes that the judge accepts ahead, one after another.
-    fn lines_ahead(&mut self, bytes: &[u8]) -> Result<Front, Kind>
+    fn lines_ahead<E: LineEnd>(&mut self, bytes: &[u8]) -> Result<Front, Kind>
         ensures { AcceptsAhead (LedBy K.keeps) self.old bytes.now self.new result }
     {
         let mut lines = 0;
         let mut rest = bytes;
-        while let Some((event, behind)) = self.judge.take_ahead(rest) {
+        while let Some((event, behind)) = self.judge.take_ahead::<E>(rest) {
             let line = without_return(&rest[..rest.len() - behind.len() - 1]);
             self.kept.keep(line, event, &mut self.judge.said)?;
             lines += 1;
@@ -129,11 +129,11 @@ impl<K: Keeper> Machine for TaskMachine<K> {
     }
 
     #[inline(always)]
-    fn accept_ahead(&mut self, bytes: &[u8]) -> Result<Front, Kind> {
-        let section = self.section_ahead(bytes)?;
+    fn accept_ahead<E: LineEnd>(&mut self, bytes: &[u8]) -> Result<Front, Kind> {
+        let section = self.section_ahead::<E>(bytes)?;
         if section.bytes > 0 {
             return Ok(section);
         }
-        self.lines_ahead(bytes)
+        self.lines_ahead::<E>(bytes)
     }
 }

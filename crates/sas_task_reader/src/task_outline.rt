@@ -13,7 +13,7 @@ use crate::fronts::{SectionLists, group_front, operator_front, rule_front};
 use crate::{Keeper, KeptVariable};
 use sas_core::Items;
 use sas_flat::Outline;
-use sas_reader::{Front, Kind};
+use sas_reader::{Front, Kind, LineEnd};
 use sas_task_file::{Event, LineValues};
 use std::alloc::Global;
 use std::marker::Model;
@@ -118,28 +118,32 @@ impl Keeper for TaskOutline {
         Ok(())
     }
 
-    fn keep_variable(&mut self, bytes: &[u8]) -> Result<KeptVariable, Kind> {
-        self.seen.rest.keep_variable(bytes)
+    fn keep_variable<E: LineEnd>(&mut self, bytes: &[u8]) -> Result<KeptVariable, Kind> {
+        self.seen.rest.keep_variable::<E>(bytes)
     }
 
-    fn keep_group(&mut self, ranges: &Items<u32>, bytes: &[u8]) -> Result<Front, Kind> {
-        let Some(front) = group_front(ranges, bytes, &mut self.gathered)? else {
+    fn keep_group<E: LineEnd>(&mut self, ranges: &Items<u32>, bytes: &[u8]) -> Result<Front, Kind> {
+        let Some(front) = group_front::<E>(ranges, bytes, &mut self.gathered)? else {
             return Ok(Front::EMPTY);
         };
         self.seen.group();
         Ok(front)
     }
 
-    fn keep_operator(&mut self, ranges: &Items<u32>, bytes: &[u8]) -> Result<Front, Kind> {
-        let Some(front) = operator_front(ranges, bytes, &mut self.gathered)? else {
+    fn keep_operator<E: LineEnd>(
+        &mut self,
+        ranges: &Items<u32>,
+        bytes: &[u8],
+    ) -> Result<Front, Kind> {
+        let Some(front) = operator_front::<E>(ranges, bytes, &mut self.gathered)? else {
             return Ok(Front::EMPTY);
         };
         self.seen.operator();
         Ok(front)
     }
 
-    fn keep_rule(&mut self, ranges: &Items<u32>, bytes: &[u8]) -> Result<Front, Kind> {
-        let Some(front) = rule_front(ranges, bytes, &mut self.gathered)? else {
+    fn keep_rule<E: LineEnd>(&mut self, ranges: &Items<u32>, bytes: &[u8]) -> Result<Front, Kind> {
+        let Some(front) = rule_front::<E>(ranges, bytes, &mut self.gathered)? else {
             return Ok(Front::EMPTY);
         };
         self.seen.rule();

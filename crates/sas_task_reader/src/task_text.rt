@@ -8,7 +8,7 @@ use crate::fronts::{
 use crate::{Keeper, KeptVariable};
 use sas_core::Items;
 use sas_lines::{drop_returns, push_line};
-use sas_reader::{Front, Kind};
+use sas_reader::{Front, Kind, LineEnd};
 use sas_task_file::{Event, LineValues};
 use std::alloc::Global;
 use std::marker::Model;
@@ -72,32 +72,36 @@ impl Keeper for TaskText {
     }
 
     #[inline(always)]
-    fn keep_variable(&mut self, bytes: &[u8]) -> Result<KeptVariable, Kind> {
-        let Some(kept) = variable_front(bytes, &mut self.gathered)? else {
+    fn keep_variable<E: LineEnd>(&mut self, bytes: &[u8]) -> Result<KeptVariable, Kind> {
+        let Some(kept) = variable_front::<E>(bytes, &mut self.gathered)? else {
             return Ok(NO_VARIABLE);
         };
         self.take(bytes, kept.front.bytes)?;
         Ok(kept)
     }
 
-    fn keep_group(&mut self, ranges: &Items<u32>, bytes: &[u8]) -> Result<Front, Kind> {
-        let Some(front) = group_front(ranges, bytes, &mut self.gathered)? else {
+    fn keep_group<E: LineEnd>(&mut self, ranges: &Items<u32>, bytes: &[u8]) -> Result<Front, Kind> {
+        let Some(front) = group_front::<E>(ranges, bytes, &mut self.gathered)? else {
             return Ok(Front::EMPTY);
         };
         self.take(bytes, front.bytes)?;
         Ok(front)
     }
 
-    fn keep_operator(&mut self, ranges: &Items<u32>, bytes: &[u8]) -> Result<Front, Kind> {
-        let Some(front) = operator_front(ranges, bytes, &mut self.gathered)? else {
+    fn keep_operator<E: LineEnd>(
+        &mut self,
+        ranges: &Items<u32>,
+        bytes: &[u8],
+    ) -> Result<Front, Kind> {
+        let Some(front) = operator_front::<E>(ranges, bytes, &mut self.gathered)? else {
             return Ok(Front::EMPTY);
         };
         self.take(bytes, front.bytes)?;
         Ok(front)
     }
 
-    fn keep_rule(&mut self, ranges: &Items<u32>, bytes: &[u8]) -> Result<Front, Kind> {
-        let Some(front) = rule_front(ranges, bytes, &mut self.gathered)? else {
+    fn keep_rule<E: LineEnd>(&mut self, ranges: &Items<u32>, bytes: &[u8]) -> Result<Front, Kind> {
+        let Some(front) = rule_front::<E>(ranges, bytes, &mut self.gathered)? else {
             return Ok(Front::EMPTY);
         };
         self.take(bytes, front.bytes)?;

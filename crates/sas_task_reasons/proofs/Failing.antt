@@ -6,23 +6,18 @@ use Rattle.sas_task_reasons.proofs.Least.{all_below, IsLeast, none_at_all, has_o
 
 -- a failure that comes before another is of no later effect
 no_later : (a b : Failure) → IsEarlier a b → effect_of_failure a ≤ effect_of_failure b
-no_later (SetsTwo effect other) (SetsTwo effect' other') before = grind arith
-no_later (SetsTwo effect other) (MayStay effect' place') le = le
-no_later (MayStay effect place) (SetsTwo effect' other') lower = omega (arith, lower)
-no_later (MayStay effect place) (MayStay effect' place') before = grind arith
+no_later h1 h2 before = grind arith
 
 module _ (Counts : List Fact → Type 0) (o : Operator) (group : List Fact) where
   -- ---- what is kept doesn't fail
 
   -- an effect that keeps the group has no failure
   pub kept_never_fails : (failure : Failure) → EffectKeeps Counts o group (effect_at o (effect_of_failure failure)) → IsFailure Counts o group failure → ⊥
-  kept_never_fails (SetsTwo effect other) keeps (exists, within, two) = two.no_clash (keeps.single other within two.sets_other two.differ)
-  kept_never_fails (MayStay effect place) keeps (exists, fact, here, lets) = grind (arith, common_steps, item_at)
+  kept_never_fails h1 keeps h2 = grind (arith, item_at)
 
   -- the effect of a failure exists, and sets a fact of the group
   effect_exists : (failure : Failure) → IsFailure Counts o group failure → effect_of_failure failure < length o.effects
-  effect_exists (SetsTwo effect other) fails = fails.0
-  effect_exists (MayStay effect place) fails = fails.0
+  effect_exists h1 fails = grind arith
 
   pub sets_one : (failure : Failure) → IsFailure Counts o group failure → Contains group (sets (effect_at o (effect_of_failure failure)))
   sets_one (SetsTwo effect other) (exists, within, two) = two.sets_one
@@ -45,12 +40,7 @@ module _ (Counts : List Fact → Type 0) (o : Operator) (group : List Fact) wher
   -- a fact that may stay
   pub stay_fails : (effect place : ℕ) (fact : Fact) → effect < length o.effects → Contains group (sets (effect_at o effect)) → slice_get group place ≡ Some fact
       → (IsGone Counts o (effect_at o effect) fact → ⊥) → IsFailure Counts o group (MayStay effect place)
-  stay_fails effect place fact lt has here stays = (
-    lt,
-    fact,
-    here,
-    record { sets_one = has; differ = λ same. stays (λ ne. absurd (ne same)); no_clash = λ clash. stays (λ ne. inl clash); stays = λ removed. stays (λ ne. inr removed) },
-  )
+  stay_fails effect place fact lt has here stays = grind (arith, sets_one)
 
   module _ (none : (failure : Failure) → IsFailure Counts o group failure → ⊥) where
     -- then an effect that sets a fact of the group can't but keep it
@@ -140,10 +130,7 @@ module _ (Counts : List Fact → Type 0) (o : Operator) (group : List Fact) wher
 -- ---- one comes before the other
 
 compare : (a b : Failure) → (a ≡ b) ⊎ (IsEarlier a b ⊎ IsEarlier b a)
-compare (SetsTwo effect other) (SetsTwo effect' other') = grind (arith, cases_order effect effect', cases_order other other')
-compare (SetsTwo effect other) (MayStay effect' place') = grind (arith, cases_lt effect' effect)
-compare (MayStay effect place) (SetsTwo effect' other') = grind (arith, cases_lt effect effect')
-compare (MayStay effect place) (MayStay effect' place') = grind (arith, cases_order effect effect', cases_order place place')
+compare h1 h2 = grind (arith, cases_order, cases_lt)
 
 pub one_first : (Counts : List Fact → Type 0) (o : Operator) (group : List Fact) (a b : Failure)
     → IsFirstFailure Counts o group a → IsFirstFailure Counts o group b → a ≡ b

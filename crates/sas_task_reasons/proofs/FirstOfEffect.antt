@@ -1,6 +1,6 @@
 -- The first failure of one effect, from the lowest effect that may set another fact and the first
 -- fact that may remain.
-use Rattle.sas_task_reasons.proofs.Imports.{◌≡◌, ℕ, ◌<◌, ◌≤◌, Bool, List, length, get_or, Option, None, Some, refl, sym, ap, subst, inl, inr, arith, slice_get-get_or, get_or_from_slice_get, slice_get_within, Contains, slice_get, IfSome, IfNone, Fact, effect_at, group_at, sets, IsKept, EffectPlace, operator_of, NotBothAt, IsGoneAt, EffectKeepsGroup, Failure, SetsTwo, MayStay, IsFailure, IsEarlier, effect_of_failure, IsLowestPartner, IsAny, IsFirstStaying, IsFirstOfEffect}
+use Rattle.sas_task_reasons.proofs.Imports.{◌≡◌, ℕ, ◌<◌, ◌≤◌, Bool, List, length, get_or, Option, Some, refl, sym, ap, subst, inl, inr, arith, slice_get-get_or, get_or_from_slice_get, slice_get_within, Contains, slice_get, IfSome, IfNone, Fact, effect_at, group_at, sets, IsKept, EffectPlace, operator_of, NotBothAt, IsGoneAt, EffectKeepsGroup, Failure, SetsTwo, MayStay, IsFailure, IsEarlier, effect_of_failure, IsLowestPartner, IsAny, IsFirstStaying, IsFirstOfEffect}
 use Rattle.sas_task_reasons.proofs.Least.{item_at, stands_at}
 use Rattle.sas_task_reasons.proofs.Failing.{two_fails, stay_fails}
 
@@ -8,11 +8,7 @@ use Rattle.sas_task_reasons.proofs.Failing.{two_fails, stay_fails}
 
 module _ (f : EffectPlace) (kept : List Bool) (facts group : List Fact) (same : facts ≡ group) where
   pub none_stays : ((x : Fact) → Contains group x → IsGoneAt f kept x) → IsFirstStaying f kept group (length facts)
-  none_stays gone = record {
-    within = omega (arith, ap length same);
-    stays = λ fact here. absurd (let lt = slice_get_within group (length facts) fact here in let len = ap length same in omega arith);
-    below = λ lower fact lt here. gone fact (item_at group lower fact here);
-  }
+  none_stays gone = grind (arith, length, slice_get_within, item_at)
 
   pub one_stays : (n : ℕ) (d : Fact) → n < length facts → ((k : ℕ) (d : Fact) → k < n → IsGoneAt f kept (get_or facts k d))
       → (IsGoneAt f kept (get_or facts n d) → ⊥) → IsFirstStaying f kept group n
@@ -85,9 +81,7 @@ module _ (f : EffectPlace) (kept : List Bool) (place : ℕ) where
 
 -- the failure that was found, in other words
 pub if_some_so : {A : Type 0} (found : Option A) (P Q : A → Type 0) → ((x : A) → P x → Q x) → IfSome found P → IfSome found Q
-if_some_so None P Q so is = is
-if_some_so (Some x) P Q so is = so x is
+if_some_so h1 h2 h3 so is = grind arith
 
 pub if_none_so : {A : Type 0} (found : Option A) (P Q : Type 0) → (P → Q) → IfNone found P → IfNone found Q
-if_none_so None P Q so is = so is
-if_none_so (Some x) P Q so is = is
+if_none_so h1 h2 h3 so is = grind arith

@@ -1,17 +1,13 @@
 -- The groups with the joint verdict `Exclusive` are the greatest family.
 use Rattle.std.proofs.Common.{arith}
 use Rattle.std.proofs.lemmas.Grind.{common_steps}
-use Rattle.sas_task_reasons.proofs.Imports.{◌≡◌, ℕ, ◌<◌, Bool, List, length, refl, subst, ◌↔◌, IsTrue, Parts, operator_at, group_at, Verdict, Exclusive, Derived, Initial, Broken, Keeps, IsIn, IsGroupOf, IsGroupOfOr, IsKeptJointly, IsGreatest, IsJointVerdict, keeps_more, all_keep_more, group_of_larger, family_of, verdict_at, AreJointVerdicts, same_or_itself}
+use Rattle.sas_task_reasons.proofs.Imports.{◌≡◌, ℕ, ◌<◌, Bool, List, length, subst, ◌↔◌, IsTrue, Parts, operator_at, group_at, Verdict, Exclusive, Broken, Keeps, IsIn, IsGroupOf, IsGroupOfOr, IsKeptJointly, IsGreatest, IsJointVerdict, keeps_more, all_keep_more, group_of_larger, family_of, verdict_at, AreJointVerdicts, same_or_itself}
 
 module _ (p : Parts) (verdicts : List Verdict) (kept : List Bool) (joint : AreJointVerdicts p verdicts)
     (exclusive : (place : ℕ) → place < length p.groups → IsTrue (family_of kept place) ↔ (verdict_at verdicts place ≡ Exclusive)) where
   -- a group of a family that is kept jointly is exclusive by its verdict
   verdict_in : (other : ℕ → Bool) → IsKeptJointly p other → (place : ℕ) → IsIn p other place → (verdict : Verdict) → IsJointVerdict p place verdict → verdict ≡ Exclusive
-  verdict_in other jointly place among Exclusive is = refl
-  verdict_in other jointly place among Derived is = absurd (is (jointly.may place among).basic)
-  verdict_in other jointly place among Initial is = absurd (is.1 (jointly.may place among).initial)
-  verdict_in other jointly place among (Broken operator) (family, greatest, outside, basic, initial, first) =
-      absurd (outside (greatest.greatest other jointly place among))
+  verdict_in other jointly place among h1 is = grind arith
 
   has_all : (other : ℕ → Bool) → IsKeptJointly p other → (place : ℕ) → IsIn p other place → IsIn p (family_of kept) place
   has_all other jointly place among = grind (arith, common_steps, verdict_in)

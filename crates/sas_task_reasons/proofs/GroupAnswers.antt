@@ -1,6 +1,6 @@
 -- A layered task has an answer about its groups with reasons, and only one; and how the answer comes about.
 use Rattle.std.proofs.lemmas.Grind.{common_steps}
-use Rattle.sas_task_reasons.proofs.Imports.{◌≡◌, Bool, true, false, IsTrue, IsFalse, ℕ, zero, suc, ◌<◌, ◌≤◌, List, [], ◌∷◌, ◌++◌, length, refl, sym, ap, ◌∙◌, subst, inl, inr, arith, Option, Some, None, cases_eq, ext_get_or, length_push, get_or_push, get_or_append_left, Parts, Verdict, Exclusive, Derived, Initial, Broken, IsJointVerdict, verdict_at, AreJointVerdicts, one_list, some_list, OneAnswer, SomeAnswer, text, groups_status, Reason, OnDerived, verdict_of, IsReasonIfAny, reason_at, AreReasons, why_lines, WhyGroupsAnswer, GroupsAnswerWith, Output}
+use Rattle.sas_task_reasons.proofs.Imports.{◌≡◌, Bool, true, false, IsTrue, IsFalse, ℕ, zero, suc, ◌<◌, ◌≤◌, List, [], ◌∷◌, ◌++◌, length, refl, sym, ap, ◌∙◌, subst, arith, Option, Some, None, cases_eq, ext_get_or, length_push, get_or_push, get_or_append_left, Parts, Verdict, Exclusive, Derived, Initial, Broken, IsJointVerdict, verdict_at, AreJointVerdicts, one_list, some_list, OneAnswer, SomeAnswer, text, groups_status, Reason, verdict_of, IsReasonIfAny, reason_at, AreReasons, why_lines, WhyGroupsAnswer, GroupsAnswerWith, Output}
 use Rattle.sas_task_reasons.proofs.GroupReasons.{one_reason, some_reason}
 use Rattle.sas_task_reasons.proofs.GroupTexts.{plain_lines}
 
@@ -8,8 +8,7 @@ use Rattle.sas_task_reasons.proofs.GroupTexts.{plain_lines}
 
 -- an exclusive group has none
 pub no_reason : (reason : Reason) → Exclusive ≡ verdict_of reason → ⊥
-no_reason (OnDerived fact) is = absurd cc
-no_reason _ is = absurd cc
+no_reason h1 is = grind arith
 
 same_if_any : (p : Parts) (place : ℕ) (verdict : Verdict) (a b : Option Reason) → IsReasonIfAny p place verdict a → IsReasonIfAny p place verdict b → a ≡ b
 same_if_any p place verdict None None is_a is_b = refl
@@ -40,16 +39,7 @@ record AreReasonsBelow (p : Parts) (verdicts : List Verdict) (end : ℕ) (reason
 -- one reason more
 one_more : (p : Parts) (verdicts : List Verdict) (end : ℕ) (reasons : List (Option Reason)) (reason : Option Reason) → AreReasonsBelow p verdicts end reasons
     → IsReasonIfAny p end (verdict_at verdicts end) reason → AreReasonsBelow p verdicts (suc end) (reasons ++ reason ∷ [])
-one_more p verdicts end reasons reason below here = record {
-  one_each = length_push reasons reason ∙ omega (arith, below.one_each);
-  are = λ place lt. elim (cases_eq place end) [
-    | inl is ↦ subst (IsReasonIfAny p place (verdict_at verdicts place)) (sym (get_or_push reasons reason None place (below.one_each ∙ sym is)))
-        (subst (λ n. IsReasonIfAny p n (verdict_at verdicts n) reason) (sym is) here)
-    | inr is_not ↦ subst (IsReasonIfAny p place (verdict_at verdicts place))
-        (sym (get_or_append_left reasons (reason ∷ []) None place (subst (λ n. place < n) (sym below.one_each) (omega arith))))
-        (below.are place (omega arith))
-  ];
-}
+one_more p verdicts end reasons reason below here = grind (arith, length_push, cases_eq, verdict_at, get_or_push, get_or_append_left)
 
 module _ (p : Parts) (verdicts : List Verdict) (joint : AreJointVerdicts p verdicts) where
   some_below : (end : ℕ) → end ≤ length p.groups → ((reasons : List (Option Reason)) → AreReasonsBelow p verdicts end reasons → ⊥) → ⊥

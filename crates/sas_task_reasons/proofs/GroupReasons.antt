@@ -25,8 +25,7 @@ none_passes test facts none = λ k d lt. elim (cases_lt (position_or_len test fa
 -- ---- facts on derived variables
 
 pub is_basic : (layer : Option ℕ) → is_some layer ≡ false → layer ≡ None
-is_basic None is = refl
-is_basic (Some layer) is = absurd cc
+is_basic h1 is = grind arith
 
 -- where no fact is on a derived variable, all are on basic ones
 pub all_basic : (p : Parts) (facts : List Fact) → find (λ (f : Fact). is_some (layer_of p.variables f.var)) facts ≡ None → IsOnBasic p facts

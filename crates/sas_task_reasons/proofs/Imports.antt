@@ -33,11 +33,10 @@ pub use Rattle.sas_groups.specs.Distinct.{AreDistinct}
 pub use Rattle.sas_groups.specs.Families.{IsIn, IsGroupOf, IsGroupOfOr, IsKeptJointly, IsGreatest, IsOnBasic}
 pub use Rattle.sas_groups.specs.Groups.{IsExclusiveIn}
 pub use Rattle.sas_groups.specs.ByFact.{HasFactBeside}
-pub use Rattle.sas_groups.specs.Joint.{verdict_at, AreJointVerdicts}
-pub use Rattle.sas_groups.specs.Kept.{family_of}
+pub use Rattle.sas_groups.specs.Verdicts.{verdict_at, AreJointVerdicts, IsJointVerdict}
+pub use Rattle.sas_groups.specs.Runs.{family_of}
 pub use Rattle.sas_groups.specs.Lists.{known}
 pub use Rattle.sas_groups.specs.Notes.{IsGroupNote}
-pub use Rattle.sas_groups.specs.Verdicts.{IsJointVerdict}
 pub use Rattle.sas_groups.specs.declared.notes.GroupNote.TheVariants.{Several}
 pub use Rattle.sas_groups.specs.declared.verdict.Verdict.{Verdict}
 pub use Rattle.sas_groups.specs.declared.verdict.Verdict.TheVariants.{Exclusive, Derived, Initial, Broken}
@@ -55,8 +54,7 @@ pub use Rattle.sas_mutex.proofs.Keeping.{other_or_none, keeps_only}
 pub use Rattle.sas_mutex.proofs.TaskFacts.{group_facts}
 pub use Rattle.sas_mutex.proofs.VerdictsSoFar.{clash_never_fires, keeps_itself, put_back, several_never_fire, noted_with, with_place, or_itself, is_more}
 pub use Rattle.sas_mutex.specs.ByNotes.{NotBothAt, IsOnVariableBefore, IsGoneAt, EffectKeepsGroup, IsNotedAt, NeverFires, IsNotedFor, EffectKeepsGroupWithItself, known_at}
-pub use Rattle.sas_mutex.specs.Effects.{IsKept, KeepsWithItself}
-pub use Rattle.sas_mutex.specs.Firing.{EffectPlace, operator_of}
+pub use Rattle.sas_mutex.specs.Effects.{IsKept, KeepsWithItself, EffectPlace, operator_of}
 pub use Rattle.sas_mutex.specs.Marks.{IsClean}
 pub use Rattle.sas_answers.proofs.Pushed.{pushes_then}
 pub use Rattle.sas_answers.proofs.Sent.{ends_counting_as, writes_as}
@@ -68,9 +66,8 @@ pub use Rattle.sas_answers.specs.declared.ending.Status.{Status}
 pub use Rattle.sas_answers.specs.declared.line.Line.{Line}
 pub use Rattle.sas_task_reasons.specs.Failures.{IsFailure, IsEarlier, IsFirstFailure}
 pub use Rattle.sas_task_reasons.specs.ReasonLaws.{IsOtherGiver, IsReportedOther, IsReportedOld, IsWhole, LayerReasonsAreWhole}
-pub use Rattle.sas_task_reasons.specs.GroupReasons.{verdict_of, IsReasonIfAny, reason_at, AreReasons, holds, TrueOfGroup, IsReason}
-pub use Rattle.sas_task_reasons.specs.Reporting.{effect_of_failure, IsFirstOfEffect, IsLowestPartner, IsAny, IsFirstStaying, SetsVariable, GroupsAnswerWith, KeptBelow, IsPending, IsReasonSoFar, AreReasonsSoFar, LacksReason, IsBroken}
-pub use Rattle.sas_task_reasons.specs.WhyGroups.{why_lines, WhyGroupsAnswer, explained_group_lines, why_lines_from}
+pub use Rattle.sas_task_reasons.specs.WhyGroups.{verdict_of, IsReasonIfAny, reason_at, AreReasons, holds, TrueOfGroup, IsReason, why_lines, WhyGroupsAnswer, explained_group_lines, why_lines_from}
+pub use Rattle.sas_task_reasons.specs.Reporting.{effect_of_failure, IsFirstOfEffect, IsLowestPartner, IsAny, IsFirstStaying, SetsVariable, GroupsAnswerWith, KeptBelow, IsPending, IsReasonSoFar, AreReasonsSoFar, IsSearched, LacksReason}
 pub use Rattle.sas_task_reasons.specs.WhyLayers.{layer_reasons, with_reasons, why_refusal, WhyAnswer, WhyCheckAnswer, WhyMutexAnswer}
 pub use Rattle.sas_task_reasons.specs.declared.broken.GreatestFamily.{GreatestFamily}
 pub use Rattle.sas_task_reasons.specs.declared.reason.Failure.{Failure}

@@ -34,8 +34,7 @@ module _ (p : Parts) (rule other : Effect) where
   giver_passes g = grind (arith, common_steps, so_all, eq-eqb, fires, differs)
 
   agrees : gives_other p rule other ≡ false → CanFire p other → other.var ≡ rule.var → other.new ≡ rule.new
-  agrees e can same =
-      eqb-true _ _ (not_all (other.var == rule.var) (can_fire p other) (other.new == rule.new) e (eq-eqb _ _ same) ((fires p other).1 can))
+  agrees e can same = grind (arith, eqb-true, not_all, can_fire, eq-eqb, fires)
 
 -- ---- the lowest
 

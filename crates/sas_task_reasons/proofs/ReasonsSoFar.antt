@@ -1,6 +1,6 @@
 -- The reasons after each effect and each operator.
 use Rattle.std.proofs.lemmas.Grind.{common_steps}
-use Rattle.sas_task_reasons.proofs.Imports.{◌≡◌, ℕ, ◌+◌, ◌<◌, Bool, List, [], ◌∷◌, ◌++◌, length, set, Option, None, Some, refl, sym, ◌∙◌, ap, subst, inl, inr, arith, cases_eq, length_push, get_or_push, get_or_append_left, length-set, get_or-set_same, get_or-set_other, Contains, IsTrue, Parts, operator_at, effect_at, group_at, Verdict, Exclusive, Derived, Initial, Broken, sets, IsGroupOfOr, Failure, Reason, Breaks, effect_of_failure, IsFirstOfEffect, IsReason, IsReasonIfAny, reason_at, AreReasons, KeptBelow, IsPending, IsReasonSoFar, AreReasonsSoFar, LacksReason, IsBroken, IsGreatest, IsJointVerdict, HasFactBeside, other_or_none, keeps_only, family_of, KeepsWithItself, verdict_at, AreJointVerdicts, keeps_from_effects}
+use Rattle.sas_task_reasons.proofs.Imports.{◌≡◌, ℕ, ◌+◌, ◌<◌, Bool, List, [], ◌∷◌, ◌++◌, length, set, Option, None, Some, refl, sym, ◌∙◌, ap, subst, inl, inr, arith, cases_eq, length_push, get_or_push, get_or_append_left, length-set, get_or-set_same, get_or-set_other, Contains, IsTrue, Parts, operator_at, effect_at, group_at, Verdict, Broken, sets, IsGroupOfOr, Failure, Reason, Breaks, effect_of_failure, IsFirstOfEffect, IsReason, IsReasonIfAny, reason_at, AreReasons, KeptBelow, IsPending, IsReasonSoFar, AreReasonsSoFar, IsSearched, LacksReason, IsGreatest, IsJointVerdict, HasFactBeside, other_or_none, keeps_only, family_of, KeepsWithItself, verdict_at, AreJointVerdicts, keeps_from_effects}
 use Rattle.sas_task_reasons.proofs.Least.{has_or_not}
 use Rattle.sas_task_reasons.proofs.Failing.{sets_one, kept_never_fails, first_of_all}
 use Rattle.sas_task_reasons.proofs.GreatestOfVerdicts.{breaks_under}
@@ -42,19 +42,14 @@ module _ (p : Parts) (kept : List Bool) where
   pending_by : (operator effect operator' effect' place : ℕ) (verdict : Verdict)
       → ((breaking : ℕ) → verdict ≡ Broken breaking → IsPending p kept operator effect place (Broken breaking) → IsPending p kept operator' effect' place (Broken breaking))
       → IsPending p kept operator effect place verdict → IsPending p kept operator' effect' place verdict
-  pending_by operator effect operator' effect' place Exclusive more is = is
-  pending_by operator effect operator' effect' place Derived more is = is
-  pending_by operator effect operator' effect' place Initial more is = is
-  pending_by operator effect operator' effect' place (Broken breaking) more is = more breaking refl is
+  pending_by operator effect operator' effect' place h1 more is = grind arith
 
   -- a reason that was reported stays
   pub so_far_by : (operator effect operator' effect' place : ℕ) (verdict : Verdict) (reason : Option Reason)
       → ((breaking : ℕ) → reason ≡ None → verdict ≡ Broken breaking → IsPending p kept operator effect place (Broken breaking)
       → IsPending p kept operator' effect' place (Broken breaking))
       → IsReasonSoFar p kept operator effect place verdict reason → IsReasonSoFar p kept operator' effect' place verdict reason
-  so_far_by operator effect operator' effect' place verdict None more is =
-      pending_by operator effect operator' effect' place verdict (λ breaking. more breaking refl) is
-  so_far_by operator effect operator' effect' place verdict (Some reason) more is = is
+  so_far_by operator effect operator' effect' place verdict h1 more is = grind (arith, pending_by)
 
   -- an effect that keeps the group, or sets no fact of it
   pub kept_more : (operator effect place : ℕ)
@@ -75,43 +70,39 @@ module _ (p : Parts) (kept : List Bool) where
   pending_more operator effect place verdict reason keeps = so_far_by operator effect operator (effect + 1) place verdict reason
       (λ breaking unreported is pending. (pending.0, λ same. kept_more operator effect place keeps (pending.1 same)))
 
+  -- the same family and verdicts, with these reasons
+  pub searched_on : (operator effect operator' effect' : ℕ) (verdicts : List Verdict) (reasons reasons' : List (Option Reason)) → IsSearched p verdicts kept operator effect reasons
+      → AreReasonsSoFar p kept operator' effect' verdicts reasons' → IsSearched p verdicts kept operator' effect' reasons'
+  searched_on operator effect operator' effect' verdicts reasons reasons' s so_far = record { joint = s.joint; greatest = s.greatest; for_each = s.for_each; reasons_so_far = so_far }
+
   pub next_effect : (operator effect : ℕ) (verdicts : List Verdict) (reasons : List (Option Reason))
       → ((place : ℕ) → HasFactBeside p place (sets (effect_at (operator_at p operator) effect))
       → IsReasonSoFar p kept operator (effect + 1) place (verdict_at verdicts place) (reason_at reasons place))
-      → AreReasonsSoFar p kept operator effect verdicts reasons → AreReasonsSoFar p kept operator (effect + 1) verdicts reasons
-  next_effect operator effect verdicts reasons reported so_far = record {
-    one_each = so_far.one_each;
+      → IsSearched p verdicts kept operator effect reasons → IsSearched p verdicts kept operator (effect + 1) reasons
+  next_effect operator effect verdicts reasons reported s = searched_on operator effect operator (effect + 1) verdicts reasons reasons s (record {
+    one_each = s.reasons_so_far.one_each;
     are = λ place lt. elim (has_or_not (group_at p place) (sets (effect_at (operator_at p operator) effect))) [
       | inl has ↦ elim (other_or_none (group_at p place) (sets (effect_at (operator_at p operator) effect))) [
         | inl w ↦ reported place (record { exists = lt; among = has; other = w.0; beside = w.1; differ = w.2 })
         | inr none ↦ pending_more operator effect place (verdict_at verdicts place) (reason_at reasons place)
             (λ _. keeps_only (IsGroupOfOr p (family_of kept) (group_at p place)) (operator_at p operator) (group_at p place) (effect_at (operator_at p operator) effect) none)
-            (so_far.are place lt)
+            (s.reasons_so_far.are place lt)
       ]
-      | inr has_not ↦ pending_more operator effect place (verdict_at verdicts place) (reason_at reasons place) (λ has. absurd (has_not has)) (so_far.are place lt)
+      | inr has_not ↦ pending_more operator effect place (verdict_at verdicts place) (reason_at reasons place) (λ has. absurd (has_not has)) (s.reasons_so_far.are place lt)
     ];
-  }
+  })
 
   -- where no reason is missing, the operator leaves pending what was
   pub not_lacking : (operator effect place : ℕ) (verdicts : List Verdict) (reasons : List (Option Reason)) → (LacksReason operator verdicts reasons place → ⊥)
       → IsReasonSoFar p kept operator effect place (verdict_at verdicts place) (reason_at reasons place)
       → IsReasonSoFar p kept operator (effect + 1) place (verdict_at verdicts place) (reason_at reasons place)
-  not_lacking operator effect place verdicts reasons not = so_far_by operator effect operator (effect + 1) place (verdict_at verdicts place) (reason_at reasons place)
-      (λ breaking unreported is pending. (pending.0, λ same. absurd (not (record { breaks = is ∙ ap (λ (n : ℕ). Broken n) same; unreported = unreported }))))
+  not_lacking operator effect place verdicts reasons not = grind (arith, so_far_by, verdict_at, reason_at)
 
   -- one reason is reported
   pub one_reported : (operator effect place : ℕ) (verdicts : List Verdict) (reasons : List (Option Reason)) (reason : Reason) → place < length p.groups
-      → AreReasonsSoFar p kept operator effect verdicts reasons → IsReason p place (verdict_at verdicts place) reason
-      → AreReasonsSoFar p kept operator effect verdicts (set reasons place (Some reason))
-  one_reported operator effect place verdicts reasons reason exists so_far is = record {
-    one_each = length-set reasons place (Some reason) ∙ so_far.one_each;
-    are = λ n lt. elim (cases_eq n place) [
-      | inl e ↦ subst (λ i. IsReasonSoFar p kept operator effect i (verdict_at verdicts i) (reason_at (set reasons place (Some reason)) i)) (sym e)
-          (subst (IsReasonSoFar p kept operator effect place (verdict_at verdicts place))
-          (sym (get_or-set_same reasons place (Some reason) None (let len = so_far.one_each in omega arith))) is)
-      | inr ne ↦ subst (IsReasonSoFar p kept operator effect n (verdict_at verdicts n)) (sym (get_or-set_other reasons place n (Some reason) None ne)) (so_far.are n lt)
-    ];
-  }
+      → IsSearched p verdicts kept operator effect reasons → IsReason p place (verdict_at verdicts place) reason
+      → IsSearched p verdicts kept operator effect (set reasons place (Some reason))
+  one_reported operator effect place verdicts reasons reason exists s is = grind (arith, searched_on, set, length-set, cases_eq, verdict_at, reason_at, get_or-set_same, get_or-set_other)
 
   -- a reason that is missing is pending
   pub lacking_pending : (operator effect place : ℕ) (verdicts : List Verdict) (reasons : List (Option Reason)) → LacksReason operator verdicts reasons place
@@ -136,49 +127,37 @@ module _ (p : Parts) (kept : List Bool) where
 
   -- ---- one operator more
 
-  module _ (verdicts : List Verdict) (joint : AreJointVerdicts p verdicts) (greatest : IsGreatest p (family_of kept)) where
+  module _ (verdicts : List Verdict) where
     -- an operator that breaks the group has an effect that doesn't keep it
-    not_all_keep : (operator effects place : ℕ) → place < length p.groups → effects ≡ length (operator_at p operator).effects
+    not_all_keep : (operator effects place : ℕ) → AreJointVerdicts p verdicts → IsGreatest p (family_of kept) → place < length p.groups → effects ≡ length (operator_at p operator).effects
         → verdict_at verdicts place ≡ Broken operator → KeptBelow p kept operator effects place → ⊥
-    not_all_keep operator effects place exists all is below = breaks_under p (family_of kept) place operator greatest
+    not_all_keep operator effects place joint greatest exists all is below = breaks_under p (family_of kept) place operator greatest
         (subst (IsJointVerdict p place) is (joint.are place exists))
         (keeps_from_effects (IsGroupOfOr p (family_of kept) (group_at p place)) (operator_at p operator) (group_at p place)
         (λ effect within has. below.keeps effect (omega arith) has))
 
     pub next_operator : (operator effects : ℕ) (reasons : List (Option Reason)) → effects ≡ length (operator_at p operator).effects
-        → AreReasonsSoFar p kept operator effects verdicts reasons → AreReasonsSoFar p kept (operator + 1) 0 verdicts reasons
-    next_operator operator effects reasons all so_far = record {
-      one_each = so_far.one_each;
-      are = λ place lt. so_far_by operator effects (operator + 1) 0 place (verdict_at verdicts place) (reason_at reasons place)
-          (λ breaking unreported is pending. elim (cases_eq breaking operator) [
-            | inl same ↦ absurd (not_all_keep operator effects place lt all (is ∙ ap (λ (n : ℕ). Broken n) same) (pending.1 same))
-            | inr differ ↦ (let below = pending.0 in omega arith, λ same. record { keeps = λ lower less. absurd (omega arith) })
-          ])
-          (so_far.are place lt);
-    }
+        → IsSearched p verdicts kept operator effects reasons → IsSearched p verdicts kept (operator + 1) 0 reasons
+    next_operator operator effects reasons all s = grind (arith, searched_on, so_far_by, verdict_at, reason_at, cases_eq, not_all_keep)
 
     -- an operator that breaks no group is no reason
     pub skip_operator : (operator : ℕ) (reasons : List (Option Reason))
         → ((place : ℕ) → place < length p.groups → verdict_at verdicts place ≡ Broken operator → ⊥)
-        → AreReasonsSoFar p kept operator 0 verdicts reasons → AreReasonsSoFar p kept (operator + 1) 0 verdicts reasons
-    skip_operator operator reasons none so_far = grind (arith, common_steps, so_far_by, cases_eq)
+        → IsSearched p verdicts kept operator 0 reasons → IsSearched p verdicts kept (operator + 1) 0 reasons
+    skip_operator operator reasons none s = grind (arith, searched_on, so_far_by, cases_eq)
 
     -- in the end each is reported
     reported_in_the_end : (place : ℕ) (verdict : Verdict) (reason : Option Reason) → IsJointVerdict p place verdict
         → IsReasonSoFar p kept (length p.operators) 0 place verdict reason → IsReasonIfAny p place verdict reason
-    reported_in_the_end place verdict (Some reason) said is = is
-    reported_in_the_end place Exclusive None said is = refl
-    reported_in_the_end place Derived None said is = absurd is
-    reported_in_the_end place Initial None said is = absurd is
-    reported_in_the_end place (Broken breaking) None (family, great, outside, basic, initial, first) is = absurd (let lt = first.exists in let ge = is.0 in omega arith)
+    reported_in_the_end place verdict h1 said is = grind arith
 
     pub reasons_in_the_end : (operators : ℕ) (reasons : List (Option Reason)) → operators ≡ length p.operators
-        → AreReasonsSoFar p kept operators 0 verdicts reasons → AreReasons p verdicts reasons
-    reasons_in_the_end operators reasons all so_far = grind (arith, common_steps, reported_in_the_end)
+        → IsSearched p verdicts kept operators 0 reasons → AreReasons p verdicts reasons
+    reasons_in_the_end operators reasons all s = grind (arith, reported_in_the_end, verdict_at, reason_at)
 
 -- where no operator breaks a group, the first reasons are all
 pub none_broken : (p : Parts) (verdicts : List Verdict) (reasons : List (Option Reason))
-    → ((place : ℕ) → place < length p.groups → IsBroken (verdict_at verdicts place) → ⊥)
+    → ((place : ℕ) → place < length p.groups → (operator : ℕ) → verdict_at verdicts place ≡ Broken operator → ⊥)
     → AreReasonsSoFar p [] 0 0 verdicts reasons → AreReasons p verdicts reasons
 none_broken p verdicts reasons none so_far = grind (arith, common_steps)
 

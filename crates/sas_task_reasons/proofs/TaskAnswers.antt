@@ -1,5 +1,5 @@
 -- A task has an answer with reasons, and only one; and how the answer comes about.
-use Rattle.sas_task_reasons.proofs.Imports.{◌≡◌, [], refl, sym, ap, subst, Option, Some, None, option_map, none-some, Parts, first_fault, LayerFault, Memory, layer_checks, IsLayered, checks_are_rules, Output, layers_refusal, layers_verdict, OneAnswer, SomeAnswer, some_check_answer, reasons_text, WhyGroupsAnswer, layer_reasons, with_reasons, why_refusal, WhyAnswer, WhyCheckAnswer, WhyMutexAnswer}
+use Rattle.sas_task_reasons.proofs.Imports.{arith, ◌≡◌, [], refl, sym, ap, subst, Option, Some, None, option_map, none-some, Parts, first_fault, LayerFault, Memory, layer_checks, IsLayered, checks_are_rules, Output, layers_refusal, layers_verdict, OneAnswer, SomeAnswer, some_check_answer, reasons_text, WhyGroupsAnswer, layer_reasons, with_reasons, why_refusal, WhyAnswer, WhyCheckAnswer, WhyMutexAnswer}
 use Rattle.sas_task_reasons.proofs.GroupAnswers.{one_groups_answer, some_groups_answer}
 
 -- the same refusal, with reasons behind
@@ -8,8 +8,7 @@ refused_why p fault o is = ap (option_map (with_reasons (reasons_text p [] (laye
 
 module _ (p : Parts) (IsAnswer : Output → Type 0) where
   one_by : ((a b : Output) → IsAnswer a → IsAnswer b → a ≡ b) → (first : Option LayerFault) (a b : Output) → WhyAnswer p IsAnswer first a → WhyAnswer p IsAnswer first b → a ≡ b
-  one_by one (Some fault) a b is_a is_b = cc
-  one_by one None a b is_a is_b = one a b is_a is_b
+  one_by one h1 a b is_a is_b = grind arith
 
   some_by : (((o : Output) → IsAnswer o → ⊥) → ⊥) → (first : Option LayerFault) → first_fault (layer_checks p) ≡ first → ((o : Output) → WhyAnswer p IsAnswer first o → ⊥) → ⊥
   some_by some (Some fault) is none =

@@ -2,25 +2,21 @@
 use Rattle.std.proofs.Common.{arith}
 use Rattle.std.proofs.lemmas.Grind.{common_steps}
 use Rattle.sas_task_reasons.proofs.GroupReasons.{is_basic}
-use Rattle.sas_task_reasons.proofs.Imports.{◌≡◌, ℕ, ◌<◌, ◌==◌, Bool, true, false, List, [], length, take, get_or, subst, inl, inr, eq-eqb, Option, Some, None, if◌then◌else◌, not, is_some, IsSome, option_map_or, Fact, Effect, Operator, Parts, Check, check, operator_at, effect_at, rule_at, layer_of, LayerFault, EffectOnDerived, RuleOnBasic, OldValue, TwoValues, LayerOrder, IsReportedOld, IsWhole, LayerReasonsAreWhole, default_of, can_fire, numbered_checks, effect_layer_checks, operator_layer_checks, agrees_with, looks_down, firing_checks, rule_layer_checks, layer_checks}
+use Rattle.sas_task_reasons.proofs.Imports.{◌≡◌, ℕ, ◌<◌, ◌==◌, Bool, true, false, List, [], length, take, get_or, subst, inl, inr, eq-eqb, Option, None, if◌then◌else◌, not, is_some, IsSome, option_map_or, Fact, Effect, Operator, Parts, Check, check, operator_at, effect_at, rule_at, layer_of, LayerFault, EffectOnDerived, OldValue, TwoValues, LayerOrder, IsReportedOld, IsWhole, LayerReasonsAreWhole, default_of, can_fire, numbered_checks, effect_layer_checks, operator_layer_checks, agrees_with, looks_down, firing_checks, rule_layer_checks, layer_checks}
 use Rattle.sas_task_reasons.proofs.FailingChecks.{IsFirst, check_fails, guarded_fails, either_fails, numbered_fails}
 use Rattle.sas_task_reasons.proofs.OtherGivers.{other_reported}
 
 -- ---- tests that fail
 
 has_layer : (layer : Option ℕ) → not (is_some layer) ≡ false → IsSome layer
-has_layer None e = absurd cc
-has_layer (Some layer) e = search
+has_layer h1 e = grind arith
 
 both_layers : (a b : Option ℕ) (test : ℕ → ℕ → Bool) → option_map_or (λ here. option_map_or (λ its. test here its) b true) a true ≡ false → IsSome a × IsSome b
-both_layers None b test e = absurd cc
-both_layers (Some here) None test e = absurd cc
-both_layers (Some here) (Some its) test e = (search, search)
+both_layers h1 b test e = grind arith
 
 module _ (p : Parts) where
   old_reported : (rule : Effect) (old : Option ℕ) → rule.old ≡ old → option_map_or (λ its. its == default_of p rule.var) old true ≡ false → IsReportedOld p rule
-  old_reported rule None is e = absurd cc
-  old_reported rule (Some old) is e = grind (arith, common_steps, eq-eqb)
+  old_reported rule h1 is e = grind (arith, eq-eqb)
 
   -- ---- operators
 
@@ -77,13 +73,7 @@ module _ (p : Parts) where
     firing_whole is = grind (arith, common_steps, either_fails, old_whole, value_whole, order_whole) steps 1500000
 
     rule_whole : IsFirst (rule_layer_checks p place rule) e → IsWhole p e
-    rule_whole is =
-        let layer = layer_of p.variables rule.var in
-        let firing = firing_checks p place rule in
-        elim (either_fails (check (is_some layer) (RuleOnBasic place)) (if can_fire p rule then firing else []) e is) [
-          | inl basic ↦ (let fails = check_fails (is_some layer) (RuleOnBasic place) e basic in subst (IsWhole p) fails.1 (within, is_basic layer fails.0))
-          | inr fires ↦ firing_whole (guarded_fails (can_fire p rule) firing e fires.1)
-        ]
+    rule_whole is = grind (arith, layer_of, firing_checks, either_fails, check, is_some, can_fire, check_fails, is_basic, firing_whole, guarded_fails)
 
   whole : (e : LayerFault) → IsFirst (layer_checks p) e → IsWhole p e
   whole e is = elim (either_fails (numbered_checks (operator_layer_checks p) p.operators) (numbered_checks (rule_layer_checks p) p.rules) e is) [

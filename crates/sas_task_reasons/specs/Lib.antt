@@ -1,6 +1,5 @@
 -- The modules that public contracts cite.
 pub mod Failures
-pub mod GroupReasons
 pub mod Reporting
 pub mod WhyGroups
 pub mod WhyLayers

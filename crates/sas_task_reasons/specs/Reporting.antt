@@ -3,7 +3,7 @@
 use Rattle.std.specs.Prelude.{◌≡◌, ℕ, ◌<◌, ◌≤◌, Bool, List, length, Some, slice_get, true, false, IsTrue, Option, None, Contains}
 use Rattle.sas_core.specs.declared.parts.Fact.{Fact}
 use Rattle.sas_core.specs.declared.parts.Operator.{Operator}
-use Rattle.sas_mutex.specs.Firing.{EffectPlace, operator_of}
+use Rattle.sas_mutex.specs.Effects.{EffectPlace, operator_of, KeepsWithItself}
 use Rattle.sas_mutex.specs.ByNotes.{NotBothAt, IsGoneAt}
 use Rattle.sas_groups.specs.ByVariable.{variable_of}
 use Rattle.sas_task_reasons.specs.declared.reason.Failure.{Failure}
@@ -14,14 +14,13 @@ use Rattle.sas_core.specs.Grounded.{operator_at, effect_at, group_at}
 use Rattle.sas_groups.specs.declared.verdict.Verdict.{Verdict}
 use Rattle.sas_groups.specs.declared.verdict.Verdict.TheVariants.{Exclusive, Derived, Initial, Broken}
 use Rattle.sas_groups.specs.Clashes.{sets}
-use Rattle.sas_groups.specs.Kept.{family_of}
-use Rattle.sas_mutex.specs.Effects.{KeepsWithItself}
-use Rattle.sas_groups.specs.Joint.{verdict_at}
+use Rattle.sas_groups.specs.Runs.{family_of}
+use Rattle.sas_groups.specs.Families.{IsGreatest}
+use Rattle.sas_groups.specs.Verdicts.{verdict_at, AreJointVerdicts}
 use Rattle.sas_answers.specs.Ending.{Output}
 use Rattle.sas_answers.specs.Answers.{GroupsAnswer}
 use Rattle.sas_task_reasons.specs.declared.reason.Reason.{Reason}
-use Rattle.sas_task_reasons.specs.GroupReasons.{IsReason, reason_at}
-use Rattle.sas_task_reasons.specs.WhyGroups.{WhyGroupsAnswer}
+use Rattle.sas_task_reasons.specs.WhyGroups.{IsReason, reason_at, WhyGroupsAnswer}
 
 -- The lowest effect, among those that were checked, that may set a fact of the group on another
 -- variable in the same step; the number of all effects if there is none.
@@ -93,16 +92,19 @@ pub record AreReasonsSoFar (p : Parts) (kept : List Bool) (operator effect : ℕ
   pub are : (place : ℕ) → place < length p.groups → IsReasonSoFar p kept operator effect place
       (verdict_at verdicts place) (reason_at reasons place)
 
+-- the same for each group, by the joint verdicts and the greatest family
+pub record IsSearched (p : Parts) (verdicts : List Verdict) (kept : List Bool)
+    (operator effect : ℕ) (reasons : List (Option Reason)) : Type 0 where
+  pub joint : AreJointVerdicts p verdicts
+  pub greatest : IsGreatest p (family_of kept)
+  pub for_each : length kept ≡ length p.groups
+  pub reasons_so_far : AreReasonsSoFar p kept operator effect verdicts reasons
+
 -- the reason is still missing: the operator breaks the group, and no reason was found yet
 pub record LacksReason (operator : ℕ) (verdicts : List Verdict) (reasons : List (Option Reason))
     (place : ℕ) : Type 0 where
   pub breaks : verdict_at verdicts place ≡ Broken operator
   pub unreported : reason_at reasons place ≡ None
-
--- the verdict is `Broken`
-pub record IsBroken (verdict : Verdict) : Type 0 where
-  pub operator : ℕ
-  pub is : verdict ≡ Broken operator
 
 -- each operator that breaks a group, according to these verdicts, is marked
 pub record AreMarked (verdicts : List Verdict) (marked : List Bool) : Type 0 where

@@ -1,14 +1,8 @@
 // The reasons that don't involve operators.
-ghost use Rattle.std.specs.Prelude.{◌≡◌, ◌<◌, ◌==◌, ◌&&◌, not, is_some, find, length, All, IfSome, IfNone, IfOk, List, Bool};
-ghost use Rattle.sas_core.specs.Grounded.{group_at};
+ghost use Rattle.std.specs.Prelude.{◌≡◌, ◌<◌, ◌==◌, ◌&&◌, not, is_some, find, length, All, IfOk, List, Bool};
 ghost use Rattle.sas_core.specs.Variables.{layer_of};
-ghost use Rattle.sas_groups.specs.Groups.{IsExclusiveIn};
-ghost use Rattle.sas_groups.specs.Families.{IsOnBasic};
-ghost use Rattle.sas_groups.specs.Verdicts.{IsJointVerdict};
-ghost use Rattle.sas_groups.specs.declared.verdict.Verdict.TheVariants.{Derived, Initial};
-ghost use Rattle.sas_groups.specs.Joint.{AreJointVerdicts};
-ghost use Rattle.sas_task_reasons.specs.GroupReasons as spec;
-ghost use Rattle.sas_task_reasons.specs.GroupReasons.{IsReason};
+ghost use Rattle.sas_groups.specs.Verdicts.{IsJointVerdict, AreJointVerdicts};
+ghost use Rattle.sas_task_reasons.specs.WhyGroups as spec;
 ghost use Rattle.sas_task_reasons.specs.Reporting.{IsReasonSoFar, AreReasonsSoFar};
 
 use crate::reason::Reason;
@@ -41,23 +35,18 @@ fn first_reason<T: Grounded>(task: &Layered<T>, group: u32, verdict: Verdict) ->
     requires joint { IsJointVerdict task.now group verdict }
     ensures { (kept : List Bool) → IsReasonSoFar task.now kept 0 0 group verdict result }
 {
+    let facts = task.task().group(group);
     match verdict {
-        Verdict::Derived => on_derived(task, group),
-        Verdict::Initial => holds_two(task, group),
+        Verdict::Derived => {
+            let fact = first_derived(task, facts)?;
+            Some(Reason::OnDerived { fact })
+        }
+        Verdict::Initial => {
+            let first = first_initial(task, facts)?;
+            let second = first_beside(task, facts, first.var)?;
+            Some(Reason::HoldsTwo { first, second })
+        }
         _ => None,
-    }
-}
-
-/// Returns the first fact of the group on a derived variable, as a reason.
-fn on_derived<T: Grounded>(layered: &Layered<T>, group: u32) -> Option<Reason>
-    requires { group < length layered.now.groups }
-    ensures some { IfSome result (IsReason layered.now group Derived) }
-    ensures none { IfNone result (IsOnBasic layered.now (group_at layered.now group)) }
-{
-    let task = layered.task();
-    match first_derived(layered, task.group(group)) {
-        Some(fact) => Some(Reason::OnDerived { fact }),
-        None => None,
     }
 }
 
@@ -71,23 +60,6 @@ fn first_derived<T: Grounded>(task: &Layered<T>, facts: &[Fact]) -> Option<Fact>
         .iter()
         .copied()
         .find(|fact| task.layer(fact.var).is_some())
-}
-
-/// Returns, as a reason, the first fact of the group that holds in the state section, and the first on another variable.
-fn holds_two<T: Grounded>(layered: &Layered<T>, group: u32) -> Option<Reason>
-    requires { group < length layered.now.groups }
-    ensures some { IfSome result (IsReason layered.now group Initial) }
-    ensures none { IfNone result (IsExclusiveIn layered.now.init (group_at layered.now group)) }
-{
-    let task = layered.task();
-    let facts = task.group(group);
-    let Some(first) = first_initial(layered, facts) else {
-        return None;
-    };
-    match first_beside(layered, facts, first.var) {
-        Some(second) => Some(Reason::HoldsTwo { first, second }),
-        None => None,
-    }
 }
 
 /// Returns the first of the facts that holds in the state section.

@@ -1,16 +1,14 @@
 // The reasons of groups that an operator breaks.
 ghost use Rattle.std.specs.Prelude.{◌≡◌, ◌≢◌, ◌+◌, ◌<◌, ℕ, length, All, IsTrue, IsFalse};
 ghost use Rattle.sas_groups.specs.Clashes.{sets};
-ghost use Rattle.sas_groups.specs.Families.{IsGreatest};
 ghost use Rattle.sas_groups.specs.ByFact.{HasFact};
-ghost use Rattle.sas_groups.specs.Kept.{family_of};
-ghost use Rattle.sas_mutex.specs.Firing.{effect_of};
-ghost use Rattle.sas_groups.specs.Joint.{verdict_at, AreJointVerdicts};
+ghost use Rattle.sas_mutex.specs.Effects.{effect_of};
+ghost use Rattle.sas_groups.specs.Verdicts.{verdict_at};
 ghost use Rattle.sas_mutex.specs.Marks.{IsClean};
 ghost use Rattle.sas_groups.specs.Noting.{AreBelow};
 ghost use Rattle.sas_mutex.specs.ByNotes.{IsNotedAt};
-ghost use Rattle.sas_task_reasons.specs.GroupReasons.{reason_at, AreReasons};
-ghost use Rattle.sas_task_reasons.specs.Reporting.{IsReasonSoFar, AreReasonsSoFar, LacksReason, AreMarked};
+ghost use Rattle.sas_task_reasons.specs.WhyGroups.{reason_at, AreReasons};
+ghost use Rattle.sas_task_reasons.specs.Reporting.{IsReasonSoFar, IsSearched, LacksReason, AreMarked};
 
 use crate::failures::first_failure;
 use crate::reason::Reason;
@@ -37,10 +35,7 @@ pub fn report_failures<T: Grounded>(
 )
     requires marked { AreMarked verdicts.now marked.now }
     requires for_each { length marked.now ≡ length indexed.now.operators }
-    requires joint { AreJointVerdicts indexed.now verdicts.now }
-    requires greatest { IsGreatest indexed.now (family_of greatest.old.kept) }
-    requires one_each { length greatest.old.kept ≡ length indexed.now.groups }
-    requires so_far { AreReasonsSoFar indexed.now greatest.old.kept 0 0 verdicts.now reasons.old }
+    requires so_far { IsSearched indexed.now verdicts.now greatest.old.kept 0 0 reasons.old }
     requires clean { IsClean indexed.now greatest.old.marks }
     ensures { AreReasons indexed.now verdicts.now reasons.new }
 {
@@ -61,15 +56,11 @@ fn report_failures_of<T: Grounded>(
     reasons: &mut Items<Option<Reason>>,
 )
     requires operator { operator < length indexed.now.operators }
-    requires joint { AreJointVerdicts indexed.now verdicts.now }
-    requires greatest { IsGreatest indexed.now (family_of greatest.old.kept) }
-    requires one_each { length greatest.old.kept ≡ length indexed.now.groups }
     requires so_far { let kept = greatest.old.kept in
-        AreReasonsSoFar indexed.now kept operator 0 verdicts.now reasons.old }
+        IsSearched indexed.now verdicts.now kept operator 0 reasons.old }
     requires clean { IsClean indexed.now greatest.old.marks }
-    ensures so_far { let kept = greatest.old.kept in
-        AreReasonsSoFar indexed.now kept (operator + 1) 0 verdicts.now reasons.new }
-    ensures kept { greatest.new.kept ≡ greatest.old.kept }
+    ensures so_far { let kept = greatest.new.kept in
+        IsSearched indexed.now verdicts.now kept (operator + 1) 0 reasons.new }
     ensures clean { IsClean indexed.now greatest.new.marks }
 {
     for effect in 0..indexed.task.effects(operator) {
@@ -86,15 +77,11 @@ fn report_failures_at<T: Grounded>(
     greatest: &mut GreatestFamily,
     reasons: &mut Items<Option<Reason>>,
 )
-    requires verdicts { length verdicts.now ≡ length firing.now.task.groups }
-    requires greatest { IsGreatest firing.now.task (family_of greatest.old.kept) }
-    requires one_each { length greatest.old.kept ≡ length firing.now.task.groups }
-    requires so_far { let f = firing.now in AreReasonsSoFar f.task greatest.old.kept f.operator
-        f.effect verdicts.now reasons.old }
+    requires so_far { let f = firing.now in let kept = greatest.old.kept in
+        IsSearched f.task verdicts.now kept f.operator f.effect reasons.old }
     requires clean { IsClean firing.now.task greatest.old.marks }
-    ensures so_far { let f = firing.now in AreReasonsSoFar f.task greatest.old.kept f.operator
-        (f.effect + 1) verdicts.now reasons.new }
-    ensures kept { greatest.new.kept ≡ greatest.old.kept }
+    ensures so_far { let f = firing.now in let kept = greatest.new.kept in
+        IsSearched f.task verdicts.now kept f.operator (f.effect + 1) reasons.new }
     ensures clean { IsClean firing.now.task greatest.new.marks }
 {
     let groups = firing.groups();
@@ -147,13 +134,11 @@ fn report_groups<T: Grounded>(
 )
     requires have { All (λ (place : ℕ). HasFact firing.now.task place
         (sets (effect_of firing.now))) groups.now }
-    requires verdicts { length verdicts.now ≡ length firing.now.task.groups }
-    requires greatest { IsGreatest firing.now.task (family_of greatest.old.kept) }
-    requires so_far { let f = firing.now in AreReasonsSoFar f.task greatest.old.kept f.operator
-        f.effect verdicts.now reasons.old }
+    requires so_far { let f = firing.now in let kept = greatest.old.kept in
+        IsSearched f.task verdicts.now kept f.operator f.effect reasons.old }
     requires notes { IsNotedAt firing.now greatest.old.kept greatest.old.marks }
-    ensures so_far { let f = firing.now in AreReasonsSoFar f.task greatest.old.kept f.operator
-        f.effect verdicts.now reasons.new }
+    ensures so_far { let f = firing.now in let kept = greatest.old.kept in
+        IsSearched f.task verdicts.now kept f.operator f.effect reasons.new }
     ensures reported { let f = firing.now in All (λ (place : ℕ).
         IsReasonSoFar f.task greatest.old.kept f.operator (f.effect + 1) place
         (verdict_at verdicts.now place) (reason_at reasons.new place)) groups.now }
@@ -175,13 +160,11 @@ fn report_group<T: Grounded>(
     reasons: &mut Items<Option<Reason>>,
 )
     requires has { HasFact firing.now.task group (sets (effect_of firing.now)) }
-    requires verdicts { length verdicts.now ≡ length firing.now.task.groups }
-    requires greatest { IsGreatest firing.now.task (family_of greatest.old.kept) }
-    requires so_far { let f = firing.now in AreReasonsSoFar f.task greatest.old.kept f.operator
-        f.effect verdicts.now reasons.old }
+    requires so_far { let f = firing.now in let kept = greatest.old.kept in
+        IsSearched f.task verdicts.now kept f.operator f.effect reasons.old }
     requires notes { IsNotedAt firing.now greatest.old.kept greatest.old.marks }
-    ensures so_far { let f = firing.now in AreReasonsSoFar f.task greatest.old.kept f.operator
-        f.effect verdicts.now reasons.new }
+    ensures so_far { let f = firing.now in let kept = greatest.old.kept in
+        IsSearched f.task verdicts.now kept f.operator f.effect reasons.new }
     ensures reported { let f = firing.now in
         IsReasonSoFar f.task greatest.old.kept f.operator (f.effect + 1) group
         (verdict_at verdicts.now group) (reason_at reasons.new group) }

@@ -3,9 +3,8 @@ ghost use Rattle.std.specs.Prelude.{◌≡◌, ◌<◌, length, Contains, IfSome
 ghost use Rattle.sas_core.specs.Grounded.{group_at};
 ghost use Rattle.sas_groups.specs.Clashes.{sets};
 ghost use Rattle.sas_groups.specs.Families.{IsIn, IsGroupOfOr};
-ghost use Rattle.sas_groups.specs.Kept.{family_of};
-ghost use Rattle.sas_mutex.specs.Effects.{IsKept};
-ghost use Rattle.sas_mutex.specs.Firing.{operator_of, effect_of};
+ghost use Rattle.sas_groups.specs.Runs.{family_of};
+ghost use Rattle.sas_mutex.specs.Effects.{IsKept, operator_of, effect_of};
 ghost use Rattle.sas_mutex.specs.ByNotes.{IsNotedAt, EffectKeepsGroup, EffectKeepsGroupWithItself};
 ghost use Rattle.sas_task_reasons.specs.Reporting.{IsFirstStaying, IsFirstOfEffect};
 

@@ -3,22 +3,19 @@ ghost use Rattle.std.specs.Prelude.{◌≡◌, [], ◌∷◌, ◌++◌, false, I
 ghost use Rattle.sas_lines.specs.Lines.{text};
 ghost use Rattle.sas_answers.specs.GroupWords as words;
 ghost use Rattle.sas_answers.specs.GroupWords.{group_line};
-ghost use Rattle.sas_groups.specs.Joint.{AreJointVerdicts};
-ghost use Rattle.sas_task_reasons.specs.GroupReasons.{AreReasons, reason_at};
+ghost use Rattle.sas_groups.specs.Verdicts.{AreJointVerdicts};
+ghost use Rattle.sas_task_reasons.specs.WhyGroups.{AreReasons, reason_at, why_lines};
 ghost use Rattle.sas_answers.specs.Ending.{EndsCounting, Writes};
 ghost use Rattle.sas_answers.specs.Sink.{Pushes};
 ghost use Rattle.sas_answers.specs.Words.{line, word_bytes};
 ghost use Rattle.sas_answers.specs.Line.{reasons_text};
 ghost use Rattle.sas_task_reasons.specs.WhyGroups as spec;
-ghost use Rattle.sas_task_reasons.specs.WhyGroups.{why_lines};
 ghost use Rattle.sas_task_reasons.specs.Reporting.{GroupsAnswerWith};
 
 use crate::facts::member_of;
 use crate::reason::{Failure, Reason};
 use crate::reasons::group_reasons;
-use sas_answers::{
-    Indent, Line, NameSource, Pieces, Sink, Status, ToolFault, Word, Words, push_lines,
-};
+use sas_answers::{Line, NameSource, Pieces, Sink, Status, ToolFault, Word, Words, push_lines};
 use sas_flat::FlatTask;
 use sas_lines::Watched;
 use sas_meaning::Layered;
@@ -147,7 +144,6 @@ fn push_group_words<W: Write>(sink: &mut Sink<'_, W>, words: &[Word<'_>])
         (line 0 (codes "group" ∷ map word_bytes words.now) ++ 10 ∷ []) }
 {
     let line = Words {
-        indent: Indent::None,
         first: b"group",
         rest: words,
     };

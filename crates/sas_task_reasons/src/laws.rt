@@ -11,7 +11,7 @@ ghost use Rattle.sas_groups.specs.Verdicts.{IsJointVerdict};
 ghost use Rattle.sas_task_reasons.specs.declared.reason.Failure.{Failure};
 ghost use Rattle.sas_task_reasons.specs.declared.reason.Reason.{Reason};
 ghost use Rattle.sas_task_reasons.specs.Failures.{IsFailure, IsFirstFailure};
-ghost use Rattle.sas_task_reasons.specs.GroupReasons.{IsReason};
+ghost use Rattle.sas_task_reasons.specs.WhyGroups.{IsReason};
 ghost use Rattle.sas_task_reasons.specs.ReasonLaws.{LayerReasonsAreWhole};
 
 /// States that the reasons leave out nothing where the fault is the first of the task's layers: each part and each layer that a line

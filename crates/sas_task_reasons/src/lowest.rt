@@ -1,7 +1,7 @@
 // The lowest effect that may set another fact of a group in the same step.
 ghost use Rattle.std.specs.Prelude.{Contains};
 ghost use Rattle.sas_groups.specs.Families.{IsIn};
-ghost use Rattle.sas_groups.specs.Kept.{family_of};
+ghost use Rattle.sas_groups.specs.Runs.{family_of};
 ghost use Rattle.sas_mutex.specs.ByNotes.{IsNotedAt};
 ghost use Rattle.sas_task_reasons.specs.Reporting.{IsLowestPartner, IsAny, SetsVariable};
 

@@ -2,10 +2,10 @@
 ghost use Rattle.std.specs.Prelude.{◌≡◌, ◌<◌, ◌↔◌, ℕ, Bool, List, length, All, IfOk, IsTrue, IsFalse};
 ghost use Rattle.sas_groups.specs.declared.verdict.Verdict.{Verdict};
 ghost use Rattle.sas_groups.specs.declared.verdict.Verdict.TheVariants.{Broken};
-ghost use Rattle.sas_groups.specs.Kept.{family_of};
-ghost use Rattle.sas_groups.specs.Joint.{AreJointVerdicts};
-ghost use Rattle.sas_task_reasons.specs.GroupReasons.{AreReasons};
-ghost use Rattle.sas_task_reasons.specs.Reporting.{AreReasonsSoFar, IsBroken, AreMarked};
+ghost use Rattle.sas_groups.specs.Runs.{family_of};
+ghost use Rattle.sas_groups.specs.Verdicts.{AreJointVerdicts};
+ghost use Rattle.sas_task_reasons.specs.WhyGroups.{AreReasons};
+ghost use Rattle.sas_task_reasons.specs.Reporting.{AreReasonsSoFar, AreMarked};
 
 use crate::before_operators::first_reasons;
 use crate::broken::{GreatestFamily, report_failures};
@@ -66,7 +66,8 @@ fn report_breaking<T: Grounded>(
 
 /// Returns whether one of the verdicts is `Broken`.
 fn some_broken(verdicts: &[Verdict]) -> bool
-    ensures { IsFalse result → All (λ (verdict : Verdict). IsBroken verdict → ⊥) verdicts.now }
+    ensures { IsFalse result
+        → All (λ verdict. (operator : ℕ) → verdict ≡ Broken operator → ⊥) verdicts.now }
 {
     verdicts
         .iter()

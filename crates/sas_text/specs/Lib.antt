@@ -9,7 +9,6 @@ pub use Rattle.sas_reader.specs.About
 pub use Rattle.sas_reader.specs.Refusals
 pub use Rattle.sas_plan_file.specs.PlanTexts
 pub use Rattle.sas_plan_file.specs.PlanFormat
-pub use Rattle.sas_plan_file.specs.PlanLaws
 pub use Rattle.sas_plan_file.specs.PlanReader
 pub use Rattle.sas_plan_file.specs.PlanRefusal
 pub use Rattle.sas_task_file.specs.TaskTexts
@@ -18,6 +17,6 @@ pub use Rattle.sas_task_file.specs.TaskLaws
 pub use Rattle.sas_task_file.specs.TaskReasons
 pub use Rattle.sas_task_reader.specs.TaskReader
 pub use Rattle.sas_task_reader.specs.TaskRefusal
-pub use Rattle.sas_task_reader.specs.Outline
+pub use Rattle.sas_task_reader.specs.TaskOutline
 pub use Rattle.sas_flat.specs.Outlines
 pub mod TaskText

@@ -7,6 +7,7 @@ ghost use Rattle.std.specs.String.{string_bytes};
 use sas_lines::OpenInput;
 use sas_requests::{PlanInputs, is_label};
 use std::fs;
+use std::io::Read;
 use std::rt::Files;
 
 /// The argument that names standard input.
@@ -14,16 +15,17 @@ pub const STANDARD_INPUT: &str = "-";
 
 /// Plan files, by the arguments that name them, which are their labels.
 #[derive(Clone, Copy)]
-pub struct PlanFiles<'p, R> {
+pub struct PlanFiles<'p, R, I> {
     pub rt: &'p R,
+    pub input: I,
     pub labels: &'p [String],
 }
 
-impl<'p, R: Files + Input> PlanInputs for PlanFiles<'p, R> {
+impl<'p, R: Files, I: Read + Copy + Drop> PlanInputs for PlanFiles<'p, R, I> {
     ghost use Rattle.std.specs.Prelude.{◌≡◌, [], None, slice_index_or};
     ghost use Rattle.sas_tool.specs.Labels.{OpensAs, bytes_of_labels};
 
-    type Input = OpenInput<R::File, R::Reader>;
+    type Input = OpenInput<R::File, I>;
 
     ghost labels = { λ plans. bytes_of_labels plans.labels.now };
 
@@ -42,10 +44,10 @@ impl<'p, R: Files + Input> PlanInputs for PlanFiles<'p, R> {
         self.labels[number].as_bytes()
     }
 
-    fn open(&mut self, number: usize) -> Option<OpenInput<R::File, R::Reader>> {
+    fn open(&mut self, number: usize) -> Option<OpenInput<R::File, I>> {
         let label = self.labels[number].as_str();
         if label == STANDARD_INPUT {
-            return Some(OpenInput::Standard(self.rt.reader()));
+            return Some(OpenInput::Standard(self.input));
         }
         match fs::open(self.rt, label) {
             Ok(file) => Some(OpenInput::File(file)),

@@ -13,7 +13,7 @@ use crate::{Question, Status, ToolFault, explain, judge, run, trace};
 use sas_answers::show_name;
 use sas_lines::{OpenInput, Watched};
 use sas_requests::{InputFault, JudgeFault};
-use std::io::{ErrorKind, Write};
+use std::io::{ErrorKind, Read, Write};
 use std::os::fd::AsFd;
 use std::process::ExitCode;
 use std::rt::{Env, Files};
@@ -43,9 +43,9 @@ const INPUT_TWICE: &str = "sas: standard input used twice";
 /// opening its inputs, the run, and flushing standard output. The first of these that fails is reported by a line on standard error;
 /// a failure to write that line is ignored. The exit status is 0 for yes, 1 for no, 2 for invalid arguments, and 3 otherwise. A read
 /// of standard input that is closed at the start fails, and so does a write to standard output that is.
-pub fn start<R: AllocGlobal + Env + Files + Input + Print + Eprint>(
+pub fn start<R: AllocGlobal + Env + Files + Print + Eprint, I: AsFd + Read + Copy + Drop>(
     rt: &R,
-    input: &impl AsFd,
+    input: &I,
     output: &impl AsFd,
     error: &(impl AsFd + Print),
 ) -> ExitCode {
@@ -61,8 +61,13 @@ pub fn start<R: AllocGlobal + Env + Files + Input + Print + Eprint>(
             question,
             task,
             plan,
-        } => report(rt, error, question, run_files(rt, question, &task, &plan)),
-        Job::Plans { task, labels } => run_plans(rt, task, labels.as_slice()),
+        } => report(
+            rt,
+            error,
+            question,
+            run_files(rt, *input, question, &task, &plan),
+        ),
+        Job::Plans { task, labels } => run_plans(rt, *input, task, labels.as_slice()),
     };
     drop(replaced);
     ended
@@ -109,20 +114,19 @@ impl<'s> Ended<'s> {
     }
 }
 
-/// Opens a task, a plan or both, and answers the question about them. It isn't inlined, nor is `run_plans`: what is inlined together
-/// would keep the buffers of both on the stack.
-#[inline(never)]
-fn run_files<'s, R: AllocGlobal + Files + Input + Print>(
+/// Opens a task, a plan or both, and answers the question about them.
+fn run_files<'s, R: AllocGlobal + Files + Print, I: Read + Copy + Drop>(
     rt: &R,
+    input: I,
     question: Question,
     task_source: &'s Option<Source>,
     plan_source: &'s Option<Source>,
 ) -> Ended<'s> {
     let mut task = Watched::new(UntilEnd::nothing());
     let mut plan = Watched::new(UntilEnd::nothing());
-    let ended = if open_source(rt, task_source, &mut task).is_err() {
+    let ended = if open_source(rt, input, task_source, &mut task).is_err() {
         Ended::unopened(TASK_NOT_OPENED, task_source)
-    } else if open_source(rt, plan_source, &mut plan).is_err() {
+    } else if open_source(rt, input, plan_source, &mut plan).is_err() {
         Ended::unopened("sas: cannot open the plan", plan_source)
     } else {
         let result = answer_files(rt, question, &mut task, &mut plan);
@@ -140,11 +144,11 @@ fn run_files<'s, R: AllocGlobal + Files + Input + Print>(
 }
 
 /// Answers the question about a task, a plan or both, and flushes standard output.
-fn answer_files<R: AllocGlobal + Files + Input + Print>(
+fn answer_files<R: AllocGlobal + Files + Print, I: Read + Drop>(
     rt: &R,
     question: Question,
-    task: &mut Watched<UntilEnd<OpenInput<R::File, R::Reader>>>,
-    plan: &mut Watched<UntilEnd<OpenInput<R::File, R::Reader>>>,
+    task: &mut Watched<UntilEnd<OpenInput<R::File, I>>>,
+    plan: &mut Watched<UntilEnd<OpenInput<R::File, I>>>,
 ) -> Result<Status, ToolFault>
     requires task { task.old.failed ≡ false }
     requires plan { plan.old.failed ≡ false }
@@ -185,9 +189,9 @@ fn print_name(error: &impl Print, name: &[u8]) -> io::Result<()> {
 }
 
 /// Opens a task, and judges the plans of these labels.
-#[inline(never)]
-fn run_plans<R: AllocGlobal + Files + Input + Print + Eprint>(
+fn run_plans<R: AllocGlobal + Files + Print + Eprint, I: Read + Copy + Drop>(
     rt: &R,
+    input: I,
     task_source: Option<Source>,
     labels: &[String],
 ) -> ExitCode {
@@ -198,25 +202,26 @@ fn run_plans<R: AllocGlobal + Files + Input + Print + Eprint>(
         return stop(rt, INVALID_ARGUMENTS, INPUT_TWICE);
     }
     let mut task = Watched::new(UntilEnd::nothing());
-    let ended = if open_source(rt, &task_source, &mut task).is_err() {
+    let ended = if open_source(rt, input, &task_source, &mut task).is_err() {
         stop(rt, FAULT, TASK_NOT_OPENED)
     } else {
-        judge_plans(rt, &mut task, labels)
+        judge_plans(rt, input, &mut task, labels)
     };
     drop(task);
     ended
 }
 
 /// Judges the plans of these labels, and flushes standard output.
-fn judge_plans<R: AllocGlobal + Files + Input + Print + Eprint>(
+fn judge_plans<R: AllocGlobal + Files + Print + Eprint, I: Read + Copy + Drop>(
     rt: &R,
-    task: &mut Watched<UntilEnd<OpenInput<R::File, R::Reader>>>,
+    input: I,
+    task: &mut Watched<UntilEnd<OpenInput<R::File, I>>>,
     labels: &[String],
 ) -> ExitCode
     requires task { task.old.failed ≡ false }
     requires labels { All (λ label. IsLabel (string_bytes label)) labels.now }
 {
-    let mut plans = PlanFiles { rt, labels };
+    let mut plans = PlanFiles { rt, input, labels };
     let mut out = Watched::new(io::writer(rt));
     let result = judge(rt.alloc(), task, &mut plans, &mut out);
     if result.is_ok() && out.into_device().flush().is_err() {
@@ -300,26 +305,26 @@ fn stop<R: Eprint>(rt: &R, status: u8, line: &str) -> ExitCode {
     ExitCode::from(status)
 }
 
-/// Opens an input of the program, in this place. What the request doesn't read stays nothing. An input has a buffer of 8 kB, so it is
-/// made where it stays: a copy of it would keep its place on the stack while the program runs. So would one that is inlined. It is let
-/// go at its end, so that the task isn't open while plans are read.
+/// Opens an input of the program, in this place. What the request doesn't read stays nothing. It is let go at its end, so that the task
+/// isn't open while plans are read. It isn't inlined, since opening takes 8 kB of the stack for the name.
 #[inline(never)]
-fn open_source<R: Files + Input>(
+fn open_source<R: Files, I: Read + Drop>(
     rt: &R,
+    input: I,
     source: &Option<Source>,
-    input: &mut Watched<UntilEnd<OpenInput<R::File, R::Reader>>>,
+    place: &mut Watched<UntilEnd<OpenInput<R::File, I>>>,
 ) -> io::Result<()>
-    requires { input.old.failed ≡ false }
-    ensures { input.new.failed ≡ false }
+    requires { place.old.failed ≡ false }
+    ensures { place.new.failed ≡ false }
 {
     match source {
         None => {}
-        Some(Source::Input) => *input = Watched::new(UntilEnd::new(OpenInput::Standard(
-            rt.reader(),
-        ))),
+        Some(Source::Input) => {
+            *place = Watched::new(UntilEnd::new(OpenInput::Standard(input)));
+        }
         Some(Source::File(name)) => {
             let file = fs::open(rt, name.as_str())?;
-            *input = Watched::new(UntilEnd::new(OpenInput::File(file)));
+            *place = Watched::new(UntilEnd::new(OpenInput::File(file)));
         }
     }
     Ok(())

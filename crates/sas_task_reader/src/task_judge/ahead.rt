@@ -8,6 +8,7 @@ ghost use Rattle.sas_task_file.specs.Tracker.{value_due};
 ghost use Rattle.sas_task_reader.specs.TaskJudge.{HasRow, MovesAhead};
 
 use super::TaskJudge;
+use sas_reader::LineEnd;
 use sas_task_file::{
     Event, Place, change_in, read_effect, read_fact, read_name, read_number_line, value_in,
 };
@@ -15,24 +16,28 @@ use sas_task_file::{
 impl TaskJudge {
     /// Accepts the name of a value.
     #[inline(always)]
-    fn name_ahead<'a>(&mut self, bytes: &'a [u8]) -> Option<(Event, &'a [u8])>
+    fn name_ahead<'a, E: LineEnd>(&mut self, bytes: &'a [u8]) -> Option<(Event, &'a [u8])>
         requires { HasRow self.old.tracker due.Name adds.Value moves.Item }
         ensures some { IfSome result (λ a. MovesAhead self.old bytes.now self.new a.0 a.1.now) }
         ensures none { IfNone result (self.new ≡ self.old) }
     {
-        let (_name, rest) = read_name(bytes)?;
+        let (_name, rest) = read_name::<E>(bytes)?;
         self.tracker.more = self.tracker.more.saturating_sub(1);
         Some((Event::Value, rest))
     }
 
     /// Accepts a fact of a group or of the goal, a prevail condition, or a condition of a rule.
     #[inline(always)]
-    fn fact_ahead<'a>(&mut self, bytes: &'a [u8], event: Event) -> Option<(Event, &'a [u8])>
+    fn fact_ahead<'a, E: LineEnd>(
+        &mut self,
+        bytes: &'a [u8],
+        event: Event,
+    ) -> Option<(Event, &'a [u8])>
         requires { HasRow self.old.tracker due.Fact event moves.Item }
         ensures some { IfSome result (λ a. MovesAhead self.old bytes.now self.new a.0 a.1.now) }
         ensures none { IfNone result (self.new ≡ self.old) }
     {
-        let (fact, rest) = read_fact(bytes)?;
+        let (fact, rest) = read_fact::<E>(bytes)?;
         if !value_in(&self.tracker.ranges, fact.var, fact.value) {
             return None;
         }
@@ -43,12 +48,12 @@ impl TaskJudge {
 
     /// Accepts the value of the next variable.
     #[inline(always)]
-    fn state_value_ahead<'a>(&mut self, bytes: &'a [u8]) -> Option<(Event, &'a [u8])>
+    fn state_value_ahead<'a, E: LineEnd>(&mut self, bytes: &'a [u8]) -> Option<(Event, &'a [u8])>
         requires { HasRow self.old.tracker (value_due self.old.tracker) adds.State moves.Item }
         ensures some { IfSome result (λ a. MovesAhead self.old bytes.now self.new a.0 a.1.now) }
         ensures none { IfNone result (self.new ≡ self.old) }
     {
-        let (value, rest) = read_number_line(bytes)?;
+        let (value, rest) = read_number_line::<E>(bytes)?;
         if value > self.tracker.most_value() {
             return None;
         }
@@ -59,12 +64,12 @@ impl TaskJudge {
 
     /// Accepts an effect without conditions.
     #[inline(always)]
-    fn effect_ahead<'a>(&mut self, bytes: &'a [u8]) -> Option<(Event, &'a [u8])>
+    fn effect_ahead<'a, E: LineEnd>(&mut self, bytes: &'a [u8]) -> Option<(Event, &'a [u8])>
         requires { HasRow self.old.tracker due.Effect adds.Effect moves.Item }
         ensures some { IfSome result (λ a. MovesAhead self.old bytes.now self.new a.0 a.1.now) }
         ensures none { IfNone result (self.new ≡ self.old) }
     {
-        let (change, rest) = read_effect(bytes)?;
+        let (change, rest) = read_effect::<E>(bytes)?;
         if !change_in(&self.tracker.ranges, change.var, change.old, change.new) {
             return None;
         }
@@ -76,7 +81,7 @@ impl TaskJudge {
     /// Accepts the first line of the bytes if it is one of many alike and is allowed here. Returns what it adds, and
     /// the bytes after it. Otherwise returns `None` and changes nothing; then `take` has to judge the line.
     #[inline(always)]
-    pub fn take_ahead<'a>(&mut self, bytes: &'a [u8]) -> Option<(Event, &'a [u8])>
+    pub fn take_ahead<'a, E: LineEnd>(&mut self, bytes: &'a [u8]) -> Option<(Event, &'a [u8])>
         ensures some { IfSome result (λ a. MovesAhead self.old bytes.now self.new a.0 a.1.now) }
         ensures none { IfNone result (self.new ≡ self.old) }
     {
@@ -84,13 +89,13 @@ impl TaskJudge {
             return None;
         }
         match self.tracker.place {
-            Place::VariableValues => self.name_ahead(bytes),
-            Place::GroupFacts => self.fact_ahead(bytes, Event::Fact),
-            Place::StateValues => self.state_value_ahead(bytes),
-            Place::GoalFacts => self.fact_ahead(bytes, Event::Goal),
-            Place::Prevail => self.fact_ahead(bytes, Event::Fact),
-            Place::Effects => self.effect_ahead(bytes),
-            Place::RuleConditions => self.fact_ahead(bytes, Event::Fact),
+            Place::VariableValues => self.name_ahead::<E>(bytes),
+            Place::GroupFacts => self.fact_ahead::<E>(bytes, Event::Fact),
+            Place::StateValues => self.state_value_ahead::<E>(bytes),
+            Place::GoalFacts => self.fact_ahead::<E>(bytes, Event::Goal),
+            Place::Prevail => self.fact_ahead::<E>(bytes, Event::Fact),
+            Place::Effects => self.effect_ahead::<E>(bytes),
+            Place::RuleConditions => self.fact_ahead::<E>(bytes, Event::Fact),
             _ => None,
         }
     }

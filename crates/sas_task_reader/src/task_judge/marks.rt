@@ -1,6 +1,6 @@
 // The location of the next line, and what is expected there. It is needed only if a line is refused.
 ghost use Rattle.std.specs.Prelude.{◌≡◌, IfOk, IfSome, IfNone, ℕ, List};
-ghost use Rattle.sas_task_file.specs.FirstWrong.{FirstWrong};
+ghost use Rattle.sas_task_file.specs.TaskReasons.{FirstWrong};
 ghost use Rattle.sas_task_reader.specs.TaskJudge.{StandsAsBefore};
 ghost use Rattle.sas_task_reader.specs.Marks.{mark_of, due_slot, count_of, IsLastLine};
 

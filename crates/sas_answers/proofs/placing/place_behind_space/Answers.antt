@@ -1,5 +1,5 @@
-use Rattle.sas_answers.proofs.Placed.{places_then_either}
+use Rattle.sas_answers.proofs.Placed.{placed_then}
 use Rattle.sas_answers.proofs.placing.place_behind_space.Goals as goal
 
-pub returns-clause-places : goal.returns-clause-places
-returns-clause-places c = places_then_either _ _ _ _ _ _ _ _ c.requires c.in_ok-behind_space.ensures.places c.place.ensures.places
+pub returns : goal.returns
+returns c = placed_then _ _ _ _ _ _ _ _ c.requires c.in_ok-behind_space.ensures c.place.ensures

@@ -9,19 +9,7 @@ one_more : (rule : ℕ) (cs : List Fact) (i : ℕ) (d : Fact) → i < length cs 
 one_more rule cs i d lt es = append_snoc es (waiting_entry (get_or cs i d) rule) (entries rule (drop (i + 1) cs)) ∙ ap (λ (fs : List Fact). es ++ entries rule fs) (sym (drop_more cs i d lt))
 
 pub loop-condition-preserved : goal.loop-condition-preserved
-loop-condition-preserved g c =
-    let cs = (rule_at c.args.layered.now c.args.rule).conditions in
-    let i = c.loop-condition.condition-index in
-    let none : Fact = record { var = 0; value = 0 } in
-    let lt : i < length cs = omega (arith, ap length c.rule_conditions-condition-items.ensures) in
-    let es = c.loop-condition.waiting.items in
-    let pushed : c.push.new.self.items ≡ es ++ waiting_entry (get_or cs i none) c.args.rule ∷ [] =
-    c.in_ok-push.ensures.items ∙ ap (λ (fs : List Fact). es ++ waiting_entry (get_or fs i none) c.args.rule ∷ []) c.rule_conditions-condition-items.ensures in
-    rw pushed (one_more c.args.rule cs i none lt es ∙ c.loop-condition.invariant)
+loop-condition-preserved g c = search (arith, rule_at, length, waiting_entry, get_or, one_more)
 
 pub returns : goal.returns
-returns g c =
-    let cs = (rule_at c.args.layered.now c.args.rule).conditions in
-    let es = c.loop-condition.waiting.items in
-    let all : length cs ≤ c.loop-condition.condition-index = omega (arith, ap length c.rule_conditions-condition-items.ensures) in
-    sym (append-nil es) ∙ (ap (λ (fs : List Fact). es ++ entries c.args.rule fs) (sym (drop_all c.loop-condition.condition-index cs all)) ∙ c.loop-condition.invariant)
+returns g c = search (arith, rule_at, length, append-nil, entries, drop_all)

@@ -1,5 +1,5 @@
 -- The rules are removed one by one: each resets its variable or becomes ready.
-use Rattle.sas_axioms.proofs.Imports.{◌≡◌, ◌⊎◌, ℕ, ◌<◌, true, ◌∷◌, [], length, get_or, set, is_some, refl, sym, ap, subst, ◌∙◌, inl, inr, arith, All, Contains, heap_items, length-append, Change, rule_at, IsState, default_of, differs, on_layer_within, state_set, differs_not, Agenda, IsOnAgenda, work_left, IsFalling, IsRuleOn, IsHolding}
+use Rattle.sas_axioms.proofs.Imports.{◌≡◌, ◌⊎◌, ℕ, ◌<◌, true, ◌∷◌, [], length, get_or, set, is_some, refl, ap, subst, ◌∙◌, inl, arith, All, Contains, heap_items, length-append, Change, rule_at, IsState, default_of, differs, on_layer_within, state_set, differs_not, Agenda, work_left, IsFalling, IsRuleOn, IsHolding}
 use Rattle.sas_axioms.proofs.RulesOf.{rules_on, rule_under}
 use Rattle.sas_axioms.proofs.FallingSteps.{falling_passed, falling_fell, risen_from_fallen, fallen_is, less_in_the_end}
 use Rattle.sas_axioms.proofs.Tracking.{awaited_on, holding_when_zero, off_step, covered_step}
@@ -42,17 +42,11 @@ pub get-requires : goal.get-requires
 get-requires g c = rw (ap (λ (x : Change). x.var) (rw c.indexed.view_is at c.rule_change-var.ensures)) (omega (arith, within g (goal.at.get-requires g c).In-Some, (rw c.indexed.view_is at c.indexed.invariant).all.one_each))
 
 pub set_to-requires-clause-other : goal.set_to-requires-clause-other
-set_to-requires-clause-other g c same =
-    let p = c.args.indexed.now in
-    let e = ap (λ (x : Change). x.var) (rw c.indexed.view_is at c.rule_change-var.ensures) in
-    let var = (rule_at p c.in-Some.rule).var in
-    differs_not p c.loop-rule.state var ((rw c.indexed.view_is at c.has_lost.ensures).yes c.if-has_lost.true)
-    (subst (λ v. get_or c.loop-rule.state v 0 ≡ default_of p v) e (same ∙ (rw c.indexed.view_is at c.initial_value-value.ensures)))
+set_to-requires-clause-other g c same = search (arith, rule_at, differs_not, true, get_or, default_of)
 
 -- less is left than there was, where less is left than before
 less : (a a0 a' : Agenda) → (work_left a < work_left a0) ⊎ (a ≡ a0) → work_left a' < work_left a → work_left a' < work_left a0
-less a a0 a' (inl lt) more = omega arith
-less a a0 a' (inr e) more = subst (λ x. work_left a' < work_left x) e more
+less a a0 a' h1 more = search (arith, work_left)
 
 pub returns-clause-rising : goal.returns-clause-rising
 returns-clause-rising g c s falling =
@@ -116,20 +110,13 @@ loop-rule-preserved g c =
     }
 
 pub returns-clause-left : goal.returns-clause-left
-returns-clause-left g c =
-    let inv = c.loop-rule.invariant in
-    let same = c.in_default.ensures.same in
-    let noted = subst (λ n. IsOnAgenda c.args.work.now.agenda n c.requires.noted.0) (sym inv.same.layer) c.requires.noted.1 in
-    less_in_the_end c.loop-rule.work.layer c.requires.noted.0 c.args.work.now.agenda c.take.new.self noted c.in_default.ensures.none (rw same inv.left)
+returns-clause-left g c = search (arith, less_in_the_end)
 
 pub returns-in_err-set_to-clause-covered : goal.returns-in_err-set_to-clause-covered
 returns-in_err-set_to-clause-covered g c = rw (c.in_err-set_to.ensures.unchanged, c.in_err-set_to.ensures.untouched) c.loop-rule.invariant.covered
 
 pub loop-rule-smaller-in-Continue-branch-2 : goal.loop-rule-smaller-in-Continue-branch-2
-loop-rule-smaller-in-Continue-branch-2 g c =
-    let a = c.in-Some.ensures.left in let d = c.in_ok-set_to.ensures.moves.left in let e = c.in_ok-make_ready.ensures.left in omega arith
+loop-rule-smaller-in-Continue-branch-2 g c = search (arith)
 
 pub loop-rule-smaller : goal.loop-rule-smaller
-loop-rule-smaller g c =
-    let a = c.in-Some.ensures.left in let made = c.in_ok-make_ready-2.ensures in
-    let r = ap length made.ready in let l = length-append c.take.new.self.ready.items (c.in-Some.rule ∷ []) in let n = ap (λ h. length (heap_items h)) made.noted in let m = made.left in omega arith
+loop-rule-smaller g c = search (arith, length, length-append, heap_items)

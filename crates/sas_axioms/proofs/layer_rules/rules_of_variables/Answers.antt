@@ -1,5 +1,5 @@
 -- Each turn adds the entry of a rule that can fire, or passes one that can't.
-use Rattle.sas_axioms.proofs.Imports.{◌≡◌, ◌<◌, length, sym, ap, subst, ◌∙◌, arith, IfOk-weaker, Change, rule_at, by_key, default_of, fact_within, rule_new, AreRulesOf}
+use Rattle.sas_axioms.proofs.Imports.{◌≡◌, ◌<◌, length, sym, ap, subst, ◌∙◌, arith, Change, rule_at, by_key, default_of, fact_within, rule_new}
 use Rattle.sas_axioms.proofs.RulesOf.{RulesTo, rules_none, rules_skip, rules_more, rules_index}
 use Rattle.sas_axioms.proofs.layer_rules.rules_of_variables.Goals as goal
 use Rattle.sas_axioms.proofs.layer_rules.rules_of_variables.Goals.{then-change-initial_value+in_ok-push, else-change-initial_value}
@@ -26,10 +26,4 @@ loop-rule-preserved g c =
     ]
 
 pub returns : goal.returns
-returns g c =
-    let p = c.args.layered.now in
-    let es = c.loop-rule.entries.items in
-    IfOk-weaker c.by_key.result (λ lists. lists ≡ by_key c.as_slice.result.now c.variables.result) (AreRulesOf p)
-    (λ lists is. subst (AreRulesOf p) (sym (is ∙ ap (λ l. by_key l c.variables.result) c.as_slice.ensures.value ∙ ap (λ n. by_key es n) (rw c.task-task.ensures.task at c.variables.ensures.count)))
-    (rules_index p c.loop-rule.rule es (omega (arith, (rw c.task-task.ensures.task at c.rules-rule-end.ensures), c.loop-rule-test.false)) c.loop-rule.invariant))
-    c.by_key.ensures
+returns g c = search (arith, by_key, rules_index)

@@ -1,10 +1,5 @@
-use Rattle.sas_c.proofs.Imports.{Plan}
-use Rattle.sas_requests.specs.declared.question.Question.TheVariants.{Explanation}
-use Rattle.sas_c.proofs.Returned.{asked_reported, headline_why_reported}
+use Rattle.sas_c.proofs.Returned.{headline_why_reported}
 use Rattle.sas_c.proofs.requests.sas_plan_why.Goals as goal
 
-pub returns-clause-answers : goal.returns-clause-answers
-returns-clause-answers c = asked_reported c.new-call.result (Explanation Plan) _ _ _ _ _ _ c.new-call.ensures.question c.new-call.ensures.task c.new-call.ensures.plan c.answer_call.ensures
-
 pub returns-clause-headline : goal.returns-clause-headline
-returns-clause-headline c = headline_why_reported c.args.task.now c.args.plan.now _ _ _ _ (returns-clause-answers c)
+returns-clause-headline c = headline_why_reported c.args.task.now c.args.plan.now _ _ _ _ c.answer_call.ensures

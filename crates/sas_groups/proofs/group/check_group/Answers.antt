@@ -1,15 +1,11 @@
 -- The verdict is the first reason against the group.
-use Rattle.sas_groups.proofs.Imports.{arith, common_steps, ◌≡◌, List, refl, Fact, Parts, Verdict, Exclusive, Derived, Broken, IsVerdictAlone, IsFirstVerdict}
-use Rattle.sas_groups.specs.declared.verdict.Verdict.TheVariants.{Initial}
+use Rattle.sas_groups.proofs.Imports.{arith, common_steps, ◌≡◌, List, Fact, Parts, Verdict, Exclusive, IsVerdictAlone, IsFirstVerdict}
 use Rattle.sas_groups.proofs.Invariance.{exclusive_alone_is_invariant}
 use Rattle.sas_groups.proofs.group.check_group.Goals as goal
 
 -- what speaks against a group before operators are asked is the verdict on it
 first_is_last : (p : Parts) (group : List Fact) (verdict : Verdict) → (verdict ≡ Exclusive → ⊥) → IsFirstVerdict p group verdict → IsVerdictAlone p group verdict
-first_is_last p group Exclusive not h = elim (not refl) [ ]
-first_is_last p group Derived not h = h
-first_is_last p group Initial not h = h
-first_is_last p group (Broken operator) not h = elim h [ ]
+first_is_last p group h1 not h = search (arith)
 
 pub returns-in-None-clause-invariant : goal.returns-in-None-clause-invariant
 returns-in-None-clause-invariant g c = λ e. exclusive_alone_is_invariant c.args.layered.now c.args.group.now

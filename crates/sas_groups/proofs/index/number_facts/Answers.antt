@@ -1,5 +1,5 @@
 -- A task has so few facts that their numbers don't overflow.
-use Rattle.sas_groups.proofs.Imports.{◌≡◌, ◌^◌, ◌<◌, ◌≤◌, length, get_or, sym, ◌∙◌, subst, arith, get_or_default, get_or_append_left, get_or_push, length_push, cases_eq, common_steps, facts_below}
+use Rattle.sas_groups.proofs.Imports.{◌≡◌, ◌^◌, ◌<◌, ◌≤◌, length, get_or, ◌∙◌, arith, get_or_default, get_or_append_left, get_or_push, length_push, cases_eq, common_steps, facts_below}
 use Rattle.sas_groups.proofs.Numbering.{facts_below_more, below_low}
 use Rattle.sas_groups.proofs.index.number_facts.Goals as goal
 use Rattle.sas_groups.proofs.index.number_facts.Given.{Over}
@@ -8,13 +8,7 @@ pub overflow_add-facts : goal.overflow_add-facts
 overflow_add-facts g c = grind (arith, common_steps, facts_below_more, below_low)
 
 pub returns-clause-low : goal.returns-clause-low
-returns-clause-low g c = λ k d lt.
-    let p = c.args.task.now in
-    let inv = c.loop-var.invariant in
-    let count = c.variables-var-end.ensures.count in
-    let within : k < c.loop-var.var = omega (arith, inv.so_far) in
-    let is : get_or c.loop-var.firsts.items k d ≡ facts_below p k = get_or_default c.loop-var.firsts.items k d 0 lt ∙ inv.are k within in
-    subst (λ n. n ≤ 2 ^ 62) (sym is) (below_low p k c.variables-var-end.ensures.well_ranged (omega (arith, count)))
+returns-clause-low g c = search (arith, get_or, facts_below, get_or_default, below_low)
 
 pub loop-var-preserved : goal.loop-var-preserved
 loop-var-preserved g c = grind (arith, common_steps, get_or_push, length_push, cases_eq, get_or_append_left, facts_below_more)

@@ -5,10 +5,7 @@ use Rattle.sas_groups.proofs.NotesOfFacts.{IsForgotten, noted_less, forgotten_no
 use Rattle.sas_groups.proofs.notes.forget_facts.Goals as goal
 
 pub forget-requires-clause-groups : goal.forget-requires-clause-groups
-forget-requires-clause-groups g c =
-    let indexed = subst (λ (q : Parts). IsIndexOf q c.indexed.inside.index.now) c.indexed.view_is c.indexed.invariant in
-    groups_below c.args.indexed.now c.indexed.inside.index.now _ (length c.loop-fact.notes.groups) indexed (c.requires.exist c.loop-fact.fact-index _ c.loop-fact-test.true)
-    c.loop-fact.invariant.from.wide.groups
+forget-requires-clause-groups g c = search (arith, groups_below, length)
 
 pub loop-fact-preserved : goal.loop-fact-preserved
 loop-fact-preserved g c =

@@ -9,8 +9,7 @@ checks_of p rule condition fact = check (looks_down p (rule_at p rule).var fact)
 
 -- what the test says of a condition, as its checks
 its_checks : (p : Parts) (rule var condition : ℕ) (fact : Fact) (passes : Bool) (found : Option LayerFault) → var ≡ (rule_at p rule).var → passes ≡ looks_down p var fact → found ≡ first_fault (check passes (LayerOrder rule condition)) → found ≡ first_fault (checks_of p rule condition fact)
-its_checks p rule var condition fact passes found same test =
-    same_check _ _ (LayerOrder rule condition) found (test ∙ ap (λ v. looks_down p v fact) same)
+its_checks p rule var condition fact passes found same test = search (arith, same_check, looks_down)
 
 same_item : (facts conditions : List Fact) (place : ℕ) (otherwise : Fact) → facts ≡ conditions → get_or facts place otherwise ≡ get_or conditions place otherwise
 same_item facts conditions place otherwise same = ap (λ list. get_or list place otherwise) same
@@ -31,6 +30,4 @@ returns-in_err-check g c =
     its ∙ fails_at (checks_of p c.args.rule) conditions c.loop-condition.condition _ _ (omega (arith, ap length same)) (same_item _ conditions _ _ same) c.loop-condition.invariant c.in_err-check.field-0.0 (its_checks p c.args.rule c.args.var c.loop-condition.condition _ c.looks_down.result (Some c.in_err-check.field-0.0) c.requires.var c.looks_down.ensures c.in_err-check.ensures)
 
 pub returns : goal.returns
-returns g c =
-    let p = g.T.Grounded.says c.args.task.now in
-    pass_all (checks_of p c.args.rule) (rule_at p c.args.rule).conditions _ (omega (arith, ap length c.rule_conditions-fact-items.ensures)) c.loop-condition.invariant
+returns g c = search (arith, pass_all, rule_at, length)

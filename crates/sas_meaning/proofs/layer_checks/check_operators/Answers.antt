@@ -15,6 +15,4 @@ returns-in_err-check_operator g c =
     same ∙ fails_at (operator_layer_checks p) p.operators _ _ _ (omega arith) refl c.loop-operator.invariant _ c.in_err-check_operator.ensures
 
 pub returns : goal.returns
-returns g c =
-    let p = g.T.Grounded.says c.args.task.now in
-    pass_all (operator_layer_checks p) p.operators _ (omega arith) c.loop-operator.invariant
+returns g c = search (arith, pass_all, operator_layer_checks)

@@ -18,6 +18,4 @@ returns-in_err-check_rule g c =
     same ∙ fails_at (rule_layer_checks p) p.rules _ _ _ (omega arith) refl c.loop-rule.invariant.pass _ c.in_err-check_rule.ensures.first
 
 pub returns : goal.returns
-returns g c =
-    let p = g.T.Grounded.says c.args.task.now in
-    pass_all (rule_layer_checks p) p.rules _ (omega arith) c.loop-rule.invariant.pass
+returns g c = search (arith, pass_all, rule_layer_checks, rules)

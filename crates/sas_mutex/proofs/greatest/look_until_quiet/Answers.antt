@@ -7,13 +7,13 @@ use Rattle.sas_mutex.proofs.greatest.look_until_quiet.Goals as goal
 use Rattle.sas_mutex.proofs.greatest.look_until_quiet.Given.{Over}
 use Rattle.sas_mutex.proofs.greatest.look_until_quiet.Goals.{After-look_at-alone}
 
-pub look_at-alone-requires-clause-room : goal.look_at-alone-requires-clause-room
-look_at-alone-requires-clause-room g c = grind (arith, common_steps, same_room, same_excluding, none_are)
+pub look_at-alone-requires-clause-idle : goal.look_at-alone-requires-clause-idle
+look_at-alone-requires-clause-idle g c = grind (arith, common_steps, same_room, same_excluding, none_are)
 
 -- what fell in this turn, and before
-falls : (g : Over) (c : After-look_at-alone g) → Falls c.args.indexed.now c.loop-operator.family c.look_at-alone.new.family
+falls : (g : Over) (c : After-look_at-alone g) → Falls c.args.indexed.now c.loop-operator.checker.family c.look_at-alone.new.self.family
 falls g c = falls_then
-    (same_falls c.args.indexed.now c.loop-operator.family c.clear_basis.new.self c.clear_basis.ensures.kept c.clear_basis.ensures.fallen) c.look_at-alone.ensures.looked.falls
+    (same_falls c.args.indexed.now c.loop-operator.checker.family c.clear_basis.new.self c.clear_basis.ensures.kept c.clear_basis.ensures.fallen) c.look_at-alone.ensures.looked.falls
 
 pub returns-then-len-before-clause-falls : goal.returns-then-len-before-clause-falls
 returns-then-len-before-clause-falls g c =
@@ -25,16 +25,14 @@ returns-then-len-before-clause-rest g c effect lt place =
     c.look_at-alone.ensures.looked.keeps
     (none_newly c.look_at-alone.ensures.looked.falls
     (let after = c.len.ensures in let before = c.len-before.ensures in let same = c.if-len-before.true in
-    subst (λ (fallen : Vec ℕ). length c.look_at-alone.new.family.fallen.items ≡ length fallen.items) (sym c.clear_basis.ensures.fallen) (omega arith))) effect place lt
+    subst (λ (fallen : Vec ℕ). length c.look_at-alone.new.self.family.fallen.items ≡ length fallen.items) (sym c.clear_basis.ensures.fallen) (omega arith))) effect place lt
 
 pub returns-then-len-before-clause-alone : goal.returns-then-len-before-clause-alone
-returns-then-len-before-clause-alone g c t =
-    rests_on c.look_at-alone.ensures.looked t
+returns-then-len-before-clause-alone g c t = search (arith, rests_on)
 
 pub loop-operator-preserved : goal.loop-operator-preserved
 loop-operator-preserved g c = record {
   falls = falls_then c.loop-operator.invariant.falls
       (falls g (goal.at.loop-operator-preserved g c).After-look_at-alone);
-  room = c.look_at-alone.ensures.looked.room;
-  clean = c.look_at-alone.ensures.clean;
+  idle = c.look_at-alone.ensures.idle;
 }

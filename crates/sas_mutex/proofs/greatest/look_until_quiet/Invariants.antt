@@ -1,13 +1,12 @@
 -- The operator may have removed groups.
-use Rattle.sas_mutex.proofs.Imports.{◌-◌, length, FamilyHasRoom, Falls, IsClean}
+use Rattle.sas_mutex.proofs.Imports.{◌-◌, length, Falls, IsIdle}
 use Rattle.sas_mutex.proofs.greatest.look_until_quiet.Given as goal
 
 abbrev pub invariant-loop-operator : goal.invariant-loop-operator
 invariant-loop-operator g l = record {
-  falls : Falls l.indexed l.fn.family l.family;
-  room : FamilyHasRoom l.indexed l.family;
-  clean : IsClean l.indexed l.marks;
+  falls : Falls l.indexed l.fn.checker.family l.checker.family;
+  idle : IsIdle l.indexed l.checker;
 }
 
 abbrev pub decreases-loop-operator : goal.decreases-loop-operator
-decreases-loop-operator g l = length l.indexed.groups - length l.family.fallen.items
+decreases-loop-operator g l = length l.indexed.groups - length l.checker.family.fallen.items

@@ -1,11 +1,9 @@
--- The verdicts consider the operators so far; the family is unchanged.
-use Rattle.sas_mutex.proofs.Imports.{◌≡◌, FamilyHasRoom, AreVerdictsSoFar, IsClean}
+-- The verdicts consider the operators so far.
+use Rattle.sas_mutex.proofs.Imports.{AreJudged, IsIdle}
 use Rattle.sas_mutex.proofs.joint.find_breaking.Given as goal
 
 abbrev pub invariant-loop-operator : goal.invariant-loop-operator
 invariant-loop-operator g l = record {
-  so_far : AreVerdictsSoFar l.indexed l.fn.family.kept l.operator 0 l.verdicts;
-  kept : l.family.kept ≡ l.fn.family.kept;
-  room : FamilyHasRoom l.indexed l.family;
-  clean : IsClean l.indexed l.marks;
+  judged : AreJudged l.indexed l.operator 0 l.checker.family l.verdicts;
+  idle : IsIdle l.indexed l.checker;
 }

@@ -7,9 +7,7 @@ pub loop-fact-init : goal.loop-fact-init
 loop-fact-init g c = none_so_far c.requires.exist c.widest_of-widest.result c.widest_of-widest.ensures c.requires.blank c.set_apart.ensures
 
 pub note-requires-clause-groups : goal.note-requires-clause-groups
-note-requires-clause-groups g c =
-    let indexed = subst (λ (q : Parts). IsIndexOf q c.indexed.inside.index.now) c.indexed.view_is c.indexed.invariant in
-    groups_below c.args.indexed.now c.indexed.inside.index.now _ (length c.loop-fact.notes.groups) indexed (c.requires.exist c.loop-fact.fact-index _ c.loop-fact-test.true) c.loop-fact.invariant.from.wide.groups
+note-requires-clause-groups g c = search (arith, groups_below, length)
 
 pub returns-then-not-note-clause-is : goal.returns-then-not-note-clause-is
 returns-then-not-note-clause-is g c =

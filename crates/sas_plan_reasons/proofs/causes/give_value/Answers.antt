@@ -15,5 +15,4 @@ pub returns-in-Some : goal.returns-in-Some
 returns-in-Some g c = grind (arith, common_steps, one_gives, first_is)
 
 pub returns-in-None : goal.returns-in-None
-returns-in-None g c =
-    sym (none_gives c.args.layered.now c.args.fact (sym c.requires ∙ first_is_none c.args.rules.now (sym c.in-None.ensures.value)))
+returns-in-None g c = search (arith, none_gives, first_is_none)

@@ -1,5 +1,5 @@
 -- No rule derives the value, or all of the variable's rules were reported before, or they are reported now.
-use Rattle.sas_plan_reasons.proofs.Imports.{◌≡◌, ◌<◌, ℕ, Bool, List, ◌++◌, length, get_or, false, sym, ◌∙◌, ap, subst, flat_map, All, on_ok_weaker, Contains-get_or, of_variable, places, can_give, failing_lines, keeping_lines, last_state, AddsLines}
+use Rattle.sas_plan_reasons.proofs.Imports.{arith, ◌≡◌, ◌<◌, ℕ, Bool, List, ◌++◌, length, get_or, false, sym, ◌∙◌, ap, subst, flat_map, All, on_ok_weaker, Contains-get_or, of_variable, places, can_give, failing_lines, keeping_lines, last_state, AddsLines}
 use Rattle.sas_plan_reasons.proofs.Composing.{no_rule, reported_before, reported_now}
 use Rattle.sas_plan_reasons.proofs.causes.report_keepers.Goals as goal
 
@@ -9,9 +9,7 @@ returns-then-not-give_value g c = on_ok_weaker c.push.result
     c.push.ensures.ok
 
 pub returns-then-as_slice-var : goal.returns-then-as_slice-var
-returns-then-as_slice-var g c = reported_before c.args.task.now c.args.history.now c.args.report.now c.args.fact
-    (sym c.give_value.ensures ∙ c.if-not-give_value.false)
-    (ap (λ (l : List Bool). get_or l c.args.fact.var false) (sym c.as_slice.ensures) ∙ c.if-as_slice-var.true)
+returns-then-as_slice-var g c = search (arith, reported_before, false, get_or)
 
 pub push_keepers-requires-clause-rules : goal.push_keepers-requires-clause-rules
 push_keepers-requires-clause-rules g c =

@@ -46,12 +46,4 @@ returns-then-effect_change-change-clause-none g c =
     (sym (ap (λ (x : Change). x.new) (rw c.task-task.ensures.task at c.effect_change.ensures)) ∙ (c.if-effect_change-change.true ∙ ap (λ (x : Change). x.new) (rw c.task-task.ensures.task at c.effect_change-change.ensures)))
 
 pub returns-else-effect_change-change-clause-some : goal.returns-else-effect_change-change-clause-some
-returns-else-effect_change-change-clause-some g c =
-    let s = c.args.state.now in
-    let firsts = c.args.firsts.now in
-    let var = ap (λ (x : Change). x.var) (rw c.task-task.ensures.task at c.effect_change-change.ensures) in
-    contradicted _ _ _ _ _ c.requires.firsts c.requires.effect
-    (subst (AllHold (slice_index s)) (rw c.task-task.ensures.task at c.effect_conditions.ensures) (c.holds_all.ensures.0 c.if-not-holds_all.false))
-    _
-    (ap (first_on firsts) (sym var) ∙ (ap (λ (l : List (Option ℕ)). first_on l c.effect_change-change.result.var) (sym c.as_slice.ensures) ∙ c.in-Some.is))
-    (λ same. c.if-effect_change-change.false (ap (λ (x : Change). x.new) (rw c.task-task.ensures.task at c.effect_change.ensures) ∙ (same ∙ sym (ap (λ (x : Change). x.new) (rw c.task-task.ensures.task at c.effect_change-change.ensures)))))
+returns-else-effect_change-change-clause-some g c = search (arith, contradicted, slice_index, first_on)

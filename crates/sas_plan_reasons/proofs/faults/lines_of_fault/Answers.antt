@@ -1,5 +1,6 @@
 -- What each fault gives is known of the run.
-use Rattle.sas_plan_reasons.proofs.Imports.{ℕ, List, Some, sym, ◌∙◌, subst, IfOk-weaker, operator_at, Agree, PlanFault, RunEndsWith, Step, LineThen, AreOperatorLines, AreConflictLines, AreFaultLines, operators_exist, ReportsOnce}
+use Rattle.std.proofs.lemmas.Grind.{common_steps}
+use Rattle.sas_plan_reasons.proofs.Imports.{arith, ℕ, List, Some, sym, ◌∙◌, subst, IfOk-weaker, operator_at, Agree, PlanFault, RunEndsWith, Step, LineThen, AreOperatorLines, AreConflictLines, AreFaultLines, operators_exist, ReportsOnce}
 use Rattle.sas_plan_reasons.proofs.Behind.{behind, conflict_clashes, last_is, operators_are, operators_as_many}
 use Rattle.sas_plan_reasons.proofs.Faulty.{costs_reported}
 use Rattle.sas_plan_reasons.proofs.faults.lines_of_fault.Goals as goal
@@ -27,9 +28,7 @@ pub unknown-requires-clause-nameless : goal.unknown-requires-clause-nameless
 unknown-requires-clause-nameless g c = c.requires.1.nameless
 
 pub costs-requires : goal.costs-requires
-costs-requires g c =
-    let r = c.requires.1 in
-    rw (c.as_slice.ensures.value, r.operators) (operators_exist _ _ r.through)
+costs-requires g c = search (arith, operators_exist)
 
 pub returns-in-NoOperator : goal.returns-in-NoOperator
 returns-in-NoOperator g c = rw c.in-NoOperator.is (IfOk-weaker c.unknown.result _ _ (λ lines reported run r. reported) c.unknown.ensures)
@@ -49,12 +48,7 @@ returns-in-Conflict g c = rw c.in-Conflict.is (IfOk-weaker c.conflicting.result 
     c.conflicting.ensures)
 
 pub returns-in-GoalMissed : goal.returns-in-GoalMissed
-returns-in-GoalMissed g c = IfOk-weaker c.missed.result _ _ (λ lines reported run r.
-    subst (λ (f : PlanFault). ReportsOnce lines (AreFaultLines c.args.layered.now (g.P.Stepwise.says c.args.plan.now) run f)) (sym c.in-GoalMissed.is)
-    (reported run (behind _ _ _ run r)))
-    c.missed.ensures
+returns-in-GoalMissed g c = grind (arith, common_steps, behind)
 
 pub returns-in-CostDiffers : goal.returns-in-CostDiffers
-returns-in-CostDiffers g c = rw c.in-CostDiffers.is (IfOk-weaker c.costs.result _ _
-    (λ lines are run r. costs_reported c.args.layered.now (g.P.Stepwise.says c.args.plan.now).cost run lines (rw c.cost.ensures at are run (c.as_slice.ensures.value ∙ operators_are _ _ _ run r) (operators_as_many _ _ _ run r)))
-    c.costs.ensures)
+returns-in-CostDiffers g c = search (arith, costs_reported, operators_are, operators_as_many)

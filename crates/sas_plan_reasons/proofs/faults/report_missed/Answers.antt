@@ -1,5 +1,5 @@
 -- How many goal facts fail, and then each goal fact in turn.
-use Rattle.sas_plan_reasons.proofs.Imports.{◌≡◌, ◌<◌, ◌≤◌, List, [], ◌∷◌, length, get_or, refl, sym, ◌∙◌, ap, subst, slice_index, All, count_by, Fact, Parts, places, places_to, places_all, Line, LineThen, LinesOfEach, fails, IsCause, goal_fact_at, AreGoalFactLines, GoalFact, FailingGoalFacts}
+use Rattle.sas_plan_reasons.proofs.Imports.{arith, ◌≡◌, ◌<◌, ◌≤◌, List, [], ◌∷◌, length, get_or, refl, sym, ◌∙◌, ap, subst, slice_index, count_by, Fact, Parts, places, places_to, places_all, Line, LineThen, LinesOfEach, fails, IsCause, AreGoalFactLines, GoalFact, FailingGoalFacts}
 use Rattle.sas_plan_reasons.proofs.Within.{goal_within}
 use Rattle.sas_plan_reasons.proofs.Composing.{more_is_report, plain_is_report, line_and_more, one_more}
 use Rattle.sas_plan_reasons.proofs.Faulty.{at_last, fails_when, holds_when, place_more, place_not}
@@ -7,22 +7,13 @@ use Rattle.sas_plan_reasons.proofs.faults.report_missed.Goals as goal
 use Rattle.sas_plan_reasons.proofs.faults.report_missed.Goals.{then-value-fact+in_ok-push-2+in_ok-report_cause, else-value-fact}
 
 pub count_failing-requires : goal.count_failing-requires
-count_failing-requires g c =
-    let s = c.args.history.now.last in
-    subst (All (λ (f : Fact). f.var < length s)) (sym (c.goal-goal.ensures ∙ ap (λ (q : Parts). q.goal) c.task.ensures.task))
-    (goal_within c.args.layered.now c.task.ensures.well_ranged s c.requires.1.state)
+count_failing-requires g c = search (arith, length, goal_within)
 
 pub value-requires : goal.value-requires
-value-requires g c =
-    let s = c.args.history.now.last in
-    subst (All (λ (f : Fact). f.var < length s)) (sym (c.goal-goal.ensures ∙ ap (λ (q : Parts). q.goal) c.task.ensures.task))
-    (goal_within c.args.layered.now c.task.ensures.well_ranged s c.requires.1.state) c.loop-index.index _ c.loop-index-test.true
+value-requires g c = search (arith, length, goal_within)
 
 pub report_cause-requires-clause-fact : goal.report_cause-requires-clause-fact
-report_cause-requires-clause-fact g c =
-    let within = goal_within _ c.task.ensures.well_ranged _ c.requires.1.state in
-    subst (All (λ (f : Fact). f.var < length c.args.layered.now.variables)) (sym (c.goal-goal.ensures ∙ ap (λ (q : Parts). q.goal) c.task.ensures.task))
-    (subst (λ n. All (λ (f : Fact). f.var < n) c.args.layered.now.goal) (let state = c.requires.1.state in state.one_each) within) c.loop-index.index _ c.loop-index-test.true
+report_cause-requires-clause-fact g c = search (arith, goal_within, length)
 
 pub report_cause-requires-clause-report : goal.report_cause-requires-clause-report
 report_cause-requires-clause-report g c =
@@ -46,7 +37,7 @@ loop-index-preserved g c =
             (λ e. w.if-value-fact.true (c.value.ensures ∙ e)))),
       )
           (one_more p c.args.history.now (λ run. AreGoalFactLines p run) _ _ _ _ k c.loop-index.invariant
-          (line_and_more _ _ _ _ w.push-then-value-fact.new.self (GoalFact k) (λ run. IsCause p run (goal_fact_at p k)) refl w.in_ok-push-2.ensures.ok
+          (line_and_more _ _ _ _ w.push-then-value-fact.new.self (GoalFact k) (λ run. IsCause p run (get_or p.goal k (record { var = 0; value = 0 }))) refl w.in_ok-push-2.ensures.ok
           (rw goal_is at w.in_ok-report_cause.ensures)))
       | else-value-fact w ↦ rw (
         w.report-is,

@@ -1,12 +1,9 @@
-use Rattle.sas_requests.proofs.Imports.{Output, GroupsAnswer, MutexAnswer, WhyGroupsAnswer, WhyMutexAnswer, groups_answered, groups_layered, writes_by}
+use Rattle.sas_requests.proofs.Imports.{arith, Output, WhyGroupsAnswer, WhyMutexAnswer, groups_answered, groups_layered, writes_by}
 use Rattle.sas_requests.proofs.RequestEnds.{some_as}
 use Rattle.sas_requests.proofs.answers.answer_groups.Goals as goal
 
 pub returns-in-Plain : goal.returns-in-Plain
-returns-in-Plain g c =
-    let p = c.args.layered.now in
-    let plain = some_as (GroupsAnswer p) (MutexAnswer p) (λ (o : Output). groups_answered p o c.requires.layered) in
-    rw c.in-Plain.is (writes_by g.W.Write.contents _ _ c.write_groups.result _ _ plain c.write_groups.ensures)
+returns-in-Plain g c = search (arith, some_as, groups_answered, writes_by)
 
 pub returns-in-Reasons : goal.returns-in-Reasons
 returns-in-Reasons g c =

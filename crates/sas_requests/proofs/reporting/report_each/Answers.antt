@@ -1,31 +1,22 @@
-use Rattle.sas_requests.proofs.Imports.{ℕ, List, [], get_or, refl, sym, ap, ◌++◌, ◌∙◌, arith, IsJudged, labelled}
+use Rattle.sas_requests.proofs.Imports.{err_from_is_err_and, ℕ, List, [], get_or, ap, ◌++◌, ◌∙◌, arith, IsJudged, labelled}
 use Rattle.sas_requests.proofs.SaidPlans.{holds_same, reported_more, unsaid, valid_few}
 use Rattle.sas_requests.proofs.SideBySide.{none_labelled}
 use Rattle.sas_requests.proofs.Turns.{opens_next, opens_until}
 use Rattle.sas_requests.proofs.reporting.report_each.Goals as goal
 
 pub add-requires : goal.add-requires
-add-requires g c =
-    let few = valid_few c.args.loaded.now (g.S.PlanInputs.bytes c.args.plans.now) (g.S.PlanInputs.labels c.args.plans.now) c.loop-number.number c.loop-number.text.items c.loop-number.tally c.loop-number.invariant.reported in
-    omega (arith, few)
+add-requires g c = search (arith, valid_few)
 
-pub returns-in-Err-clause-err : goal.returns-in-Err-clause-err
-returns-in-Err-clause-err g c =
-    unsaid g.S.PlanInputs.open_gives c.loop-number.loaded c.args.loaded.now _ (g.S.PlanInputs.bytes c.args.plans.now) c.loop-number.number _ _ c.in-Err.fault c.loop-number.invariant.task (c.loop-number.invariant.later c.loop-number.number (omega arith)) c.in-Err.ensures.err c.in-Err.ensures.fault
+pub returns-in_err-cost-clause-err : goal.returns-in_err-cost-clause-err
+returns-in_err-cost-clause-err g c =
+    let p = err_from_is_err_and c.from_residual.result c.from_residual.ensures.1 in
+    rw (p.1, p.2) (unsaid g.S.PlanInputs.open_gives c.loop-number.loaded c.args.loaded.now _ (g.S.PlanInputs.bytes c.args.plans.now) c.loop-number.number _ _ _ c.loop-number.invariant.task (c.loop-number.invariant.later c.loop-number.number (omega arith)) c.in_err-cost.ensures.err c.in_err-cost.ensures.fault)
 
-pub returns-in-Err-clause-fault : goal.returns-in-Err-clause-fault
-returns-in-Err-clause-fault g c = λ task.
-    opens_until g.S.PlanInputs.open_gives task _ c.loop-number.number _ _ _ c.in-Err.fault (omega (arith, c.loop-number.invariant.end)) c.loop-number.invariant.opened c.in-Err.ensures.fault
+pub returns-in_err-cost-clause-fault : goal.returns-in_err-cost-clause-fault
+returns-in_err-cost-clause-fault g c = search (arith, err_from_is_err_and, opens_until)
 
 pub loop-number-init : goal.loop-number-init
-loop-number-init g c = record {
-  task = refl;
-  labels = refl;
-  end = c.count-number-end.ensures;
-  later = λ k less. refl;
-  opened = refl;
-  reported = record { all = []; many = refl; each = λ k less. absurd (omega arith); whole = c.requires ∙ sym (none_labelled (g.S.PlanInputs.labels c.args.plans.now)); counts = c.new-tally.ensures };
-}
+loop-number-init g c = search (arith, none_labelled)
 
 pub loop-number-preserved : goal.loop-number-preserved
 loop-number-preserved g c =
@@ -34,13 +25,13 @@ loop-number-preserved g c =
     let p = c.args.loaded.now in
     let known = g.S.PlanInputs.bytes c.args.plans.now in
     let labels = g.S.PlanInputs.labels c.args.plans.now in
-    let said = c.in-Ok.ensures.ok in
+    let said = c.in_ok-cost.ensures.ok in
     record {
-      task = c.in-Ok.ensures.same ∙ before.task;
-      labels = c.in-Ok.ensures.labels ∙ before.labels;
+      task = c.in_ok-cost.ensures.same ∙ before.task;
+      labels = c.in_ok-cost.ensures.labels ∙ before.labels;
       end = before.end;
-      opened = opens_next g.S.PlanInputs.open_gives number _ _ _ before.opened c.in-Ok.ensures.opened;
-      later = λ k less. c.in-Ok.ensures.later k (omega arith) ∙ before.later k (omega arith);
+      opened = opens_next g.S.PlanInputs.open_gives number _ _ _ before.opened c.in_ok-cost.ensures.opened;
+      later = λ k less. c.in_ok-cost.ensures.later k (omega arith) ∙ before.later k (omega arith);
       reported =
           reported_more p known labels number c.loop-number.text.items c.loop-number.tally before.reported _ _ said.0 _ (omega (arith, before.end))
           (holds_same (λ q bytes. IsJudged q bytes said.0) c.loop-number.loaded p _ (known number) before.task (before.later number (omega arith)) said.1)

@@ -4,8 +4,8 @@ use Rattle.sas_requests.proofs.reporting.report_plan.Goals as goal
 
 pub returns-clause-ok : goal.returns-clause-ok
 returns-clause-ok g c = (
-  judged_of c.in-Ok.verdict,
-  c.in-Ok.ensures.judges,
-  said_text _ _ _ _ _ _ c.in_ok-pushed.ensures (c.label.ensures ∙ ap (λ (l : List (List ℕ)). get_or l c.args.number []) c.in-Ok.ensures.labels) c.as_slice.ensures.value,
+  judged_of c.in_ok-verdict.verdict,
+  c.in_ok-verdict.ensures.judges,
+  said_text _ _ _ _ _ _ c.in_ok-pushed.ensures (c.label.ensures ∙ ap (λ (l : List (List ℕ)). get_or l c.args.number []) c.in_ok-verdict.ensures.labels) c.as_slice.ensures.value,
   refl,
 )

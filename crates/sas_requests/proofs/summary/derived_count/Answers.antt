@@ -21,10 +21,4 @@ module _ (vs : List Variable) (k : ℕ) (h : k < length vs) where
   as_many is = count_by_more_no is_derived vs k none h (reported false is)
 
 pub loop-var-preserved : goal.loop-var-preserved
-loop-var-preserved c =
-    let below : c.loop-var.var < length c.args.variables.now = omega (arith, c.loop-var-test.true, c.len-var-end.ensures) in
-    let asked = sym (c.is_some.ensures ∙ ap is_some c.layer.ensures) in
-    elim c.if-is_some.branch [
-      | then-is_some w ↦ w.count-is ∙ omega (arith, c.loop-var.invariant, one_more c.args.variables.now c.loop-var.var below (asked ∙ w.if-is_some.true))
-      | else-is_some w ↦ w.count-is ∙ omega (arith, c.loop-var.invariant, as_many c.args.variables.now c.loop-var.var below (asked ∙ w.if-is_some.false))
-    ]
+loop-var-preserved c = search (arith, length, true, is_some, then-is_some, one_more, else-is_some, as_many, false)

@@ -5,12 +5,7 @@ use Rattle.sas_run.proofs.PlainSteps.{no_change, one_more_made, one_more_deleted
 use Rattle.sas_run.proofs.plain_steps.make_changes.Goals as goal
 
 pub replace-requires-clause-exists : goal.replace-requires-clause-exists
-replace-requires-clause-exists g c =
-    let p = c.args.task.now in
-    let n = c.loop-change.change-index in
-    let one_each = c.loop-change.invariant.made.state.one_each in
-    let within : (get_or c.args.changes.now n no_change).var < length p.variables = changes_within p c.args.operator c.requires.operator c.args.changes.now c.requires.plain.effects c.task.ensures.well_ranged n no_change c.loop-change-test.true in
-    rw c.fact.ensures (omega (arith, within, one_each))
+replace-requires-clause-exists g c = search (arith, get_or, no_change, length, changes_within)
 
 pub loop-change-preserved : goal.loop-change-preserved
 loop-change-preserved g c =

@@ -9,14 +9,13 @@ loop-step-preserved g c =
     let inv = c.loop-step.invariant in
     let progress = c.loop-step.progress in
     let operator = c.in-Ok.operator in
+    let made = rw c.in-Ok.is at c.make_plan_step.ensures.makes in
     let items = rw c.unwrap.ensures at c.push.ensures.items in
     record {
-      prepared = c.make_plan_step.ensures.prepared;
+      at = c.make_plan_step.ensures.at;
       noted = c.make_plan_step.ensures.noted ∙ inv.noted;
-      follows = c.in-Ok.ensures.follows;
-      state = c.make_plan_step.ensures.state;
       makes = rw items (makes_one_more p c.task.ensures.layered (g.C.Chooser.means c.args.chooser.now p) progress.operators.items progress.state inv.makes operator c.make_plan_step.new.state
-          c.in-Ok.ensures.exists (rw inv.one_each c.in-Ok.ensures.means) c.in-Ok.ensures.step);
+          made.1 (rw inv.one_each made.0) made.2);
       one_each = rw items (let len = length-append progress.operators.items (operator ∷ []) in let one = inv.one_each in omega arith);
       room = omega (arith, inv.room, c.push.ensures.capacity);
       kept = omega (arith, inv.kept, c.push.ensures.capacity);

@@ -1,5 +1,5 @@
 -- The prevail conditions, and the old values that effects without conditions require, are all preconditions.
-use Rattle.sas_run.proofs.Imports.{length, subst, slice_index, operator_at, AllHold, true_from_ne_false}
+use Rattle.sas_run.proofs.Imports.{arith, length, subst, slice_index, operator_at, AllHold, true_from_ne_false}
 use Rattle.sas_run.proofs.Ranges.{preconditions_within}
 use Rattle.sas_run.proofs.PlainSteps.{changes_within, met, prevail_met, olds_met, prevail_within}
 use Rattle.sas_run.proofs.runner.is_applicable.Goals as goal
@@ -12,9 +12,7 @@ holds_all-requires g c =
     (prevail_within c.args.state.now o c.in-Some.changes.now c.in-Some.ensures (length p.variables) (preconditions_within p c.task-task.ensures.well_ranged c.args.operator c.requires.operator))
 
 pub old_values_hold-requires : goal.old_values_hold-requires
-old_values_hold-requires g c =
-    let p = c.args.layered.now in
-    rw c.requires.state.one_each (changes_within p c.args.operator c.requires.operator c.in-Some.changes.now c.in-Some.ensures c.task-task.ensures.well_ranged)
+old_values_hold-requires g c = search (arith, changes_within)
 
 pub returns-then-holds_all : goal.returns-then-holds_all
 returns-then-holds_all g c =
@@ -28,10 +26,4 @@ returns-then-holds_all g c =
     )
 
 pub returns-else-holds_all : goal.returns-else-holds_all
-returns-else-holds_all g c =
-    let p = c.args.layered.now in
-    let o = operator_at p c.args.operator in
-    let s = c.args.state.now in (
-      (λ yes. (let no = c.if-holds_all.false in absurd cc)),
-      (λ can. c.holds_all.ensures.1 (rw (rw c.task-task.ensures.task at c.prevail.ensures) (prevail_met s o c.in-Some.changes.now c.in-Some.ensures can))),
-    )
+returns-else-holds_all g c = search (arith, operator_at, prevail_met)

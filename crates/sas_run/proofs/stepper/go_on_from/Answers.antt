@@ -41,5 +41,5 @@ returns-then-stepper-clause-lists g c noted =
     let deleted = c.apply.new.stepper.deleted.facts.items in
     let gone = c.in_ok-apply.ensures.gone noted in
     lists_step p s c.apply.new.state c.settle_on.new.state deleted c.settle_on.new.touched gone c.settle_on.ensures.settles.basic
-    (c.settle_on.ensures.covered s (rw (← c.apply.ensures.evaluator) at (c.requires.follows (sym c.apply.ensures.notes.noted ∙ noted)))
+    (c.settle_on.ensures.covered s (rw (← c.apply.ensures.evaluator) at (c.requires.at.follows (sym c.apply.ensures.notes.noted ∙ noted)))
     (subst (λ (facts : List Fact). HaveGone p facts s c.apply.new.state) (sym c.as_slice.ensures.value) gone))

@@ -1,5 +1,5 @@
 -- One more effect has given its value, if it fires.
-use Rattle.sas_run.proofs.Imports.{◌≡◌, ◌∙◌, length, sym, subst, arith, slice_index, Change, operator_at, effect_at, change_of, AllHold, Fires, IsGiven, IsGivenTo, GivesValue, GivesOther, effect_fits}
+use Rattle.sas_run.proofs.Imports.{◌≡◌, ◌∙◌, length, sym, subst, arith, slice_index, Change, operator_at, effect_at, change_of, AllHold, Fires, IsGivenTo, GivesValue, GivesOther, effect_fits}
 use Rattle.sas_run.proofs.Ranges.{effect_within, conditions_within, change_within}
 use Rattle.sas_run.proofs.Giving.{given_on_effects, conflicts_first, gives_one_more}
 use Rattle.sas_run.proofs.PlainSteps.{no_change, change_made}
@@ -13,9 +13,7 @@ returns-clause-given_to g c =
     given_on_effects p c.args.state.now o c.loop-effect.effect c.loop-effect.given c.loop-effect.invariant (omega arith) (effect_fits p c.task.ensures.well_ranged c.args.operator c.requires.operator)
 
 pub holds_all-requires : goal.holds_all-requires
-holds_all-requires g c =
-    let p = c.args.task.now in
-    rw (c.effect_conditions.ensures, c.requires.state.one_each) (conditions_within p c.task.ensures.well_ranged c.args.operator c.requires.operator c.loop-effect.effect (omega arith))
+holds_all-requires g c = search (arith, conditions_within)
 
 pub give-requires : goal.give-requires
 give-requires g c =
@@ -65,8 +63,4 @@ returns-then-not-give-clause-given_to g c =
     (given_on_effects p c.args.state.now o c.loop-effect.effect c.loop-effect.given c.loop-effect.invariant (omega arith) (effect_fits p c.task.ensures.well_ranged c.args.operator c.requires.operator))
 
 pub returns-clause-none : goal.returns-clause-none
-returns-clause-none g c =
-    let p = c.args.task.now in
-    let o = operator_at p c.args.operator in
-    let all : c.loop-effect.effect ≡ length o.effects = omega arith in
-    subst (λ n. IsGiven p c.args.state.now o n c.loop-effect.given) all c.loop-effect.invariant
+returns-clause-none g c = search (arith, operator_at, length)

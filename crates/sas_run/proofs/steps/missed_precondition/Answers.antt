@@ -1,15 +1,13 @@
 -- One precondition after another is tested.
-use Rattle.sas_run.proofs.Imports.{◌∙◌, ◌<◌, List, [], ◌∷◌, ◌++◌, length, ap, sym, subst, append_assoc, slice_index, All, All-nil, All-append, All-head, All-push, Fact, operator_at, Holds, preconditions}
+use Rattle.std.proofs.lemmas.Grind.{common_steps}
+use Rattle.sas_run.proofs.Imports.{arith, ◌∙◌, ◌<◌, [], ◌∷◌, ◌++◌, length, append_assoc, slice_index, All, All-head, Fact, operator_at, preconditions}
 use Rattle.sas_run.proofs.Ranges.{preconditions_within}
 use Rattle.sas_run.proofs.Deleted.{all_behind}
 use Rattle.sas_run.proofs.Missed.{missed_next}
 use Rattle.sas_run.proofs.steps.missed_precondition.Goals as goal
 
 pub loop-fact-init : goal.loop-fact-init
-loop-fact-init g c = record {
-  left = sym (c.into_iter-fact-iterator.ensures.into_iter_gives ∙ rw c.task.ensures.task at c.new-fact-items.ensures);
-  hold = All-nil (Holds (slice_index c.args.state.now));
-}
+loop-fact-init g c = search (arith, slice_index)
 
 pub value-requires : goal.value-requires
 value-requires g c =
@@ -25,17 +23,7 @@ returns-then-value-fact-clause-some g c =
     (λ e. c.if-value-fact.true (c.value.ensures ∙ e))
 
 pub loop-fact-preserved : goal.loop-fact-preserved
-loop-fact-preserved g c =
-    let before = c.loop-fact.yielded in
-    let fact = c.in-Some.fact in
-    let steps = c.in-Some.ensures.steps in
-    record {
-      left = c.loop-fact.invariant.left ∙ (ap (λ (fs : List Fact). before ++ fs) steps ∙ sym (append_assoc before (fact ∷ []) c.next.new.self));
-      hold = All-push (Holds (slice_index c.args.state.now)) before fact c.loop-fact.invariant.hold (sym c.value.ensures ∙ c.if-value-fact.false);
-    }
+loop-fact-preserved g c = grind (arith, common_steps, append_assoc, slice_index)
 
 pub returns-clause-none : goal.returns-clause-none
-returns-clause-none g c =
-    let P : Fact → Type 0 = Holds (slice_index c.args.state.now) in
-    subst (All P) (sym (c.loop-fact.invariant.left ∙ ap (λ (fs : List Fact). c.loop-fact.yielded ++ fs) c.in-None.ensures.steps.0))
-    (All-append P c.loop-fact.yielded [] c.loop-fact.invariant.hold (All-nil P))
+returns-clause-none g c = grind (arith, common_steps, slice_index)

@@ -66,9 +66,7 @@ pub set-requires : goal.set-requires
 set-requires g c = omega (arith, change_within _ c.task.ensures.well_ranged _ c.requires.operator _ (omega arith) _ c.effect_change-var.ensures)
 
 pub replace-requires-clause-room : goal.replace-requires-clause-room
-replace-requires-clause-room g c = λ noted.
-    let inv = c.loop-effect.invariant in
-    omega (arith, (inv.deleted noted).few, inv.notes.room, c.requires.room (sym inv.notes.noted ∙ noted))
+replace-requires-clause-room g c = search (arith)
 
 pub loop-effect-init : goal.loop-effect-init
 loop-effect-init g c = grind (arith, starting)

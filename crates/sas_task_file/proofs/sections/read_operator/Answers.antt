@@ -3,7 +3,7 @@ use Rattle.sas_task_file.proofs.LinesReading.{operator_is_ahead, all_appended, r
 use Rattle.sas_task_file.proofs.sections.read_operator.Goals as goal
 
 pub returns-clause-found : goal.returns-clause-found
-returns-clause-found c =
+returns-clause-found g c =
     let facts = rw c.in-Some-2.is at c.in_ok-facts.ensures.found in
     let effects = rw c.in-Some-3.is at c.in_ok-changed.ensures.found in (
       facts.items,
@@ -14,7 +14,7 @@ returns-clause-found c =
     )
 
 pub overflow_sub-front : goal.overflow_sub-front
-overflow_sub-front c =
+overflow_sub-front g c =
     let facts = rw c.in-Some-2.is at c.in_ok-facts.ensures.found in
     let effects = rw c.in-Some-3.is at c.in_ok-changed.ensures.found in
     omega (arith, rest_fits c.in-Some.ensures.1, rest_fits facts.lines, rest_fits effects.lines, rest_fits c.in-Some-read_operator_end.ensures)

@@ -3,4 +3,4 @@ use Rattle.sas_task_file.proofs.LinesReading.{two_lines}
 use Rattle.sas_task_file.proofs.sections.read_operator_end.Goals as goal
 
 pub returns : goal.returns
-returns c = two_lines (number_is_ahead c.args.bytes.now c.in_ok-cost.rest.now c.in_ok-cost.cost c.in_ok-cost.ensures) c.in_ok-rest.ensures
+returns g c = two_lines (number_is_ahead c.args.bytes.now c.in_ok-cost.rest.now c.in_ok-cost.cost c.in_ok-cost.ensures) c.in_ok-rest.ensures

@@ -3,4 +3,4 @@ use Rattle.sas_task_file.proofs.Imports.{NamesBefore}
 use Rattle.sas_task_file.proofs.variables_and_groups.names_before.Given as goal
 
 abbrev pub invariant-loop-i : goal.invariant-loop-i
-invariant-loop-i l = NamesBefore l.count l._i l.fn.names l.names l.fn.bytes l.rest
+invariant-loop-i g l = NamesBefore l.count l._i l.fn.names l.names l.fn.bytes l.rest

@@ -3,7 +3,7 @@ use Rattle.sas_task_file.proofs.LinesReading.{group_is_ahead, all_appended, one_
 use Rattle.sas_task_file.proofs.variables_and_groups.read_group.Goals as goal
 
 pub returns-clause-found : goal.returns-clause-found
-returns-clause-found c =
+returns-clause-found g c =
     let facts = rw c.in-Some-2.is at c.in_ok-count.ensures.found in (
       facts.items,
       facts.are,
@@ -11,6 +11,6 @@ returns-clause-found c =
     )
 
 pub overflow_sub-front : goal.overflow_sub-front
-overflow_sub-front c =
+overflow_sub-front g c =
     let facts = rw c.in-Some-2.is at c.in_ok-count.ensures.found in
     omega (arith, rest_fits (one_line c.in-Some.ensures), rest_fits facts.lines, rest_fits (one_line c.in-Some-read_word.ensures))

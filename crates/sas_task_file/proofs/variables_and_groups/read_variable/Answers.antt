@@ -3,7 +3,7 @@ use Rattle.sas_task_file.proofs.LinesReading.{variable_is_ahead, all_appended, o
 use Rattle.sas_task_file.proofs.variables_and_groups.read_variable.Goals as goal
 
 pub returns-clause-found : goal.returns-clause-found
-returns-clause-found c =
+returns-clause-found g c =
     let (some, names) = rw c.in-Some-2.is at c.in_ok-range.ensures.found in (
       names.items,
       names.are,
@@ -12,6 +12,6 @@ returns-clause-found c =
     )
 
 pub overflow_sub-front : goal.overflow_sub-front
-overflow_sub-front c =
+overflow_sub-front g c =
     let (some, names) = rw c.in-Some-2.is at c.in_ok-range.ensures.found in
     omega (arith, rest_fits c.in-Some.ensures.1, rest_fits names.lines, rest_fits (one_line c.in-Some-read_word.ensures))

@@ -9,12 +9,12 @@ use Rattle.sas_task_reasons.proofs.broken.report_failures_at.Goals.{then-not-not
 pub some_lacks_reason-requires-clause-verdicts : goal.some_lacks_reason-requires-clause-verdicts
 some_lacks_reason-requires-clause-verdicts g c k d lt =
     let below = ((c.groups-groups.ensures _).0 (Contains-get_or c.groups-groups.result.now k d lt)).exists in
-    let as_many = c.requires.verdicts in omega arith
+    let as_many = c.requires.so_far.joint.one_each in omega arith
 
 pub some_lacks_reason-requires-clause-reasons : goal.some_lacks_reason-requires-clause-reasons
 some_lacks_reason-requires-clause-reasons g c k d lt =
     let below = ((c.groups-groups.ensures _).0 (Contains-get_or c.groups-groups.result.now k d lt)).exists in
-    let as_many = ap length c.as_slice.ensures ∙ c.requires.so_far.one_each in omega arith
+    let as_many = ap length c.as_slice.ensures ∙ c.requires.so_far.reasons_so_far.one_each in omega arith
 
 pub returns-then-not-some_lacks_reason-clause-so_far : goal.returns-then-not-some_lacks_reason-clause-so_far
 returns-then-not-some_lacks_reason-clause-so_far g c =
@@ -27,7 +27,7 @@ returns-then-not-some_lacks_reason-clause-so_far g c =
     (c.some_lacks_reason.ensures c.if-not-some_lacks_reason.true) ((c.groups-groups.ensures place).1 has)
     (subst (λ (xs : List (Option Reason)). LacksReason c.firing.inside.operator verdicts xs place) (sym c.as_slice.ensures)
     (subst (λ (n : ℕ). LacksReason n verdicts reasons place) (sym same) lacks)))
-    (c.requires.so_far.are place has.exists)) c.requires.so_far
+    (c.requires.so_far.reasons_so_far.are place has.exists)) c.requires.so_far
 
 pub report_groups-requires-clause-have : goal.report_groups-requires-clause-have
 report_groups-requires-clause-have g c k d lt =
@@ -46,25 +46,22 @@ returns-clause-so_far g c =
     elim c.if-not-note.branch [
       | then-not-note w ↦
           (let after = w.report_groups.new.reasons in
-          rw w.reasons-is (next_effect p kept f.operator f.effect verdicts after
+          rw (w.greatest-is, w.report_groups.ensures.kept, w.reasons-is) (next_effect p kept f.operator f.effect verdicts after
           (λ place has. All-contains (λ (n : ℕ). IsReasonSoFar p kept f.operator (f.effect + 1) n (verdict_at verdicts n) (reason_at after n)) c.groups-groups.result.now place
           w.report_groups.ensures.reported ((c.groups-groups.ensures place).1 has)) w.report_groups.ensures.so_far))
       | else-not-note w ↦
           (let never = subst (NeverFires f) c.as_slice-kept.ensures (c.note.ensures.yes w.if-not-note.false) in
-          rw w.reasons-is (next_effect p kept f.operator f.effect verdicts c.args.reasons.now
+          rw (w.greatest-is, w.reasons-is) (next_effect p kept f.operator f.effect verdicts c.args.reasons.now
           (λ place has. pending_more p kept f.operator f.effect place (verdict_at verdicts place) (reason_at c.args.reasons.now place)
-          (λ _. clash_never_fires p kept place has.exists c.requires.one_each f.operator f.effect never)
-          (c.requires.so_far.are place has.exists)) c.requires.so_far))
+          (λ _. clash_never_fires p kept place has.exists c.requires.so_far.for_each f.operator f.effect never)
+          (c.requires.so_far.reasons_so_far.are place has.exists)) c.requires.so_far))
     ]
 
 pub note-requires-clause-one_each : goal.note-requires-clause-one_each
-note-requires-clause-one_each g c = ap length c.as_slice-kept.ensures ∙ c.requires.one_each
+note-requires-clause-one_each g c = ap length c.as_slice-kept.ensures ∙ c.requires.so_far.for_each
 
 pub note-requires-clause-clean : goal.note-requires-clause-clean
 note-requires-clause-clean g c = c.requires.clean
 
 pub forget-requires : goal.forget-requires
 forget-requires g c = grind (arith, common_steps)
-
-pub returns-clause-kept : goal.returns-clause-kept
-returns-clause-kept g c = grind (arith, common_steps)

@@ -1,5 +1,5 @@
 -- The reason of one more group considers the effect.
-use Rattle.sas_task_reasons.proofs.Imports.{ℕ, ◌+◌, Bool, List, get_or, sym, ◌∙◌, subst, below_more, inl, inr, arith, cases_eq, All-from_get_or, verdict_at, IsNotedAt, reason_at, IsReasonSoFar, AreReasonsSoFar}
+use Rattle.sas_task_reasons.proofs.Imports.{ℕ, ◌+◌, Bool, List, get_or, sym, ◌∙◌, subst, below_more, inl, inr, arith, cases_eq, All-from_get_or, verdict_at, IsNotedAt, reason_at, IsReasonSoFar, IsSearched}
 use Rattle.sas_task_reasons.proofs.broken.report_groups.Goals as goal
 
 pub loop-group-preserved : goal.loop-group-preserved
@@ -16,7 +16,7 @@ loop-group-preserved g c =
     let turn = c.report_group.ensures in
     let reported = subst (λ (xs : List Bool). IsReasonSoFar p xs operator (effect + 1) place (verdict_at verdicts place) (reason_at after place)) inv.kept turn.reported in
     record {
-      so_far = subst (λ (xs : List Bool). AreReasonsSoFar p xs operator effect verdicts after) inv.kept turn.so_far;
+      so_far = subst (λ (xs : List Bool). IsSearched p verdicts xs operator effect after) inv.kept turn.so_far;
       reported = below_more _ _
           (λ k lt. elim (cases_eq (get_or groups k 0) place) [
             | inl e ↦ subst (λ (n : ℕ). IsReasonSoFar p kept operator (effect + 1) n (verdict_at verdicts n) (reason_at after n)) (sym e) reported

@@ -5,6 +5,5 @@ use Rattle.sas_answers.proofs.sink.Sink.push_words.Goals as goal
 
 pub returns : goal.returns
 returns g c =
-    let first = pushes_then g.W.Write.contents _ _ _ _ _ (rw c.spaces.ensures at c.push.ensures) c.push-2.ensures in
-    let words = pushes_then g.W.Write.contents _ _ _ _ _ first c.push_rest.ensures in
-    subst (Pushes g.W.Write.contents _ _) (line_is c.args.line) (pushes_then g.W.Write.contents _ _ _ _ _ words c.push-3.ensures)
+    let words = pushes_then g.W.Write.contents _ _ _ _ _ c.push.ensures c.push_rest.ensures in
+    subst (Pushes g.W.Write.contents _ _) (line_is c.args.line) (pushes_then g.W.Write.contents _ _ _ _ _ words c.push-2.ensures)

@@ -1,4 +1,5 @@
 -- One more entry is counted.
+use Rattle.std.proofs.lemmas.Grind.{common_steps}
 use Rattle.sas_axioms.proofs.Imports.{◌<◌, length, get_or, sym, arith, All, ValueChange, IsOfRule}
 use Rattle.sas_axioms.proofs.AllConditions.{can_recount, recounted}
 use Rattle.sas_axioms.proofs.CountingEntries.{CanRecount, no_entry, counters_after, can_count, counters_passed, counters_set}
@@ -22,21 +23,7 @@ set-requires-in-Some c =
     omega (arith, (of_rule c.loop-condition.condition-index no_entry c.loop-condition-test.true).1.exists, was.counts.one_each, c.loop-condition.invariant.one_each)
 
 pub loop-condition-preserved : goal.loop-condition-preserved
-loop-condition-preserved c =
-    let was = c.requires.counts.1 in
-    let cs0 = c.args.self.now.counters in
-    let cs = c.loop-condition.counters in
-    let moved : ValueChange = record { former = c.value.result; value = c.args.fact.value } in
-    let ws = c.get-condition-items.result.now in
-    let i = c.loop-condition.condition-index in
-    let lt = c.loop-condition-test.true in
-    let inv = c.loop-condition.invariant in
-    let of_rule : All (IsOfRule c.requires.counts.0) ws = rw c.get-condition-items.ensures (was.index.only c.args.fact.var) in
-    let exists : (get_or ws i no_entry).rule < length cs0 = omega (arith, (of_rule i no_entry lt).1.exists, was.counts.one_each) in
-    elim c.match-count_after.branch [
-      | in-Some w ↦ rw w.counters-is (counters_set moved ws i cs0 cs lt inv w.in-Some.count w.set-in-Some.new.self exists w.set-in-Some.ensures w.in-Some.ensures.some)
-      | in_default w ↦ rw w.counters-is (counters_passed moved ws i cs0 cs lt inv w.in_default.ensures.none)
-    ]
+loop-condition-preserved c = grind (arith, common_steps, get_or, no_entry, length, in-Some, counters_set, in_default, counters_passed)
 
 pub returns-clause-counts : goal.returns-clause-counts
 returns-clause-counts c p was =

@@ -1,5 +1,5 @@
 -- The next layer on which a rule holds.
-use Rattle.sas_axioms.proofs.Imports.{rules, ℕ, ◌≤◌, ◌<◌, length, sym, subst, inl, inr, arith, cases_eq, cases_lt, default_off, AreGiven, SettlesLayer, IsLayerSpan, AreWaiting, IsReadyAt, layer_at, IsSettledAt, IsSettled, IsFollowed}
+use Rattle.sas_axioms.proofs.Imports.{rules, ℕ, ◌≤◌, ◌<◌, length, sym, subst, inl, inr, arith, cases_eq, cases_lt, default_off, AreGiven, SettlesLayer, IsLayerSpan, AreWaiting, layer_at, IsSettledAt, IsSettled, IsFollowed}
 use Rattle.sas_axioms.proofs.Sources.{given_off, given_at_default}
 use Rattle.sas_axioms.proofs.Standing.{settled_while_waiting, settled_between, from_on, ready_from, stands_behind}
 use Rattle.sas_axioms.proofs.worklist.WorklistByLayers.settle_next.Goals as goal
@@ -37,18 +37,11 @@ returns-in_err-ready-clause-follows g c =
 waiting : (g : Over) (c : In_ok-ready g) → AreWaiting c.args.self.now.firing.work.counters c.args.self.now.rules.items c.args.self.now.next c.in_ok-ready.ready
 waiting g c = rw c.as_slice-rules.ensures.value at c.in_ok-ready.ensures.some.2
 
-is_ready : (g : Over) (c : In_ok-ready g) → IsReadyAt c.args.self.now.firing.work.counters c.args.self.now.rules.items c.in_ok-ready.ready
-is_ready g c = rw c.as_slice-rules.ensures.value at c.in_ok-ready.ensures.some.3
-
 within : (g : Over) (c : In_ok-ready g) → c.in_ok-ready.ready < length c.args.self.now.rules.items
 within g c = rw c.as_slice-rules.ensures.value at c.in_ok-ready.ensures.some.1
 
 left : (g : Over) (c : In_ok-ready g) → c.args._from ≤ layer_at c.args.self.now.rules.items c.in_ok-ready.ready
-left g c =
-    let stands = c.requires.stands in
-    let w = c.args.self.now in
-    from_on c.args.layered.now w.rules.items c.args._from w.next stands.ready.rules stands.stands c.args.state.now w.firing.work.counters stands.ready.firing.counted.layered stands.counts
-    c.in_ok-ready.ready c.in_ok-ready.ensures.some.0 (within g c) (waiting g c) (is_ready g c)
+left g c = search (arith, from_on, rules, within, waiting)
 
 pub settle_layer-self-requires-clause-rules : goal.settle_layer-self-requires-clause-rules
 settle_layer-self-requires-clause-rules g c =
@@ -57,7 +50,7 @@ settle_layer-self-requires-clause-rules g c =
     let w = c.args.self.now in
     rw c.as_slice-rules.ensures.value
     (ready_from c.args.layered.now w.rules.items c.args._from w.next stands.ready.rules stands.stands c.args.state.now w.firing.work.counters stands.ready.firing.counted.layered stands.counts
-    c.in_ok-ready.ready c.in_ok-ready.ensures.some.0 (within g at) (waiting g at) (is_ready g at) (c.requires.default (layer_at w.rules.items c.in_ok-ready.ready) (left g at)))
+    c.in_ok-ready.ready c.in_ok-ready.ensures.some.0 (within g at) (waiting g at) (c.requires.default (layer_at w.rules.items c.in_ok-ready.ready) (left g at)))
 
 pub settle_layer-self-requires-clause-default : goal.settle_layer-self-requires-clause-default
 settle_layer-self-requires-clause-default g c =
@@ -78,9 +71,9 @@ returns-clause-stands g c =
     let settles : SettlesLayer p layer s s' = rw c.as_slice-rules.ensures.value at c.settle_layer-self.ensures.settles in
     let span : IsLayerSpan w.rules.items c.in_ok-ready.ready layer c.settle_layer-self.result = rw c.as_slice-rules.ensures.value at c.settle_layer-self.ensures.end in
     rw c.as_slice-rules.ensures.value record {
-      ready = record { variables = stands.ready.variables; rules = stands.ready.rules; firing = c.settle_layer-self.ensures.prepared };
+      ready = record { derived = stands.ready.derived; rules = stands.ready.rules; firing = c.settle_layer-self.ensures.prepared };
       stands = stands_behind p w.rules.items c.args._from w.next stands.ready.rules stands.stands c.args.state.now w.firing.work.counters stands.ready.firing.counted.layered stands.counts
-          c.in_ok-ready.ready c.in_ok-ready.ensures.some.0 (within g at) (waiting g at) (is_ready g at) c.settle_layer-self.result span;
+          c.in_ok-ready.ready c.in_ok-ready.ensures.some.0 (within g at) (waiting g at) c.settle_layer-self.result span;
       given = λ below lt. elim (cases_eq below layer) [
         | inl e ↦ subst (λ n. AreGiven p n s' sources) (sym e) (rw c.as_slice-rules.ensures.value at c.settle_layer-self.ensures.given)
         | inr ne ↦ elim (cases_lt below c.args._from) [
@@ -100,6 +93,6 @@ returns-clause-settles g c =
     rw c.as_slice-rules.ensures.value record {
       from_on = left g at;
       skipped = λ below le lt. settled_between p w.rules.items c.args._from w.next stands.ready.rules stands.stands c.args.state.now w.firing.work.counters stands.ready.firing.counted.layered stands.counts
-          c.in_ok-ready.ready c.in_ok-ready.ensures.some.0 (within g at) (waiting g at) (is_ready g at) below le lt (c.requires.default below le);
+          c.in_ok-ready.ready c.in_ok-ready.ensures.some.0 (within g at) (waiting g at) below le lt (c.requires.default below le);
       settles = rw c.as_slice-rules.ensures.value at c.settle_layer-self.ensures.settles;
     }

@@ -1,19 +1,15 @@
 -- A state that was updated is settled.
-use Rattle.sas_axioms.proofs.Imports.{rules, ◌≡◌, ℕ, length, ap, arith, is_some, IsOnLayer, covers_gone, covers_any, IsFollowed}
+use Rattle.sas_axioms.proofs.Imports.{rules, ◌≡◌, ℕ, length, arith, is_some, IsOnLayer, covers_gone, covers_any, IsFollowed}
 use Rattle.sas_axioms.proofs.GoneSteps.{idle_followed}
 use Rattle.sas_axioms.proofs.worklist.WorklistSettle.settle_on.Goals as goal
 use Rattle.sas_axioms.proofs.worklist.WorklistSettle.settle_on.Given.{Over}
 use Rattle.sas_axioms.proofs.worklist.WorklistSettle.settle_on.Goals.{Then-is_empty}
 
 no_layer : (g : Over) (c : Then-is_empty g) (layer v : ℕ) → IsOnLayer c.args.layered.now layer v → ⊥
-no_layer g c layer v on =
-    let none : length c.args.self.now.derived.items ≡ 0 = search rules in
-    let there = c.requires.ready.variables.each v (ap is_some on) in
-    absurd (omega (arith, there.1))
+no_layer g c layer v on = search (arith, length, rules, is_some)
 
 pub returns-then-is_empty-clause-follows : goal.returns-then-is_empty-clause-follows
-returns-then-is_empty-clause-follows g c =
-    idle_followed c.args.layered.now c.requires.follows.0 c.args.state.now c.args.self.now.firing.work (no_layer g c) c.requires.state c.requires.follows.1
+returns-then-is_empty-clause-follows g c = search (arith, idle_followed, no_layer)
 
 pub returns-else-is_err-clause-settles : goal.returns-else-is_err-clause-settles
 returns-else-is_err-clause-settles g c =

@@ -22,7 +22,7 @@ use denote.Triple.Walked.{Stays, stay_dropped, walk_of, Goes-dropped}
 use mir.Raw.{raw as bare}
 use Rattle.std.specs.contracts.alloc.Global as heap
 use Rattle.std.proofs.alloc.Global.TheLaws as heap_laws
-use Rattle.sas_c.specs.TaskPointers as held
+use Rattle.sas_c.specs.Holding as held
 use Rattle.sas_c.proofs.PointerValues.{both, BoxPointer, pointer_good, pointer_in, one_val, one_reported, slot_at, by_option}
 use Rattle.sas_c.specs.contracts.task_pointer.TaskPointer.into_box_pointer.{ended, clauses}
 use Rattle.sas_c.specs.contracts.task_pointer.TaskPointer.into_box_pointer.Key.{name as #self}

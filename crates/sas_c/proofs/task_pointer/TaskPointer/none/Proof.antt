@@ -18,7 +18,7 @@ use denote.Triple.Entry.{alive}
 use denote.Triple.Walked.{Stays, walk_of}
 use Rattle.std.specs.contracts.alloc.Global as heap
 use Rattle.std.proofs.alloc.Global.TheLaws as heap_laws
-use Rattle.sas_c.specs.TaskPointers as held
+use Rattle.sas_c.specs.Holding as held
 use Rattle.sas_c.specs.contracts.task_pointer.TaskPointer as task_pointer
 use Rattle.sas_c.proofs.PointerValues.{one_val, one_own, one_made}
 use Rattle.sas_c.specs.contracts.task_pointer.TaskPointer.none.{ended, clauses}

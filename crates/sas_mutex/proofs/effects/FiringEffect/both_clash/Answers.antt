@@ -1,6 +1,6 @@
 -- A condition of the other effect clashes with the known facts, or its conditions clash with each
 -- other.
-use Rattle.sas_mutex.proofs.Imports.{iff_yes, iff_other, iff_not, ◌<◌, List, length, sym, subst, inl, inr, Contains, Fact, operator_at, effect_at, AreBlank, EffectPlace, operator_of, IsKept}
+use Rattle.sas_mutex.proofs.Imports.{arith, iff_yes, iff_other, iff_not, ◌<◌, List, length, sym, subst, inl, inr, Contains, Fact, operator_at, effect_at, AreBlank, EffectPlace, operator_of, IsKept}
 use Rattle.sas_mutex.proofs.TaskFacts.{conditions_exist}
 use Rattle.sas_mutex.proofs.FromNotes.{one_clashes, themselves_clash, one_or_themselves}
 use Rattle.sas_mutex.proofs.effects.FiringEffect.both_clash.Goals as goal
@@ -46,15 +46,13 @@ pub effect_conditions-second-requires-clause-effect : goal.effect_conditions-sec
 effect_conditions-second-requires-clause-effect g c = subst (λ (f : EffectPlace). c.args.other < length (operator_of f).effects) (sym c.self.view_is) c.requires.other
 
 pub some_clashes-requires-clause-exist : goal.some_clashes-requires-clause-exist
-some_clashes-requires-clause-exist g c = rw (← c.self.view_is, c.effect_conditions-second.ensures)
-    (conditions_exist c.self.inside.task.now c.self.invariant.0 c.self.inside.operator c.self.invariant.2 c.args.other (rw (← c.self.view_is) at c.requires.other))
+some_clashes-requires-clause-exist g c = search (arith, conditions_exist)
 
 pub invariant_of-indexed : goal.invariant_of-indexed
 invariant_of-indexed g c = c.self.invariant.1
 
 pub facts_clash-requires-clause-exist : goal.facts_clash-requires-clause-exist
-facts_clash-requires-clause-exist g c = rw c.effect_conditions-second.ensures
-    (conditions_exist c.self.inside.task.now c.self.invariant.0 c.self.inside.operator c.self.invariant.2 c.args.other (rw (← c.self.view_is) at c.requires.other))
+facts_clash-requires-clause-exist g c = search (arith, conditions_exist)
 
 pub facts_clash-requires-clause-blank : goal.facts_clash-requires-clause-blank
 facts_clash-requires-clause-blank g c = subst (λ (f : EffectPlace). AreBlank f.task c.args.marks.now.others) (sym c.self.view_is) c.requires.notes.noted.from.others

@@ -1,6 +1,6 @@
 -- A known fact other than the one set apart is recorded for each group that contains it; or one more
 -- known fact shares no group with the fact, or is the one set apart.
-use Rattle.sas_mutex.proofs.Imports.{ℕ, List, length, sym, subst, ◌∙◌, ap, AreBelow, groups_below, iff_other, EffectPlace, iff_not, ◌≢◌, [], Some, both_ways, All-contains, Fact, operator_at, known, known_left, turns_begin, turn_has, turn_more, turns_end, iff_yes, iff_no, ShareOne, known_at}
+use Rattle.sas_mutex.proofs.Imports.{arith, ℕ, length, subst, ◌∙◌, groups_below, iff_other, EffectPlace, iff_not, ◌≢◌, Some, both_ways, All-contains, Fact, known, turn_has, turn_more, turns_end, iff_yes, iff_no, ShareOne, known_at}
 use Rattle.sas_mutex.proofs.TaskFacts.{known_at_exist}
 use Rattle.sas_mutex.proofs.KnownFacts.{share_one, share_kept}
 use Rattle.sas_mutex.proofs.FromNotes.{IsFiring, noted_beside, beside_noted}
@@ -8,12 +8,7 @@ use Rattle.sas_mutex.proofs.effects.FiringEffect.shares_beside.Goals as goal
 use Rattle.sas_mutex.proofs.effects.FiringEffect.shares_beside.Goals.{else-not-is_apart-via-then-not-is_apart+else-some_has, else-not-is_apart-via-else-not-is_apart}
 
 pub has_noted-requires : goal.has_noted-requires
-has_noted-requires g c =
-    let fact = rw (← c.self.view_is) at c.requires.fact in
-    let notes = rw (← c.self.view_is) at c.requires.notes in
-    let p = c.self.inside.task.now in
-    subst (λ (groups : List ℕ). AreBelow (length c.as_slice-noted.result.now) groups) (sym c.groups_of-groups.ensures)
-    (groups_below p c.self.inside.index.now c.args.fact (length c.as_slice-noted.result.now) c.self.invariant.1 fact (ap length c.as_slice-noted.ensures ∙ notes.noted.from.known.wide.groups))
+has_noted-requires g c = search (arith, length, groups_below, known)
 
 pub returns-then-groups-marks : goal.returns-then-groups-marks
 returns-then-groups-marks g c =
@@ -37,10 +32,6 @@ returns-then-some_has g c =
       share_one f.task c.self.inside.index.now c.args.kept.now known c.args.fact fits.1 (known_at_exist f.task fits.0 f.operator fits.2 f.effect fits.3 known within) c.requires.fact
           (c.some_has.ensures.0 c.if-some_has.true),
     )
-
-pub loop-known-init : goal.loop-known-init
-loop-known-init g c = rw (← c.self.view_is) (turns_begin _ (ap known_left c.into_iter-known-iterator.ensures.into_iter_gives ∙ (c.new-known-items.ensures
-    ∙ ap (λ (conditions : List Fact). known (operator_at c.self.inside.task.now c.self.inside.operator) conditions []) c.effect_conditions.ensures)))
 
 pub loop-known-preserved : goal.loop-known-preserved
 loop-known-preserved g c =

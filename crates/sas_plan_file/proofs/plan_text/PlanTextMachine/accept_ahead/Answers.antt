@@ -4,10 +4,10 @@ use Rattle.sas_plan_file.proofs.PlanKeeping.{keeps_step}
 use Rattle.sas_plan_file.proofs.plan_text.PlanTextMachine.accept_ahead.Goals as goal
 
 pub loop-name-init : goal.loop-name-init
-loop-name-init c = record { accepted = none_accepted KeepsLines c.args.self.now c.args.bytes.now; going_on = c.requires }
+loop-name-init g c = record { accepted = none_accepted KeepsLines c.args.self.now c.args.bytes.now; going_on = c.requires }
 
 pub loop-name-preserved : goal.loop-name-preserved
-loop-name-preserved c =
+loop-name-preserved g c =
     let l = c.loop-name in
     let stands = c.in-Some.ensures in
     let v = l.invariant in
@@ -19,4 +19,4 @@ loop-name-preserved c =
     }
 
 pub returns : goal.returns
-returns c = let l = c.loop-name in accepted KeepsLines c.args.self.now c.args.bytes.now l.self l.lines l.rest.now l.invariant.accepted
+returns g c = let l = c.loop-name in accepted KeepsLines c.args.self.now c.args.bytes.now l.self l.lines l.rest.now l.invariant.accepted

@@ -1,9 +1,13 @@
 -- One variable more is looked at.
-use Rattle.sas_plan_reasons.proofs.Imports.{ℕ}
-use Rattle.sas_plan_reasons.proofs.Looking.{noted_more}
+use Rattle.sas_plan_reasons.proofs.Imports.{ℕ, ◌≤◌, length, take_all, arith, contains_none}
+use Rattle.sas_plan_reasons.proofs.Looking.{among_more, notes_more, notes_none}
 use Rattle.sas_plan_reasons.proofs.changes.Changes.note_touched.Goals as goal
 
+pub loop-var-init : goal.loop-var-init
+loop-var-init c = notes_none _ _ _ _ c.requires.places contains_none
+
 pub loop-var-preserved : goal.loop-var-preserved
-loop-var-preserved c =
-    let made = c.note_variable.ensures in
-    noted_more (λ (v : ℕ). v) _ _ _ _ _ c.args.touched.now _ _ c.loop-var-test.true c.loop-var.invariant made.places made.noted made.others
+loop-var-preserved c = search (arith, notes_more, among_more)
+
+pub returns : goal.returns
+returns c = search (arith, length, take_all)

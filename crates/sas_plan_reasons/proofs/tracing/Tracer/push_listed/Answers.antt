@@ -1,12 +1,11 @@
 -- The variable at the next place of the list is printed.
-use Rattle.sas_plan_reasons.proofs.Imports.{◌≡◌, ℕ, ◌+◌, ◌<◌, ◌≤◌, List, length, get_or, sym, ◌∙◌, ap, subst, arith, get_or_default, Pushes, pushes_then}
+use Rattle.sas_plan_reasons.proofs.Imports.{◌≡◌, ℕ, ◌+◌, ◌<◌, ◌≤◌, List, length, get_or, sym, ◌∙◌, subst, arith, get_or_default, Pushes, pushes_then}
 use Rattle.sas_plan_reasons.proofs.Changing.{IsNext, listed_next, listed_more, listed_all, printed_next, text_next, printed_all, text_all}
 use Rattle.sas_plan_reasons.proofs.tracing.Tracer.push_listed.Goals as goal
 
 -- what stands at a place of the list that is read stands there in the list that was passed
 at_place : (now listed : List ℕ) (index var : ℕ) → now ≡ listed → index < length listed → var ≡ get_or now index var → get_or listed index 0 ≡ var
-at_place now listed index var same lt is =
-    sym (get_or_default listed index var 0 lt) ∙ (ap (λ (l : List ℕ). get_or l index var) (sym same) ∙ sym is)
+at_place now listed index var same lt is = search (arith, get_or_default, get_or)
 
 pub loop-index-preserved : goal.loop-index-preserved
 loop-index-preserved g c =

@@ -1,6 +1,6 @@
 -- The next step is made by its operator, which has a step.
-use Rattle.sas_run.proofs.Imports.{◌+◌, ◌∙◌, subst, Executed, executed_of, Advances}
-use Rattle.sas_run.proofs.Executing.{executed_fits, makes_step, step_goes, step_advances, step_along, goes_ahead}
+use Rattle.sas_run.proofs.Imports.{arith, ◌+◌, ◌∙◌, subst, Executed, executed_of, Advances}
+use Rattle.sas_run.proofs.Executing.{makes_step, step_goes, step_advances, step_along, goes_ahead}
 use Rattle.sas_run.proofs.execution.Execution.advance.Goals as goal
 
 pub go_on_from-requires-clause-operator : goal.go_on_from-requires-clause-operator
@@ -11,22 +11,13 @@ pub go_on_from-requires-clause-applicable : goal.go_on_from-requires-clause-appl
 go_on_from-requires-clause-applicable g c =
     (step_goes c.self.invariant c.task.ensures.layered (rw (← c.self.view_is) at c.requires) c.index-operator.result.now c.index-operator.ensures).chosen.applicable
 
-pub go_on_from-requires-clause-state : goal.go_on_from-requires-clause-state
-go_on_from-requires-clause-state g c =
-    let its = c.self.inside in
-    executed_fits c.self.invariant.run (executed_of its.layered.now (g.P.Stepwise.says its.plan.now) its.stepper its.progress its.made) c.self.invariant.executes
-
 pub unwrap-requires : goal.unwrap-requires
 unwrap-requires g c =
     let goes = step_goes c.self.invariant c.task.ensures.layered (rw (← c.self.view_is) at c.requires) c.index-operator.result.now c.index-operator.ensures in
     makes_step c.self.inside.layered.now c.self.inside.progress.state c.index-operator.result.now c.go_on_from.new.state c.go_on_from.result _ goes.step c.go_on_from.ensures.steps
 
 pub invariant_of-self : goal.invariant_of-self
-invariant_of-self g c =
-    let noted = c.go_on_from.ensures.noted ∙ c.self.invariant.noted in
-    goes_ahead c.self.invariant c.task.ensures.layered (rw (← c.self.view_is) at c.requires) c.index-operator.result.now c.index-operator.ensures
-    c.go_on_from.new.stepper c.go_on_from.new.state (rw c.unwrap.ensures at c.go_on_from.ensures.steps) (rw c.unwrap.ensures at c.go_on_from.ensures.lists noted)
-    c.go_on_from.ensures.prepared noted (c.go_on_from.ensures.follows noted)
+invariant_of-self g c = search (arith, goes_ahead)
 
 pub returns-clause-advances : goal.returns-clause-advances
 returns-clause-advances g c =

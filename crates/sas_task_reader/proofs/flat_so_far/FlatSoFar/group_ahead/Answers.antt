@@ -6,7 +6,7 @@ use Rattle.sas_task_reader.proofs.StoredText.{some_bytes}
 use Rattle.sas_task_reader.proofs.flat_so_far.FlatSoFar.group_ahead.Goals as goal
 
 pub returns-in_ok-close-in-Ok-Some-clause-took : goal.returns-in_ok-close-in-Ok-Some-clause-took
-returns-in_ok-close-in-Ok-Some-clause-took c = λ some.
+returns-in_ok-close-in-Ok-Some-clause-took g c = λ some.
     let (facts, is, ahead) = rw c.in-Ok-Some.field-0-is at c.in-Ok-Some.ensures.found in
     let more = c.in_ok-close-in-Ok-Some.ensures.ok ∙ one_list_more _ _ _ c.self.invariant.1 (record { more = facts; is = is }) in (
       facts,
@@ -15,10 +15,10 @@ returns-in_ok-close-in-Ok-Some-clause-took c = λ some.
     )
 
 pub returns-in_ok-missed-in_default-clause-none : goal.returns-in_ok-missed-in_default-clause-none
-returns-in_ok-missed-in_default-clause-none c = λ none.
+returns-in_ok-missed-in_default-clause-none g c = λ none.
     ap (with_groups (the_view c.self.inside)) (c.cut.ensures.is ∙ lists_opened _ _ _ c.self.invariant.1 c.read_group.ensures.kept) ∙ c.self.view_is
 
 pub returns-in_ok-close-in-Ok-Some-clause-none : goal.returns-in_ok-close-in-Ok-Some-clause-none
-returns-in_ok-close-in-Ok-Some-clause-none c = λ none.
+returns-in_ok-close-in-Ok-Some-clause-none g c = λ none.
     let (facts, is, ahead) = rw c.in-Ok-Some.field-0-is at c.in-Ok-Some.ensures.found in
     absurd (some_bytes _ _ c.args.bytes.now c.in-Ok-Some.front ahead.1 none)

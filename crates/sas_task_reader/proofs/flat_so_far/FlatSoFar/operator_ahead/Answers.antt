@@ -6,7 +6,7 @@ use Rattle.sas_task_reader.proofs.StoredText.{some_bytes}
 use Rattle.sas_task_reader.proofs.flat_so_far.FlatSoFar.operator_ahead.Goals as goal
 
 pub returns-in_default-push-clause-took : goal.returns-in_default-push-clause-took
-returns-in_default-push-clause-took c = λ some.
+returns-in_default-push-clause-took g c = λ some.
     let old = c.self.inside.operators in
     let found = c.in-Ok-Some.found in
     let (p, e, prevail, effects, ahead) = rw c.in-Ok-Some.field-0-is at c.in-Ok-Some.ensures.found in
@@ -20,13 +20,13 @@ returns-in_default-push-clause-took c = λ some.
     )
 
 pub returns-in_ok-missed-in_default-clause-none : goal.returns-in_ok-missed-in_default-clause-none
-returns-in_ok-missed-in_default-clause-none c = λ none.
+returns-in_ok-missed-in_default-clause-none g c = λ none.
     let old = c.self.inside.operators in
     let begun = operators_opened old (record old { prevail = c.read_operator.new.prevail; effects = c.read_operator.new.effects }) refl refl c.self.invariant.2
     c.read_operator.ensures.prevail c.read_operator.ensures.effects in
     ap (with_operators (the_view c.self.inside)) (c.cut-in_default.ensures.is ∙ begun.is) ∙ c.self.view_is
 
 pub returns-in_default-push-clause-none : goal.returns-in_default-push-clause-none
-returns-in_default-push-clause-none c = λ none.
+returns-in_default-push-clause-none g c = λ none.
     let (p, e, more_p, more_e, ahead) = rw c.in-Ok-Some.field-0-is at c.in-Ok-Some.ensures.found in
     absurd (some_bytes _ _ c.args.bytes.now c.in-Ok-Some.found.front ahead.1 none)

@@ -6,7 +6,7 @@ use Rattle.sas_task_reader.proofs.StoredText.{some_bytes}
 use Rattle.sas_task_reader.proofs.flat_so_far.FlatSoFar.rule_ahead.Goals as goal
 
 pub invariant_of-self-in-Some-1 : goal.invariant_of-self-in-Some-1
-invariant_of-self-in-Some-1 c =
+invariant_of-self-in-Some-1 g c =
     let head = c.in-Ok-Some.found.head in
     let i = c.self.invariant in
     let (facts, is, ahead) = rw c.in-Ok-Some.field-0-is at c.in-Ok-Some.ensures.found in
@@ -15,25 +15,25 @@ invariant_of-self-in-Some-1 c =
     (i.0, i.1, i.2, c.in_ok-close-in-Ok-Some.ensures.align, pairs_more _ _ _ _ head facts i.4 heads lists)
 
 pub invariant_of-self-in_err-close-in-Ok-Some : goal.invariant_of-self-in_err-close-in-Ok-Some
-invariant_of-self-in_err-close-in-Ok-Some c =
+invariant_of-self-in_err-close-in-Ok-Some g c =
     let i = c.self.invariant in
     let lists = c.in_err-close-in-Ok-Some.ensures.err ∙ lists_opened _ _ _ i.3 c.read_rule.ensures.kept in
     (i.0, i.1, i.2, c.in_err-close-in-Ok-Some.ensures.align, ap length lists ∙ i.4 ∙ sym (ap length c.in_ok-reserve.ensures.items))
 
 pub invariant_of-self-in_err-missed-in_default : goal.invariant_of-self-in_err-missed-in_default
-invariant_of-self-in_err-missed-in_default c =
+invariant_of-self-in_err-missed-in_default g c =
     let i = c.self.invariant in
     let lists = c.cut.ensures.is ∙ lists_opened _ _ _ i.3 c.read_rule.ensures.kept in
     (i.0, i.1, i.2, c.cut.ensures.align, ap length lists ∙ i.4 ∙ sym (ap length c.in_ok-reserve.ensures.items))
 
 pub invariant_of-self-in_default : goal.invariant_of-self-in_default
-invariant_of-self-in_default c =
+invariant_of-self-in_default g c =
     let i = c.self.invariant in
     let lists = c.cut.ensures.is ∙ lists_opened _ _ _ i.3 c.read_rule.ensures.kept in
     (i.0, i.1, i.2, c.cut.ensures.align, ap length lists ∙ i.4 ∙ sym (ap length c.in_ok-reserve.ensures.items))
 
 pub returns-in_ok-push-in-Ok-Some-clause-took : goal.returns-in_ok-push-in-Ok-Some-clause-took
-returns-in_ok-push-in-Ok-Some-clause-took c = λ some.
+returns-in_ok-push-in-Ok-Some-clause-took g c = λ some.
     let head = c.in-Ok-Some.found.head in
     let (facts, is, ahead) = rw c.in-Ok-Some.field-0-is at c.in-Ok-Some.ensures.found in
     let lists = c.in_ok-close-in-Ok-Some.ensures.ok ∙ one_list_more _ _ _ c.self.invariant.3 (record { more = facts; is = is }) in
@@ -45,11 +45,11 @@ returns-in_ok-push-in-Ok-Some-clause-took c = λ some.
     )
 
 pub returns-in_ok-missed-in_default-clause-none : goal.returns-in_ok-missed-in_default-clause-none
-returns-in_ok-missed-in_default-clause-none c = λ none.
+returns-in_ok-missed-in_default-clause-none g c = λ none.
     let lists = c.cut.ensures.is ∙ lists_opened _ _ _ c.self.invariant.3 c.read_rule.ensures.kept in
     ap (with_rules (the_view c.self.inside)) (ap (λ l. effects_of l (lists_in c.cut.new.self)) c.in_ok-reserve.ensures.items ∙ ap (effects_of c.self.inside.heads.items) lists) ∙ c.self.view_is
 
 pub returns-in_ok-push-in-Ok-Some-clause-none : goal.returns-in_ok-push-in-Ok-Some-clause-none
-returns-in_ok-push-in-Ok-Some-clause-none c = λ none.
+returns-in_ok-push-in-Ok-Some-clause-none g c = λ none.
     let (facts, is, ahead) = rw c.in-Ok-Some.field-0-is at c.in-Ok-Some.ensures.found in
     absurd (some_bytes _ _ c.args.bytes.now c.in-Ok-Some.found.front ahead.1 none)

@@ -6,7 +6,7 @@ use Rattle.sas_task_reader.proofs.StoredText.{some_bytes}
 use Rattle.sas_task_reader.proofs.flat_so_far.FlatSoFar.variable_ahead.Goals as goal
 
 pub returns-in_default-push-clause-took : goal.returns-in_default-push-clause-took
-returns-in_default-push-clause-took c = λ some.
+returns-in_default-push-clause-took g c = λ some.
     let old = c.self.inside.variables in
     let found = c.in-Ok-Some.found in
     let (values, names, many, ahead) = rw c.in-Ok-Some.field-0-is at c.in-Ok-Some.ensures.found in
@@ -19,12 +19,12 @@ returns-in_default-push-clause-took c = λ some.
     )
 
 pub returns-in_ok-missed-in_default-clause-none : goal.returns-in_ok-missed-in_default-clause-none
-returns-in_ok-missed-in_default-clause-none c = λ none.
+returns-in_ok-missed-in_default-clause-none g c = λ none.
     let old = c.self.inside.variables in
     let begun = variables_opened old (record old { values = c.read_variable.new.names }) refl refl refl c.self.invariant.0 c.read_variable.ensures.kept in
     ap (with_variables (the_view c.self.inside)) (c.cut-in_default.ensures.is ∙ begun.is) ∙ c.self.view_is
 
 pub returns-in_default-push-clause-none : goal.returns-in_default-push-clause-none
-returns-in_default-push-clause-none c = λ none.
+returns-in_default-push-clause-none g c = λ none.
     let (values, names, many, ahead) = rw c.in-Ok-Some.field-0-is at c.in-Ok-Some.ensures.found in
     absurd (some_bytes _ _ c.args.bytes.now c.in-Ok-Some.found.front ahead.1 none)

@@ -5,6 +5,6 @@ use Rattle.sas_task_reader.proofs.TaskMoves.{moves_ahead}
 use Rattle.sas_task_reader.proofs.task_judge.TaskJudge.name_ahead.Goals as goal
 
 pub returns-clause-some : goal.returns-clause-some
-returns-clause-some c =
+returns-clause-some g c =
     let found = c.in_ok-_name.ensures in
     moves_ahead c.args.self.now _ c.args.bytes.now c.in_ok-_name.rest.now due.Name adds.Value (name c.in_ok-_name._name.now) c.requires (λ e. cc) found.1 refl refl found.0 (ap (λ n. record c.args.self.now.tracker { more = n }) c.saturating_sub-self.ensures) refl

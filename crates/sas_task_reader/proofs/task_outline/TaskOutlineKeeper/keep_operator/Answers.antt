@@ -3,7 +3,7 @@ use Rattle.sas_task_reader.proofs.StoredText.{some_bytes}
 use Rattle.sas_task_reader.proofs.task_outline.TaskOutlineKeeper.keep_operator.Goals as goal
 
 pub returns : goal.returns
-returns c =
+returns g c =
     let (a, ahead) = rw c.in-Some.is at c.in_ok-front.ensures.found in
     record {
       took = λ some. (a, ahead, λ lines s kept. c.operator.ensures s a (c.self.view_is ∙ kept));

@@ -3,7 +3,7 @@ use Rattle.sas_task_reader.proofs.Outlines.{seen_variable}
 use Rattle.sas_task_reader.proofs.task_outline.TaskOutlineKeeper.keep_variable.Goals as goal
 
 pub returns : goal.returns
-returns c = record {
+returns g c = record {
   took = IfOk-weaker c.keep_variable.result _ _ (λ kept took some.
       let (v, ahead, keeps) = took some in (
         v,

@@ -7,6 +7,6 @@ use Rattle.sas_task_reader.proofs.StoredText.{keeps_text}
 use Rattle.sas_task_reader.proofs.task_text.TaskTextKeeper.keep_rule.Goals as goal
 
 pub returns : goal.returns
-returns c =
+returns g c =
     let (a, ahead) = rw c.in-Some.is at c.in_ok-front.ensures.found in
     keeps_text (λ (front : Front). front) (RuleAhead c.args.ranges.now c.args.bytes.now) rule_lines behind_rule _ _ c.args.bytes.now c.in-Some.front a ahead ahead.1 (c.in_ok-take.ensures.ok ∙ ap (λ (x : List ℕ). x ++ take c.in-Some.front.bytes c.args.bytes.now) c.self.view_is)

@@ -1,0 +1,62 @@
+-- The layers are settled one by one.
+use Rattle.sas_axioms.proofs.Imports.{arith, ◌+◌, ◌≤◌, length, get_or, sym, ap, subst, ◌∙◌, heap_items, IsOnLayer, SameOff, basic_off, entry_for, IsFalling}
+use Rattle.sas_axioms.proofs.RisingSteps.{falling_begins, between_again, followed_when_none}
+use Rattle.sas_axioms.proofs.following.settle_gone.Goals as goal
+use Rattle.sas_axioms.proofs.following.settle_gone.Given.{Over}
+use Rattle.sas_axioms.proofs.following.settle_gone.Goals.{In-Some}
+
+-- the layer at hand isn't below those that are left
+at_hand : (g : Over) (c : In-Some g) → c.loop-layer.invariant.between.1 ≤ c.in-Some.layer
+at_hand g c = search (arith, heap_items, entry_for)
+
+begins : (g : Over) (c : In-Some g) → IsFalling c.args.indexed.now c.loop-layer.invariant.between.0 c.loop-layer.state
+    (record { layer = c.in-Some.layer; counters = c.loop-layer.work.counters; stack = c.loop-layer.work.stack; sources = c.loop-layer.work.sources; agenda = c.loop-layer.work.agenda })
+begins g c =
+    let between = c.loop-layer.invariant.between in
+    falling_begins c.args.indexed.now between.0 c.loop-layer.state between.1 c.in-Some.layer c.loop-layer.work between.2 (at_hand g c) c.in-Some.ensures.some.from
+
+pub fall-requires-clause-falling : goal.fall-requires-clause-falling
+fall-requires-clause-falling g c = (c.loop-layer.invariant.between.0, begins g (goal.at.fall-requires-clause-falling g c).In-Some)
+
+pub rise-requires : goal.rise-requires
+rise-requires g c =
+    let s0 = c.loop-layer.invariant.between.0 in
+    (s0, c.in_ok-fall.ensures.rising s0 (begins g (goal.at.rise-requires g c).In-Some))
+
+pub returns-in_err-fall-clause-covered : goal.returns-in_err-fall-clause-covered
+returns-in_err-fall-clause-covered g c before covers = c.fall.ensures.covered before (c.loop-layer.invariant.covered before covers)
+
+pub returns-in_err-rise-clause-covered : goal.returns-in_err-rise-clause-covered
+returns-in_err-rise-clause-covered g c before covers = c.rise.ensures.covered before (c.fall.ensures.covered before (c.loop-layer.invariant.covered before covers))
+
+pub returns-clause-followed : goal.returns-clause-followed
+returns-clause-followed g c =
+    let b = c.loop-layer.invariant.between in
+    followed_when_none c.args.indexed.now b.0 c.loop-layer.state b.1 c.loop-layer.work b.2 c.in_default.ensures.none
+
+pub loop-layer-preserved : goal.loop-layer-preserved
+loop-layer-preserved g c =
+    let p = c.args.indexed.now in
+    let i = (goal.at.loop-layer-preserved g c).In-Some in
+    let inv = c.loop-layer.invariant in
+    let s0 = inv.between.0 in
+    let from = inv.between.1 in
+    let b = inv.between.2 in
+    let layer = c.in-Some.layer in
+    let off : SameOff p layer c.loop-layer.state c.rise.new.state = λ v not. c.fall.ensures.off v not ∙ c.rise.ensures.off v (subst (λ n. IsOnLayer p n v → ⊥) (sym c.fall.ensures.same.layer) not) in
+    record {
+      stack = c.rise.ensures.stands.stack ∙ (c.fall.ensures.same.stack ∙ inv.stack);
+      one_each = c.rise.ensures.stands.one_each ∙ (c.fall.ensures.same.one_each ∙ inv.one_each);
+      sources = c.rise.ensures.stands.sources ∙ (ap length c.fall.ensures.same.sources ∙ inv.sources);
+      state = c.rise.ensures.state;
+      basic = λ v basic. inv.basic v basic ∙ basic_off p layer c.loop-layer.state c.rise.new.state b.layered off v basic;
+      covered = λ before covers. c.rise.ensures.covered before (c.fall.ensures.covered before (inv.covered before covers));
+      between = (
+        s0,
+        layer + 1,
+        between_again p s0 c.loop-layer.state c.rise.new.state from layer c.loop-layer.work c.rise.new.work b (at_hand g i) c.in-Some.ensures.some.from
+            (c.rise.ensures.stands.layer ∙ c.fall.ensures.same.layer) off
+            (λ v not. c.in_ok-rise.ensures.sources v (subst (λ n. IsOnLayer p n v → ⊥) (sym c.fall.ensures.same.layer) not) ∙ ap (λ xs. get_or xs v 0) c.fall.ensures.same.sources)
+            (c.in_ok-rise.ensures.risen s0 (c.in_ok-fall.ensures.rising s0 (begins g i))),
+      );
+    }

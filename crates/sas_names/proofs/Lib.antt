@@ -1,0 +1,8 @@
+mod TablePuts
+mod NamesFrom
+mod NameShapes
+mod StepNumbers
+mod ChainsFrom
+mod FoundSteps
+mod LikelyOperators
+mod Imports

@@ -1,0 +1,28 @@
+-- The lines of the unknown step are all reasons.
+use Rattle.sas_plan_reasons.proofs.Imports.{refl, sym, subst, inr, arith, IsWhy, NoOperator, output_of, fault_words, invalid_line, worded}
+use Rattle.sas_plan_reasons.proofs.Behind.{unknown_why}
+use Rattle.sas_plan_reasons.proofs.writing.explain_unknown.Goals as goal
+
+pub unknown-requires-clause-step : goal.unknown-requires-clause-step
+unknown-requires-clause-step c = (let comes = c.requires.run.1.ends.0.2 in omega (arith, comes.place))
+
+pub returns : goal.returns
+returns c =
+    let p = c.args.task.now in
+    let plan = c.args.plan.now in
+    let step = c.args.step in
+    let comes = c.requires.run in
+    let verdict = output_of c.in_ok-verdict.verdict in
+    let reported = c.in_ok-verdict.ensures in
+    inr (
+      NoOperator step,
+      comes.1.ends.0,
+      record {
+        verdict = verdict;
+        reported = reported;
+        reasons = c.into_vec.result.items;
+        why = subst (IsWhy p plan (NoOperator step)) (sym c.into_vec.ensures) (unknown_why p plan step comes.0 c.in_ok-lines.lines comes.1 c.in_ok-lines.ensures);
+        whole = refl;
+      },
+      (worded (fault_words plan.cost (NoOperator step)) invalid_line verdict reported).status,
+    )
