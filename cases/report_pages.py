@@ -171,6 +171,14 @@ def differs(what, found, expected):
     return [] if found == expected else [f"{what}: {found!r}, not {expected!r}"]
 
 
+def comes(what, find, expected):
+    """Waits until a page shows this, since a browser follows an address or a wheel when it likes. Returns what is wrong where it never does."""
+    end = time.monotonic() + LARGE["picture"]
+    while (found := find()) != expected and time.monotonic() < end:
+        time.sleep(0.02)
+    return differs(what, found, expected)
+
+
 # Without a browser
 
 
@@ -496,8 +504,7 @@ def fields(browser, reports):
         wrong += differs(f"filter {words}", text(browser, "#matched"), expected)
     wrong += differs("what is required", "requires true" in text(browser, "#state"), True)
     browser.run("document.querySelector('.reasons a[href=\"#step-1\"]').click()")
-    time.sleep(0.2)
-    wrong += differs("a link", heading(browser), "Step 1 take f1")
+    wrong += comes("a link", lambda: heading(browser), "Step 1 take f1")
     choose(browser, "only", True)
     wrong += differs("changed only", text(browser, "#matched"), "2 of 8")
     browser.press("End")
@@ -522,8 +529,7 @@ def pointer(browser, reports):
     wide = "return parseFloat(document.querySelector('#grid > div').style.width)"
     before = browser.run(wide)
     browser.wheel(places["grid"][0] + 600, places["grid"][1] + 60, -400)
-    time.sleep(0.2)
-    wrong += [] if browser.run(wide) > before else ["the wheel changes nothing"]
+    wrong += comes("the wheel makes it wider", lambda: browser.run(wide) > before, True)
     browser.point(places["grid"][0] + 300, places["grid"][1] + 60)
     said = browser.run("return document.getElementById('grid').title")
     return wrong + ([] if "var" in said else [f"below the pointer: {said}"])
@@ -547,14 +553,14 @@ def several(browser, reports):
     wrong += differs("side by side", browser.run(pairs), steps)
     browser.run("const it = document.getElementById('other'); it.value = 2; it.dispatchEvent(new Event('change'))")
     wrong += differs("another pair", text(browser, "#parts"), "They part at step 4.")
+    shown = "return document.querySelector('article:not([hidden]) h1')?.textContent"
     for address, verdict in (("#plan-2", rows[1][1][2:]), ("#plan-4", rows[3][1][2:]), ("#plan-1-step-3", rows[0][1][2:])):
-        browser.run("location.hash = arguments[0]", address)
-        time.sleep(0.2)
-        wrong += differs(address, browser.run("return document.querySelector('article:not([hidden]) h1').textContent"), verdict)
-    wrong += differs("its step", heading(browser), "Step 3 take f2")
+        # the page is late, so that the note of the last selection is due before it follows
+        browser.run("const end = performance.now() + 400; while (performance.now() < end); location.hash = arguments[0]", address)
+        wrong += comes(address, lambda: browser.run(shown), verdict)
+    wrong += comes("its step", lambda: heading(browser), "Step 3 take f2")
     browser.run("document.querySelector('#back a').click()")
-    time.sleep(0.2)
-    return wrong + differs("back", browser.run("return document.querySelector('main').hidden"), True)
+    return wrong + comes("back", lambda: browser.run("return document.querySelector('main').hidden"), True)
 
 
 def edges(browser, reports):
@@ -656,7 +662,7 @@ def large_page(browser, reports):
     browser.click(box[0] + box[2] - 160, box[1] + 60)
     wrong += differs("the column at the right end", heading(browser).split(" ")[1], "100,000")
     browser.run("document.getElementById('grid').scrollLeft = arguments[0]", box[3] // 2)
-    time.sleep(0.3)
+    browser.run(FRAMES + "return frame().then(frame).then(() => 1)")
     browser.click(box[0] + box[2] // 2, box[1] + 60)
     middle = int(heading(browser).split(" ")[1].replace(",", ""))
     return wrong + ([] if 49900 < middle < 50100 else [f"the middle is step {middle}"])

@@ -56,8 +56,10 @@ class Page {
 
   select(t) {
     const { run, picture } = this, selected = picture.selected = clamp(t, 0, run.total);
-    clearTimeout(this.noting);  // browsers allow some 200 addresses in ten seconds
-    this.noting = setTimeout(() => history.replaceState(null, "", `#${this.prefix}step-${selected}`), 300);
+    // Browsers allow some 200 addresses in ten seconds, so it is noted later. An address that came in the meantime is still to be followed.
+    const { hash } = location, address = `#${this.prefix}step-${selected}`;
+    clearTimeout(this.noting);
+    this.noting = setTimeout(() => { if (location.hash === hash) history.replaceState(null, "", address); }, 300);
     get("spent").replaceChildren(make("b", "", group(run.cost[Math.min(selected, run.judged)])), " of " + group(run.cost[run.judged]));
     picture.grid.across.reveal(selected);
     this.panels.choose(selected);
