@@ -20,9 +20,8 @@ module _ (o : Operator) where
   of_one P e each (k, lt, is) = subst P (get_or_default o.effects k no_effect e lt ∙ is) (each k lt)
 
   -- an effect that removes the fact is one that the loop came by
-  pub never_removed : (facts : List Fact) (fact : Fact) → ((effect : ℕ) → effect < length o.effects → Removes facts (effect_at o effect) fact → ⊥) → IsRemoved o facts fact → ⊥
-  never_removed facts fact none w = of_one (λ (e : Effect). Removes facts e fact → ⊥) w.effect none w.among
-      (record { fires = w.fires; var = w.var; other = w.other })
+  pub never_removed : (facts : List Fact) (fact : Fact) → ((effect : ℕ) → effect < length o.effects → Removes (Contains facts) (effect_at o effect) fact → ⊥) → IsRemoved o facts fact → ⊥
+  never_removed facts fact none w = of_one (λ (e : Effect). Removes (Contains facts) e fact → ⊥) w.effect none w.among w.removes
 
 -- an operator keeps a group if each effect that sets a fact of it does
 module _ (Counts : List Fact → Type 0) (o : Operator) (group : List Fact) where

@@ -45,8 +45,8 @@ pub use Rattle.sas_meaning.specs.InitialStates.{IsInitial}
 pub use Rattle.sas_meaning.specs.States.{Holds, AllHold}
 pub use Rattle.sas_meaning.specs.Steps.{preconditions, Fires, Step}
 pub use Rattle.sas_groups.specs.ByVariable.{IsLarge, effect_entry, AreEntered, AreByVariable, place_of}
-pub use Rattle.sas_groups.specs.Checks.{Removes, NotBoth, KeepsIfSets, Alone, IsFirstVerdict, IsGone}
-pub use Rattle.sas_groups.specs.Clashes.{Keeps, IsRemoved, sets, Clash, Contradict}
+pub use Rattle.sas_groups.specs.Checks.{NotBoth, KeepsIfSets, Alone, IsFirstVerdict, IsGone}
+pub use Rattle.sas_groups.specs.Clashes.{Keeps, Removes, IsRemoved, sets, Clash, Contradict}
 pub use Rattle.sas_groups.specs.Distinct.{facts_at, AreOwnLists, AreDistinct, IsBelow}
 pub use Rattle.sas_groups.specs.Families.{MayBeExclusive, IsIn, IsGroupOf, IsGroupOfOr, AllKeep, IsKeptJointly, IsGreatest, IsOnBasic}
 pub use Rattle.sas_groups.specs.Groups.{IsExclusiveIn}

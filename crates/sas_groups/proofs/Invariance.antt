@@ -33,7 +33,7 @@ module _ (p : Parts) (Counts : List Fact → Type 0) (are_kept : AreKept p Count
     no_mix : (f g : Fact) → Contains group f → Contains group g → f.var ≢ g.var → get_or s f.var 0 ≡ f.value → get_or s' f.var 0 ≡ f.value → get_or s' g.var 0 ≡ g.value → SetBy s o.effects g.var → ⊥
     no_mix f g in_f in_g ne was hf hg w = elim (keeps.others w.effect f w.among (subst (λ x. Contains group x) (sym (sets_it g w.effect w.among w.fires w.on hg)) in_g) in_f (λ e. ne (sym e ∙ w.on))) [
       | inl clash ↦ no_clash s (preconditions o ++ w.effect.conditions ++ f ∷ []) before all clash
-      | inr d ↦ d.other (sym (All-contains (λ (x : Effect). Fires s x → get_or s' x.var 0 ≡ x.new) o.effects d.effect step.set d.among (fires d.effect d.fires)) ∙ (ap (λ v. get_or s' v 0) d.var ∙ hf))
+      | inr d ↦ d.removes.other (sym (All-contains (λ (x : Effect). Fires s x → get_or s' x.var 0 ≡ x.new) o.effects d.effect step.set d.among (fires d.effect d.removes.fires)) ∙ (ap (λ v. get_or s' v 0) d.removes.var ∙ hf))
     ]
       where
         all : AllHold (λ v. get_or s v 0) (preconditions o ++ w.effect.conditions ++ f ∷ [])

@@ -1,6 +1,6 @@
 -- What the parts of the check of a group decide. The predicate `Counts` selects the groups that are
 -- assumed to be exclusive before a step.
-use Rattle.std.specs.Prelude.{◌≡◌, ◌≢◌, ◌⊎◌, ℕ, ◌<◌, length, List, [], ◌∷◌, All, Contains}
+use Rattle.std.specs.Prelude.{◌≡◌, ◌≢◌, ◌⊎◌, ℕ, ◌<◌, length, List, [], ◌∷◌, Contains}
 use Rattle.sas_core.specs.declared.parts.Fact.{Fact}
 use Rattle.sas_core.specs.declared.parts.Effect.{Effect}
 use Rattle.sas_core.specs.declared.parts.Operator.{Operator}
@@ -16,12 +16,6 @@ use Rattle.sas_groups.specs.Lists.{known}
 -- only this group is assumed
 abbrev pub Alone : List Fact → List Fact → Type 0
 Alone group = λ (g : List Fact). g ≡ group
-
--- the effect, all of whose conditions are in `facts`, sets the variable of `fact` to another value
-pub record Removes (facts : List Fact) (effect : Effect) (fact : Fact) : Type 0 where
-  pub fires : All (Contains facts) effect.conditions
-  pub var : effect.var ≡ fact.var
-  pub other : effect.new ≢ fact.value
 
 -- if the second effect sets a fact of the group on another variable than the first, the two effects
 -- can't fire together: their conditions and the preconditions clash

@@ -35,14 +35,17 @@ NeverSetsTwo Counts o group = (e f : Effect) → Contains o.effects e → Contai
     → Contains group (sets e) → Contains group (sets f) → e.var ≢ f.var
     → Clash Counts (preconditions o ++ e.conditions ++ f.conditions)
 
--- an effect of the operator, all of whose conditions are in `facts`, sets the variable of `fact` to
--- another value
+-- the effect removes the fact: its conditions hold, and it sets the variable to another value
+pub record Removes (Holds : Fact → Type 0) (effect : Effect) (fact : Fact) : Type 0 where
+  pub fires : All Holds effect.conditions
+  pub var : effect.var ≡ fact.var
+  pub other : effect.new ≢ fact.value
+
+-- an effect of the operator removes the fact where all of `facts` hold
 pub record IsRemoved (o : Operator) (facts : List Fact) (fact : Fact) : Type 0 where
   pub effect : Effect
   pub among : Contains o.effects effect
-  pub fires : All (Contains facts) effect.conditions
-  pub var : effect.var ≡ fact.var
-  pub other : effect.new ≢ fact.value
+  pub removes : Removes (Contains facts) effect fact
 
 -- (ii) if an effect sets a fact of the group, then each fact of the group on another variable can't
 -- have held before (the preconditions, the conditions and this fact clash), or it is removed

@@ -1,8 +1,7 @@
 // Whether an operator removes a fact.
 ghost use Rattle.std.specs.Prelude.{◌<◌, ◌↔◌, length, All, Contains, IsTrue};
 ghost use Rattle.sas_core.specs.Grounded.{operator_at, effect_at};
-ghost use Rattle.sas_groups.specs.Clashes.{IsRemoved};
-ghost use Rattle.sas_groups.specs.Checks.{Removes};
+ghost use Rattle.sas_groups.specs.Clashes.{IsRemoved, Removes};
 ghost use Rattle.sas_groups.specs.Lists.{known_on};
 
 use crate::known::{Known, Premises};
@@ -53,7 +52,7 @@ pub fn is_removed<T: Grounded>(task: &Layered<T>, premises: &Premises<'_>, fact:
 fn removes<T: Grounded>(task: &Layered<T>, premises: &Premises<'_>, effect: u32, fact: Fact) -> bool
     requires operator { premises.now.operator < length task.now.operators }
     requires effect { effect < length (operator_at task.now premises.now.operator).effects }
-    ensures { IsTrue result ↔ Removes (known_on task.now premises.now)
+    ensures { IsTrue result ↔ Removes (Contains (known_on task.now premises.now))
         (effect_at (operator_at task.now premises.now.operator) effect) fact }
 {
     let change = task.effect_change(premises.operator, effect);

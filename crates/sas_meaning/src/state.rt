@@ -1,5 +1,5 @@
 // States of a task.
-ghost use Rattle.std.specs.Prelude.{◌≡◌, ◌<◌, ◌↔◌, List, ℕ, length, All, slice_index, slice_set, IfOk, IsErrOf, IsTrue, IsFalse};
+ghost use Rattle.std.specs.Prelude.{◌≡◌, ◌-◌, ◌<◌, ◌↔◌, List, ℕ, length, All, slice_index, slice_set, IfOk, IsErrOf, IsTrue, IsFalse};
 ghost use Rattle.sas_core.specs.declared.parts.Fact.{Fact};
 ghost use Rattle.sas_core.specs.Variables.{IsState};
 ghost use Rattle.sas_meaning.specs.States.{Holds, AllHold};
@@ -33,7 +33,9 @@ pub struct VariableSpan {
 
 impl VariableSpan {
     /// Returns the number of variables.
-    pub fn size(&self) -> usize {
+    pub fn size(&self) -> usize
+        ensures { result ≡ self.now.end - self.now.start }
+    {
         self.end.saturating_sub(self.start) as usize
     }
 }

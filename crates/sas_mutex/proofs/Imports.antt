@@ -34,7 +34,7 @@ pub use Rattle.sas_groups.proofs.NotesOfFacts.{IsForgotten, a_note, apart_or_not
 pub use Rattle.sas_groups.proofs.Larger.{larger_groups_have}
 pub use Rattle.sas_groups.proofs.Turns.{Turns, turns_begin, turn_has, turn_more, turns_end}
 pub use Rattle.sas_groups.specs.Checks.{IsGone, IsFirstVerdict, AreGone, EffectKeeps}
-pub use Rattle.sas_groups.specs.Clashes.{Keeps, Clash, sets, Contradict, IsRemoved}
+pub use Rattle.sas_groups.specs.Clashes.{Keeps, Clash, sets, Contradict, Removes, IsRemoved}
 pub use Rattle.sas_groups.specs.Distinct.{AreDistinct}
 pub use Rattle.sas_groups.specs.Families.{IsIn, IsGroupOf, IsGroupOfOr, IsKeptJointly, IsGreatest, MayBeExclusive}
 pub use Rattle.sas_groups.specs.ByFact.{HasFact, HasFactBeside}
@@ -52,7 +52,7 @@ pub use Rattle.sas_groups.specs.declared.verdict.Verdict.{Verdict}
 pub use Rattle.sas_groups.specs.declared.verdict.Verdict.TheVariants.{Derived, Initial, Broken, Exclusive}
 pub use Rattle.sas_meaning.specs.Steps.{preconditions, old_fact}
 pub use Rattle.sas_mutex.specs.Basis.{AreNotedWith, IsPartOf, Excludes, HasGrown, IsBasis, IsOfNone, SetsNone}
-pub use Rattle.sas_mutex.specs.ByNotes.{IsNotedAt, ShareOne, AreKnown, IsMet, RemovesByNotes, SomeRemoves, IsNotedFor, known_at, IsUnknownAt, IsGoneAt, IsDecidedByFirst, NeverFires, NotBothAt, BothClashAt, SetsBeside, IsApartAt, IsSingleOn, ClashesAt, SetsOtherValue, EffectKeepsGroupWithItself, EffectKeepsGroup, AreGoneAt}
+pub use Rattle.sas_mutex.specs.ByNotes.{IsNotedAt, ShareOne, AreKnown, IsMet, SomeRemoves, IsNotedFor, known_at, IsUnknownAt, IsGoneAt, IsDecidedByFirst, NeverFires, NotBothAt, BothClashAt, SetsBeside, IsApartAt, IsSingleOn, ClashesAt, SetsOtherValue, EffectKeepsGroupWithItself, EffectKeepsGroup, AreGoneAt}
 pub use Rattle.sas_mutex.specs.Effects.{IsKept, KeepsAt, KeepsWithItself, IsUnconditional, EffectPlace, operator_of, effect_of}
 pub use Rattle.sas_mutex.specs.Falling.{count, IsAtRest, AreCandidates, newly, Falls, FamilyHasRoom, RestsOn, IsWithin}
 pub use Rattle.sas_mutex.specs.Judging.{AreFirstVerdicts, IsUndecided, KeptSoFar, IsVerdictSoFar, AreVerdictsSoFar, AreJudged, IsJudgedAt}

@@ -1,5 +1,5 @@
 -- What the recorded facts imply for one effect.
-use Rattle.std.specs.Prelude.{◌≡◌, ◌≢◌, ◌⊎◌, ℕ, ◌+◌, ◌<◌, Bool, Option, None, Some, List, [], ◌∷◌, length, slice_index_or, All, Contains}
+use Rattle.std.specs.Prelude.{◌≡◌, ◌≢◌, ◌⊎◌, ℕ, ◌+◌, ◌<◌, Bool, Option, None, Some, List, [], ◌∷◌, length, slice_index_or, Contains}
 use Rattle.sas_core.specs.declared.parts.Fact.{Fact}
 use Rattle.sas_core.specs.declared.grounded.Change.{Change}
 use Rattle.sas_core.specs.declared.parts.Effect.{Effect}
@@ -7,7 +7,7 @@ use Rattle.sas_core.specs.declared.parts.Operator.{Operator}
 use Rattle.sas_core.specs.declared.parts.Parts.{Parts}
 use Rattle.sas_core.specs.Changes.{fact_of}
 use Rattle.sas_core.specs.Grounded.{operator_at, effect_at, group_at}
-use Rattle.sas_groups.specs.Clashes.{Clash}
+use Rattle.sas_groups.specs.Clashes.{Clash, Removes}
 use Rattle.sas_groups.specs.Lists.{known}
 use Rattle.sas_mutex.specs.declared.marks.Marks.{Marks}
 use Rattle.sas_groups.specs.declared.notes.Notes.{Notes}
@@ -37,13 +37,6 @@ abbrev pub IsMet : Notes → Fact → Fact → Type 0
 IsMet notes fact condition =
     (condition ≡ fact) ⊎ (value_note notes.values condition.var ≡ Some condition.value)
 
--- the effect removes the fact: all its conditions are met, and it sets the variable of the fact to
--- another value
-pub record RemovesByNotes (notes : Notes) (fact : Fact) (e : Effect) : Type 0 where
-  pub fires : All (IsMet notes fact) e.conditions
-  pub var : e.var ≡ fact.var
-  pub other : e.new ≢ fact.value
-
 -- the change sets the variable of the fact to another value
 abbrev pub SetsOtherValue : Fact → Change → Type 0
 SetsOtherValue fact change = (change.var ≡ fact.var) × (change.new ≢ fact.value)
@@ -52,7 +45,7 @@ SetsOtherValue fact change = (change.var ≡ fact.var) × (change.new ≢ fact.v
 abbrev pub SomeRemoves : Operator → Notes → Fact → Type 0
 SomeRemoves o notes fact = (effect : ℕ)
     × (effect < length o.effects)
-    × RemovesByNotes notes fact (effect_at o effect)
+    × Removes (IsMet notes fact) (effect_at o effect) fact
 
 -- the known facts of the effect: the preconditions of its operator and its own conditions
 abbrev pub known_at : Parts → ℕ → ℕ → List Fact

@@ -4,7 +4,7 @@ ghost use Rattle.std.specs.List.{Any};
 ghost use Rattle.sas_core.specs.Grounded.{operator_at, effect_at};
 ghost use Rattle.sas_core.specs.Changes.{fact_of, plain_effects};
 ghost use Rattle.sas_core.specs.Variables.{FactExists};
-ghost use Rattle.sas_groups.specs.Clashes.{Contradict, sets};
+ghost use Rattle.sas_groups.specs.Clashes.{Contradict, Removes, sets};
 ghost use Rattle.sas_groups.specs.Families.{IsIn};
 ghost use Rattle.sas_groups.specs.ByFact.{HasFactBeside};
 ghost use Rattle.sas_groups.specs.ByVariable.{AreOn};
@@ -13,7 +13,7 @@ ghost use Rattle.sas_groups.specs.Lists.{known_left};
 ghost use Rattle.sas_groups.specs.Runs.{AreOnOne, family_of};
 ghost use Rattle.sas_mutex.specs.Effects.{operator_of, effect_of, IsKept};
 ghost use Rattle.sas_groups.specs.Notes.{IsWide, IsGroupNote};
-ghost use Rattle.sas_mutex.specs.ByNotes.{IsMet, SomeRemoves, RemovesByNotes, known_at};
+ghost use Rattle.sas_mutex.specs.ByNotes.{IsMet, SomeRemoves, known_at};
 ghost use Rattle.sas_mutex.specs.ByNotes.{IsNotedAt, EffectKeepsGroup, EffectKeepsGroupWithItself, BothClashAt, NotBothAt};
 ghost use Rattle.sas_mutex.specs.ByNotes.{ClashesAt, SharesBesideAt};
 ghost use Rattle.sas_mutex.specs.ByNotes.{HasNoPartnerAt, IsSingleOn, BeginsRun, IsOnVariableBefore, SetsBeside, SetsOtherValue};
@@ -640,7 +640,7 @@ impl<'a, 'b, T: Grounded> FiringEffect<'a, 'b, T> {
         requires wide { IsWide self.now.task notes.now }
         requires effect { effect < length (operator_of self.now).effects }
         ensures { IsTrue result
-            ↔ RemovesByNotes notes.now fact (effect_at (operator_of self.now) effect) }
+            ↔ Removes (IsMet notes.now fact) (effect_at (operator_of self.now) effect) fact }
     {
         let change = self.task.effect_change(self.operator, effect);
         if change.var != fact.var || change.new == fact.value {

@@ -1,5 +1,5 @@
 -- Bytes that lack only a line end, by their lines.
-use Rattle.sas_reader.proofs.Imports.{◌≡◌, ◌≢◌, ◌↔◌, ℕ, List, [], ◌∷◌, ◌++◌, refl, sym, ap, ◌∙◌, lines, unfinished, without_return, lines-end, unfinished-end, Fault, Kind, Format, AreAllLines, LacksLineEnd, EndsUnended, IsAbout, of_line, of_byte, of_end, FaultIsNoText}
+use Rattle.sas_reader.proofs.Imports.{◌≡◌, ◌≢◌, ◌↔◌, ℕ, List, [], ◌∷◌, ◌++◌, sym, ◌∙◌, lines, unfinished, without_return, lines-end, unfinished-end, Fault, Kind, Format, AreAllLines, LacksLineEnd, EndsUnended, IsAbout, of_line, of_byte, of_end, FaultIsNoText}
 use Rattle.sas_reader.specs.declared.fault.Kind.TheVariants as kinds
 
 module _ {V I S : Type 0} (F : Format V I S) where

@@ -1,11 +1,14 @@
 // Finds the end of a line of plain bytes, many bytes at a time, and what follows an end.
-ghost use Rattle.std.specs.Prelude.{◌≡◌, ◌+◌, ◌<◌, ◌≤◌, ℕ, ◌∷◌, ◌++◌, length, take, drop, slice_index, IfSome};
+ghost use Rattle.std.specs.Prelude.{◌≡◌, ◌+◌, ◌*◌, ◌<◌, ◌≤◌, ℕ, ◌∷◌, ◌++◌, length, take, drop, slice_index, IfSome};
 ghost use Rattle.sas_reader.specs.Ends.{StandsBefore};
 
 use std::simd::prelude::*;
 
 /// How many bytes are compared at once.
 const LANES: usize = 32;
+
+/// CR LF as one number, CR being the low byte.
+const CR_LF: u16 = 0x0a0d;
 
 /// Returns how many of the thirty-two bytes from `at` on come before the first byte that is at most CR.
 #[inline(always)]
@@ -41,6 +44,18 @@ pub fn plain_end(bytes: &[u8]) -> Option<usize>
     None
 }
 
+/// Returns the bytes at `at` and behind it as one number. They are read at once, so that a test of CR LF is one comparison.
+#[inline(always)]
+fn two_bytes(bytes: &[u8], at: usize) -> u16
+    requires { at + 1 < length bytes.now }
+    ensures { result ≡ slice_index bytes.now at + slice_index bytes.now (at + 1) * 256 }
+{
+    match bytes[at..at + 2].first_chunk::<2>() {
+        Some(two) => u16::from_le_bytes(*two),
+        None => 0,
+    }
+}
+
 /// How lines end. What reads many lines at once is compiled for each way, so that a line costs one test of its end.
 pub trait LineEnd {
     /// Returns the bytes after the line end at `at`, or `None` if there is none.
@@ -69,7 +84,7 @@ impl LineEnd for Lf {
 impl LineEnd for AnyEnd {
     #[inline(always)]
     fn behind(bytes: &[u8], at: usize) -> Option<&[u8]> {
-        if bytes[at] == b'\r' && bytes[at + 1] == b'\n' {
+        if two_bytes(bytes, at) == CR_LF {
             Some(&bytes[at + 2..])
         } else {
             Lf::behind(bytes, at)

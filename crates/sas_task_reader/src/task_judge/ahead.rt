@@ -88,15 +88,14 @@ impl TaskJudge {
         if self.tracker.more == 0 {
             return None;
         }
-        match self.tracker.place {
-            Place::VariableValues => self.name_ahead::<E>(bytes),
-            Place::GroupFacts => self.fact_ahead::<E>(bytes, Event::Fact),
-            Place::StateValues => self.state_value_ahead::<E>(bytes),
-            Place::GoalFacts => self.fact_ahead::<E>(bytes, Event::Goal),
-            Place::Prevail => self.fact_ahead::<E>(bytes, Event::Fact),
-            Place::Effects => self.effect_ahead::<E>(bytes),
-            Place::RuleConditions => self.fact_ahead::<E>(bytes, Event::Fact),
-            _ => None,
-        }
+        let event = match self.tracker.place {
+            Place::VariableValues => return self.name_ahead::<E>(bytes),
+            Place::StateValues => return self.state_value_ahead::<E>(bytes),
+            Place::Effects => return self.effect_ahead::<E>(bytes),
+            Place::GroupFacts | Place::Prevail | Place::RuleConditions => Event::Fact,
+            Place::GoalFacts => Event::Goal,
+            _ => return None,
+        };
+        self.fact_ahead::<E>(bytes, event)
     }
 }

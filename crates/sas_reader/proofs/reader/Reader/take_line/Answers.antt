@@ -1,5 +1,5 @@
 use Rattle.std.proofs.lemmas.Grind.{common_steps}
-use Rattle.sas_reader.proofs.Imports.{◌≤◌, ◌+◌, ◌∙◌, true, length, refl, ap, sym, arith, false≢true}
+use Rattle.sas_reader.proofs.Imports.{◌≤◌, ◌+◌, ◌∙◌, length, refl, ap, sym, arith, false≢true}
 use Rattle.sas_reader.proofs.Advancing.{takes, stops, takes_some, took_whole, stopped_whole, stopped_full, stopped_over, advances_wider, within_fits, within_none}
 use Rattle.sas_reader.proofs.Pieces.{takes_bound}
 use Rattle.sas_reader.proofs.Tested.{nil_when, some_when}
