@@ -94,6 +94,8 @@ impl<T: Copy> ListColumns<T> {
     }
 
     /// Removes the items after those of the last list.
+    #[cold]
+    #[inline(never)]
     pub fn cut(&mut self)
         requires { ListColumnsAlign AreOpen self.old }
         ensures { Hold (ListColumnsAlign AreEnds) lists_in self.new (lists_in self.old) }

@@ -152,6 +152,8 @@ impl OperatorColumns {
     }
 
     /// Removes the prevail conditions and effects after those of the last operator.
+    #[cold]
+    #[inline(never)]
     pub fn cut(&mut self)
         requires { OperatorColumnsAlign AreOpen self.old }
         ensures { Hold (OperatorColumnsAlign AreEnds) operators_in self.new

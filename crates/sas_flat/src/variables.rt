@@ -109,6 +109,8 @@ impl VariableColumns {
     }
 
     /// Removes the value names after those of the last variable.
+    #[cold]
+    #[inline(never)]
     pub fn cut(&mut self)
         requires { VariableColumnsAlign AreOpen self.old }
         ensures { Hold (VariableColumnsAlign AreEnds) variables_in self.new

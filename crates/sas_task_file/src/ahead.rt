@@ -209,11 +209,16 @@ pub(crate) fn read_word<'a, E: LineEnd, const N: usize>(
     requires { IsName word.now }
     ensures { IfSome result (λ rest. LineAhead (format.word word.now) bytes.now rest.now) }
 {
-    let (first, rest) = bytes.split_first_chunk::<N>()?;
-    if rest.len() < 2 || !are_equal(first, word) {
+    let (first, more) = bytes.split_first_chunk::<N>()?;
+    if more.len() < 2 {
         return None;
     }
-    E::behind(bytes, N)
+    let rest = E::behind(bytes, N)?;
+    if are_equal(first, word) {
+        Some(rest)
+    } else {
+        None
+    }
 }
 
 /// Returns the name before the line end, and the bytes after it. A name may have a byte up to CR, such as a tab; then its section is read

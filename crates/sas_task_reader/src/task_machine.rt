@@ -93,7 +93,9 @@ impl<K: Keeper> TaskMachine<K> {
         Ok(front)
     }
 
-    /// Accepts the first lines of the bytes that the judge accepts ahead, one after another.
+    /// Accepts the first lines of the bytes that the judge accepts ahead, one after another. It is cold, since most lines are those of whole
+    /// sections. What reads these then has all registers.
+    #[cold]
     fn lines_ahead<E: LineEnd>(&mut self, bytes: &[u8]) -> Result<Front, Kind>
         ensures { AcceptsAhead (LedBy K.keeps) self.old bytes.now self.new result }
     {
