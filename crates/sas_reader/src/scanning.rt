@@ -44,7 +44,8 @@ pub fn plain_end(bytes: &[u8]) -> Option<usize>
     None
 }
 
-/// Returns the bytes at `at` and behind it as one number. They are read at once, so that a test of CR LF is one comparison.
+/// Returns the bytes at `at` and behind it as one number. They are read at once, so that a test of CR LF is one comparison. It isn't marked
+/// inline, though it is inlined: its callers would be too large to keep their own marks.
 fn two_bytes(bytes: &[u8], at: usize) -> u16
     requires { at + 1 < length bytes.now }
     ensures { result ≡ slice_index bytes.now at + slice_index bytes.now (at + 1) * 256 }
