@@ -25,7 +25,7 @@ unfoldable pub use Rattle.sas_names.specs.NameTable.{digest_of}
 pub use Rattle.sas_names.specs.NameTable.{value_of, AreNames, other_of, own_else, first_else, likely_of, operator_names, AreNamesFrom, Exist, IsEmptyTable, PutsName, PutsDigest, PutsOther}
 pub use Rattle.sas_names.specs.Named.{IsNamed}
 pub use Rattle.sas_names.specs.Nameless.{is_nameless, nameless_steps}
-pub use Rattle.sas_names.specs.Names.{IsNextNamed, IsLowestNamed, AreFirsts}
+pub use Rattle.sas_names.specs.Names.{IsNextNamed, IsLowestNamed, AreFirsts, existing}
 unfoldable pub use Rattle.sas_names.specs.Shapes.{shape_of}
 pub use Rattle.sas_names.specs.Shapes.{HaveShapes}
 pub use Rattle.sas_names.specs.StepNames.{AreStepNames, step_names, AreStepsOf, Numbers, HaveNumbers}

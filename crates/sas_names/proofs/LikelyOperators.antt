@@ -1,5 +1,5 @@
 -- The likely operators of names: those that are found by their digests.
-use Rattle.sas_names.proofs.Imports.{arith, ◌≡◌, ℕ, ◌<◌, List, length, nat_eq, Option, None, Some, ◌∙◌, if◌then◌else◌, bytes_decides, none-some, get, Parts, operator_at, IsNextNamed, IsLowestNamed, digest_of, AreNames, other_of, own_else, first_else, likely_of, operator_names, Names}
+use Rattle.sas_names.proofs.Imports.{arith, ◌≡◌, ℕ, ◌<◌, List, length, nat_eq, Option, None, Some, bytes_decides, none-some, get, Parts, operator_at, IsNextNamed, IsLowestNamed, digest_of, AreNames, other_of, own_else, first_else, likely_of, operator_names, Names}
 
 -- if the operator has the name, it is the lowest operator of this name
 pub record IsLikely (p : Parts) (name : List ℕ) (operator : ℕ) : Type 0 where

@@ -1,5 +1,5 @@
 -- A table of names that is built from the last operator to the first.
-use Rattle.sas_names.proofs.Imports.{◌≡◌, ℕ, ◌+◌, ◌<◌, ◌≤◌, ◌≢◌, true, false, List, length, nat_eq, get_or, slice_set, Option, None, ◌∙◌, if◌then◌else◌, true≢false, arith, pointwise, bytes_decides, eq-or-lt_of_le, get_or-set_same, get_or-set_other, length-set, Parts, operator_at, IsNamed, IsNextNamed, Names, AreNamesFrom, Exist, IsEmptyTable, PutsName, value_of, operator_names}
+use Rattle.sas_names.proofs.Imports.{◌≡◌, ℕ, ◌+◌, ◌<◌, ◌≤◌, true, false, List, length, nat_eq, get_or, slice_set, Option, None, true≢false, arith, pointwise, bytes_decides, eq-or-lt_of_le, get_or-set_same, get_or-set_other, length-set, Parts, operator_at, IsNamed, IsNextNamed, Names, AreNamesFrom, Exist, IsEmptyTable, PutsName, value_of, operator_names}
 use Rattle.sas_names.proofs.TablePuts.{value_of-empty}
 
 -- after the last operator the table is empty

@@ -1,5 +1,5 @@
 -- The numbers of steps' names, after one more name is numbered.
-use Rattle.sas_names.proofs.Imports.{◌≡◌, ℕ, ◌<◌, ◌⊎◌, true, false, List, length, nat_eq, Option, None, Some, ◌∙◌, if◌then◌else◌, arith, pointwise, bytes_decides, none-some, same_Some, NameTable, IsEmptyTable, Exist, PutsName, value_of, AreStepsOf, Numbers, step_names}
+use Rattle.sas_names.proofs.Imports.{◌≡◌, ℕ, ◌<◌, ◌⊎◌, true, false, List, length, nat_eq, Option, None, Some, arith, pointwise, bytes_decides, none-some, same_Some, NameTable, IsEmptyTable, Exist, PutsName, value_of, AreStepsOf, Numbers, step_names}
 use Rattle.sas_names.proofs.TablePuts.{value_of-empty}
 
 -- no step has a number yet

@@ -9,5 +9,5 @@ mod shapes;
 mod step_names;
 mod step_operators;
 
-pub use names::Names;
+pub use names::{Names, existing};
 pub use step_operators::{StepOperators, next_in};

@@ -1,8 +1,8 @@
 // The operators of a task by their names.
-ghost use Rattle.std.specs.Prelude.{◌≡◌, ◌+◌, ◌<◌, ℕ, [], length, slice_index_or, None, IfOk, OnOk};
+ghost use Rattle.std.specs.Prelude.{◌≡◌, ◌+◌, ◌<◌, ℕ, [], length, slice_index, slice_index_or, unwrap_or, IfOk, OnOk};
 ghost use Rattle.sas_core.specs.declared.parts.Parts.{Parts};
 ghost use Rattle.sas_names.specs.NameTable.{AreNames, AreNamesFrom, likely_of};
-ghost use Rattle.sas_names.specs.Names.{AreFirsts, IsNextNamed};
+ghost use Rattle.sas_names.specs.Names.{AreFirsts, IsNextNamed, existing};
 ghost use Rattle.sas_names.specs.Chains.{IsChain};
 
 use crate::name_table::NameTable;
@@ -60,46 +60,48 @@ impl Names {
         self.first.get(task, name)
     }
 
-    /// Returns the lowest operator of the name of each step, or `None` if no operator has it. `task` is the task of these names. No
-    /// operator's name is read before all digests are looked up: both read memory in random order, and the processor waits for several
-    /// reads at once only if they follow each other directly.
+    /// Returns the lowest operator of the name of each step, or a number that no operator has if none has the name: four bytes a step.
+    /// `task` is the task of these names. No operator's name is read before all digests are looked up: both read memory in random order,
+    /// and the processor waits for several reads at once only if they follow each other directly.
     pub fn first_operators<T: Grounded, P: Stepwise>(
         &self,
         alloc: Global,
         task: &T,
         plan: &P,
-    ) -> Result<Vec<Option<u32>>, AllocError>
+    ) -> Result<Vec<u32>, AllocError>
         requires { AreNames (T.says task.now) self.now }
         ensures { IfOk result (λ firsts.
             AreFirsts (T.says task.now) (P.says plan.now).steps firsts.items) }
     {
-        let mut firsts = self.likely_operators(alloc, plan)?;
+        let none = task.operators();
+        let mut firsts = self.likely_operators(alloc, plan, none)?;
         for step in 0..firsts.len() {
+            let likely = firsts[step];
             let name = plan.step(step);
-            if let Some(likely) = firsts[step] {
-                if task.name(likely) != name {
-                    firsts[step] = self.first(task, name);
-                }
+            if likely < none && task.name(likely) != name {
+                firsts[step] = self.first(task, name).unwrap_or(none);
             }
         }
         Ok(firsts)
     }
 
-    /// Returns the likely operator of the name of each step, if any: the lowest operator of the name, if it has the name.
+    /// Returns the likely operator of the name of each step, or `none`: the lowest operator of the name, if it has the name.
     fn likely_operators<P: Stepwise>(
         &self,
         alloc: Global,
         plan: &P,
-    ) -> Result<Vec<Option<u32>>, AllocError>
+        none: u32,
+    ) -> Result<Vec<u32>, AllocError>
         ensures one_each { IfOk result (λ likely.
             length likely.items ≡ length (P.says plan.now).steps) }
         ensures each { IfOk result (λ likely. (step : ℕ) → step < length (P.says plan.now).steps
-            → slice_index_or likely.items step None
-            ≡ likely_of self.now.first (slice_index_or (P.says plan.now).steps step [])) }
+            → slice_index likely.items step ≡ unwrap_or
+            (likely_of self.now.first (slice_index_or (P.says plan.now).steps step [])) none) }
     {
         let mut likely = Vec::with_capacity(alloc, plan.steps())?;
         for step in 0..plan.steps() {
-            likely.push(self.first.likely(plan.step(step))).unwrap();
+            let operator = self.first.likely(plan.step(step)).unwrap_or(none);
+            likely.push(operator).unwrap();
         }
         Ok(likely)
     }
@@ -118,4 +120,11 @@ impl Names {
         let Names { next, first: _ } = self;
         next
     }
+}
+
+/// Returns the operator with this number, or `None` if no operator has it.
+pub fn existing<T: Grounded>(task: &T, number: u32) -> Option<u32>
+    ensures { result ≡ existing (T.says task.now) number }
+{
+    (number < task.operators()).then_some(number)
 }

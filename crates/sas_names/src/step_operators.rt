@@ -1,19 +1,18 @@
 // The operators whose names occur in one plan.
 ghost use Rattle.std.specs.Prelude.{◌≡◌, ℕ, List, IfOk, None, slice_index_or};
-ghost use Rattle.sas_core.specs.declared.parts.Parts.{Parts};
 ghost use Rattle.sas_names.specs.Chains.{AreChains, AreStepOperators};
 ghost use Rattle.sas_names.specs.Nameless.{nameless_steps};
 ghost use Rattle.sas_names.specs.StepNames.{AreStepNames};
 
-use crate::names::Names;
+use crate::names::{Names, existing};
 use crate::step_names::StepNames;
 use sas_core::{Grounded, Stepwise};
 use std::alloc::{AllocError, Global};
 
 /// The operators whose names occur in one plan.
 pub struct StepOperators {
-    /// The lowest operator of the name of each step, if any.
-    pub firsts: Vec<Option<u32>>,
+    /// The lowest operator of the name of each step, or a number that no operator has if none has the name.
+    pub firsts: Vec<u32>,
     /// The next operator of the same name, for each operator of one of these names.
     pub nexts: Vec<Option<u32>>,
 }
@@ -90,26 +89,30 @@ impl StepOperators {
         ensures { IfOk result (AreChains (T.says task.now) (P.says plan.now).steps names.now) }
     {
         let operators = task.operators();
-        let mut firsts = vec![in alloc; None; plan.steps()]?;
+        let mut firsts = vec![in alloc; operators; plan.steps()]?;
         let mut nexts = vec![in alloc; None; operators as usize]?;
         let mut operator = operators;
         while operator > 0 {
             operator -= 1;
             if let Some(number) = names.number(plan, task.name(operator)) {
-                nexts[operator as usize] = firsts[number];
-                firsts[number] = Some(operator);
+                nexts[operator as usize] = existing(task, firsts[number]);
+                firsts[number] = operator;
             }
         }
         Ok(StepOperators { firsts, nexts })
     }
 
-    /// Returns how many of the plan's steps name no operator.
-    pub fn nameless(&self) -> usize
-        ensures { (p : Parts) (steps : List (List ℕ))
-            → AreStepOperators p steps self.now.firsts.items self.now.nexts.items
-            → result ≡ nameless_steps p steps }
+    /// Returns how many of the plan's steps name no operator. `task` is the task of these operators.
+    pub fn nameless<T: Grounded>(&self, task: &T) -> usize
+        ensures { (steps : List (List ℕ))
+            → AreStepOperators (T.says task.now) steps self.now.firsts.items self.now.nexts.items
+            → result ≡ nameless_steps (T.says task.now) steps }
     {
-        self.firsts.iter().filter(|first| first.is_none()).count()
+        let operators = task.operators();
+        self.firsts
+            .iter()
+            .filter(|first| **first >= operators)
+            .count()
     }
 }
 

@@ -1,6 +1,6 @@
 -- An execution advances along its run.
 use Rattle.std.proofs.lemmas.Grind.{common_steps}
-use Rattle.sas_run.proofs.Imports.{◌≡◌, ℕ, ◌+◌, ◌<◌, ◌≤◌, List, [], length, get_or, Option, None, Some, Result, refl, sym, ◌∙◌, ap, subst, arith, rules, All, IsTrue, vec_capacity, IsOk, get_or-take, get_or_default, length-take, Parts, operator_at, PlanParts, IsState, IsLayered, IsInitial, Step, step_is_one, IsChain, AreStepOperators, LongChains, IsNamed, IsNextNamed, PlanFault, Progress, StepOperators, Stepper, StepFault, Executed, next_name, next_operator, Executes, IsFound, Advances, executed_of, IsExecuting, HaveNoNamesakes, Steps, IsAt, ListsChanges, Run, state_at}
+use Rattle.sas_run.proofs.Imports.{◌≡◌, ℕ, ◌+◌, ◌<◌, ◌≤◌, List, [], length, get_or, Option, None, Result, refl, sym, ◌∙◌, ap, subst, arith, rules, All, IsTrue, vec_capacity, IsOk, get_or-take, get_or_default, length-take, Parts, operator_at, PlanParts, IsState, IsLayered, IsInitial, Step, step_is_one, IsChain, AreStepOperators, LongChains, IsNamed, IsNextNamed, IsLowestNamed, existing, PlanFault, Progress, StepOperators, Stepper, StepFault, Executed, next_name, next_operator, Executes, IsFound, Advances, executed_of, IsExecuting, HaveNoNamesakes, Steps, IsAt, ListsChanges, Run, state_at}
 use Rattle.sas_run.proofs.Endings.{IsEnding}
 use Rattle.sas_run.proofs.Going.{MakesStep}
 use Rattle.sas_run.proofs.NextStates.{fault_is_conflict}
@@ -9,6 +9,10 @@ use Rattle.sas_run.proofs.Runs.{still, still_goes, state_fits, first_state, run_
 -- before the first step no step is known
 pub executes_none : (e : Executed) → IsInitial e.task e.state → e.operators ≡ [] → e.made ≡ 0 → Executes (still e.state) e
 executes_none e starts none made = grind (arith, common_steps, still_goes)
+
+-- if an operator has the name, the lowest one exists
+lowest_exists : (p : Parts) (name : List ℕ) (first operator : ℕ) → IsNextNamed p name 0 (existing p first) → IsNamed p name operator → IsLowestNamed p name 0 first
+lowest_exists p name first operator low named = grind (arith, existing)
 
 module _ (run : Run) (e : Executed) (executes : Executes run e) where
   pub as_many : length e.operators ≡ length run.steps
@@ -47,22 +51,22 @@ module _ (run : Run) (e : Executed) (executes : Executes run e) where
       }
 
       -- the next operator of the same name is known for each operator of this name
-      pub chain_next : (firsts nexts : List (Option ℕ)) → AreStepOperators e.task e.plan.steps firsts nexts → IsChain e.task (next_operator e) nexts
-      chain_next firsts nexts are = by (get_or firsts e.made None) refl
+      pub chain_next : (firsts : List ℕ) (nexts : List (Option ℕ)) → AreStepOperators e.task e.plan.steps firsts nexts → IsChain e.task (next_operator e) nexts
+      chain_next firsts nexts are other named =
+          subst (λ name. IsNextNamed e.task name (other + 1) (get_or nexts other None)) (sym same)
+          (are.chains e.made (omega (arith, early, are.firsts.one_each)) low.of_name.exists other (subst (λ name. IsNamed e.task name other) same named))
         where
+          first : ℕ
+          first = get_or firsts e.made 0
+
           early : e.made < length e.plan.steps
           early = omega (arith, within, ap length executes.of_plan.front, length-take (length run.steps) e.plan.steps)
 
-          low : IsNextNamed e.task (next_name e) 0 (get_or firsts e.made None)
-          low = are.firsts.each e.made early
+          low : IsLowestNamed e.task (next_name e) 0 first
+          low = lowest_exists e.task (next_name e) first (next_operator e) (are.firsts.each e.made early) next_goes.chosen.of_name
 
-          by : (first : Option ℕ) → get_or firsts e.made None ≡ first → IsChain e.task (next_operator e) nexts
-          by None is other named = absurd (subst (IsNextNamed e.task (next_name e) 0) is low (next_operator e) (omega arith) next_goes.chosen.of_name)
-          by (Some first) is other named =
-              let its : (operator_at e.task first).name ≡ next_name e = (subst (IsNextNamed e.task (next_name e) 0) is low).of_name.named in
-              let same : (operator_at e.task (next_operator e)).name ≡ (operator_at e.task first).name = next_goes.chosen.of_name.named ∙ sym its in
-              subst (λ name. IsNextNamed e.task name (other + 1) (get_or nexts other None)) (sym same)
-              ((are.chains e.made first (omega (arith, early, are.firsts.one_each)) is).1 other (subst (λ name. IsNamed e.task name other) same named))
+          same : (operator_at e.task (next_operator e)).name ≡ (operator_at e.task first).name
+          same = next_goes.chosen.of_name.named ∙ sym low.of_name.named
 
 -- ---- the parts of an execution
 

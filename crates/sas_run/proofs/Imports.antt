@@ -60,7 +60,7 @@ pub use Rattle.sas_run.specs.ValueGroups.{first_with, IsFirstFrom, AreValueGroup
 pub use Rattle.sas_run.specs.LongChains.{RequiresValue, HaveValues, IsLongChain, AreAll, NoneAmong, IsFirstAmong, AreLongChains}
 pub use Rattle.sas_names.specs.Named.{IsNamed}
 pub use Rattle.sas_names.specs.Nameless.{nameless_steps}
-pub use Rattle.sas_names.specs.Names.{IsNextNamed}
+pub use Rattle.sas_names.specs.Names.{IsNextNamed, IsLowestNamed, existing}
 pub use Rattle.sas_run.specs.NumberFaults.{IsStuck, IsFaultByNumbers, IsNumberFaultOrMemory}
 pub use Rattle.sas_run.specs.OtherSensesLaws.{ValidIsUsuallyValid, ValidInFastDownward, EndsInFastDownward}
 pub use Rattle.sas_run.specs.Plans.{IsApplicable, NoneApplicable, IsChosen, LeadFrom, LeadsTo, IsValid, cost_of_all}

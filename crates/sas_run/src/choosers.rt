@@ -10,6 +10,7 @@ use crate::long_chains::LongChains;
 use crate::runner::{Choice, is_applicable};
 use sas_core::{Grounded, Stepwise};
 use sas_meaning::{Layered, State};
+use sas_names::existing;
 
 /// Chooses the operators of a plan's steps. Steps are counted from 0.
 pub trait Chooser<T: Grounded> {
@@ -52,8 +53,8 @@ pub trait Chooser<T: Grounded> {
 #[derive(Drop)]
 pub struct NamedPlan<'f, P: Stepwise> {
     pub plan: &'f P,
-    /// The lowest operator of the name of each step, if any.
-    pub firsts: &'f [Option<u32>],
+    /// The lowest operator of the name of each step, or a number that no operator has if none has the name.
+    pub firsts: &'f [u32],
     /// The next operator of the same name, for each operator of one of these names.
     pub nexts: &'f [Option<u32>],
     /// The long chains of operators of one name.
@@ -81,7 +82,7 @@ impl<'f, T: Grounded, P: Stepwise> Chooser<T> for NamedPlan<'f, P> {
 
     #[inline(always)]
     fn choose(&self, task: &Layered<T>, state: &State, step: usize) -> Choice {
-        let Some(first) = self.firsts[step] else {
+        let Some(first) = existing(task, self.firsts[step]) else {
             return Choice::Unknown;
         };
         if is_applicable(task, state, first) {
@@ -122,10 +123,9 @@ impl<'n, T: Grounded> Chooser<T> for NumberedPlan<'n> {
 
     #[inline(always)]
     fn choose(&self, task: &Layered<T>, state: &State, step: usize) -> Choice {
-        let operator = self.operators[step];
-        if operator >= task.operators() {
+        let Some(operator) = existing(task, self.operators[step]) else {
             return Choice::Unknown;
-        }
+        };
         if is_applicable(task, state, operator) {
             Choice::Found(operator)
         } else {

@@ -108,7 +108,7 @@ impl<'t, 'p, E: Settle<T> + Drop, T: Grounded, P: Stepwise> Execution<'t, 'p, E,
     pub fn nameless(&self) -> usize
         ensures { result ≡ nameless_steps self.now.task self.now.plan.steps }
     {
-        self.found.nameless()
+        self.found.nameless(self.layered)
     }
 
     /// Returns the current state: the one after the steps made so far.

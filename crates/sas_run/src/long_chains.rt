@@ -13,7 +13,7 @@ use crate::runner::{is_applicable, later_applicable};
 use crate::value_groups::ValueGroups;
 use sas_core::{Fact, Grounded};
 use sas_meaning::{Layered, Preconditions, State};
-use sas_names::{Names, next_in};
+use sas_names::{Names, existing, next_in};
 use std::alloc::{AllocError, Global};
 use std::collections::BTreeMap;
 
@@ -95,7 +95,7 @@ impl LongChains {
     pub fn new<T: Grounded>(
         alloc: Global,
         layered: &Layered<T>,
-        firsts: &[Option<u32>],
+        firsts: &[u32],
         nexts: &[Option<u32>],
     ) -> Result<LongChains, AllocError>
         requires { HaveChains layered.now firsts.now nexts.now }
@@ -106,7 +106,7 @@ impl LongChains {
             return Ok(long);
         }
         for first in firsts {
-            if let Some(first) = *first {
+            if let Some(first) = existing(layered, *first) {
                 long.add(alloc, layered, first, nexts)?;
             }
         }

@@ -1,5 +1,5 @@
 -- One operator more is collected.
-use Rattle.sas_run.proofs.Imports.{arith, ◌≡◌, ℕ, ◌+◌, get_or, operator_at}
+use Rattle.sas_run.proofs.Imports.{arith, get_or, operator_at}
 use Rattle.sas_run.proofs.Collecting.{collects_more}
 use Rattle.sas_run.proofs.long_chains.operators_of.Goals as goal
 

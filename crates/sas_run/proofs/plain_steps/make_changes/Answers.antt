@@ -1,5 +1,5 @@
 -- One more change is made.
-use Rattle.sas_run.proofs.Imports.{IsTrue, ◌<◌, length, get_or, set, sym, ap, ◌∙◌, arith, get_or_default, Fact}
+use Rattle.sas_run.proofs.Imports.{IsTrue, length, get_or, set, sym, ap, ◌∙◌, arith, get_or_default, Fact}
 use Rattle.sas_run.proofs.Deleted.{notes_on}
 use Rattle.sas_run.proofs.PlainSteps.{no_change, one_more_made, one_more_deleted, changes_fit, changes_within, changes_basic}
 use Rattle.sas_run.proofs.plain_steps.make_changes.Goals as goal

@@ -1,5 +1,5 @@
 -- One more operator isn't applicable.
-use Rattle.sas_run.proofs.Imports.{◌+◌, ◌∙◌, arith, cases_eq, true≢false, operator_at}
+use Rattle.sas_run.proofs.Imports.{arith, cases_eq, true≢false, operator_at}
 use Rattle.sas_run.proofs.NamedAlike.{search_goes_on}
 use Rattle.sas_run.proofs.runner.later_applicable.Goals as goal
 

@@ -1,5 +1,5 @@
 -- If no derived variable is counted, each variable is basic.
-use Rattle.sas_run.proofs.Imports.{◌≡◌, ℕ, zero, suc, List, [], ◌∷◌, cond, is_some, Option, None, refl, ◌∙◌, true≢false, arith, count_by, ltb-false, sum_by-cons, Variable, layer_of}
+use Rattle.sas_run.proofs.Imports.{◌≡◌, ℕ, zero, suc, List, [], ◌∷◌, cond, is_some, Option, None, refl, true≢false, arith, count_by, ltb-false, sum_by-cons, Variable, layer_of}
 use Rattle.sas_run.proofs.stepper.memory_for.Goals as goal
 use Rattle.sas_run.proofs.stepper.memory_for.Goals.{then-listing, else-listing}
 

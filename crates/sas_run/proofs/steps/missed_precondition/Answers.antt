@@ -1,6 +1,6 @@
 -- One precondition after another is tested.
 use Rattle.std.proofs.lemmas.Grind.{common_steps}
-use Rattle.sas_run.proofs.Imports.{arith, ◌∙◌, ◌<◌, [], ◌∷◌, ◌++◌, length, append_assoc, slice_index, All, All-head, Fact, operator_at, preconditions}
+use Rattle.sas_run.proofs.Imports.{arith, ◌∙◌, ◌<◌, length, append_assoc, slice_index, All, All-head, Fact, operator_at, preconditions}
 use Rattle.sas_run.proofs.Ranges.{preconditions_within}
 use Rattle.sas_run.proofs.Deleted.{all_behind}
 use Rattle.sas_run.proofs.Missed.{missed_next}

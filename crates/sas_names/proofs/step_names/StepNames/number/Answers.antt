@@ -1,5 +1,5 @@
 -- A name whose shape no step's name has isn't one of these names.
-use Rattle.sas_names.proofs.Imports.{arith, ◌∙◌}
+use Rattle.sas_names.proofs.Imports.{arith}
 use Rattle.sas_names.proofs.NameShapes.{unmarked}
 use Rattle.sas_names.proofs.step_names.StepNames.number.Goals as goal
 

@@ -1,5 +1,5 @@
 -- An operator that has one of the names is stored.
-use Rattle.sas_names.proofs.Imports.{◌≡◌, ℕ, ◌+◌, ◌-◌, ◌<◌, List, length, get_or, slice_set, None, Some, sym, ap, subst, ◌∙◌, arith, length-set, get_or_read, operator_at, value_of, step_names}
+use Rattle.sas_names.proofs.Imports.{◌≡◌, ℕ, ◌+◌, ◌-◌, ◌<◌, List, length, get_or, slice_set, Some, sym, ap, subst, ◌∙◌, arith, length-set, get_or_read, operator_at, value_of, step_names, existing}
 use Rattle.sas_names.proofs.ChainsFrom.{AreChainsFrom, AreChainsFrom-step}
 use Rattle.sas_names.proofs.step_operators.StepOperators.of_names.Goals as goal
 
@@ -14,13 +14,13 @@ loop-operator-preserved-in-Some g c =
     let back : o + 1 ≡ l.operator = omega arith in
     let within : o < length p.operators = omega arith in
     let named : number (operator_at p o).name ≡ Some k = ap number (sym c.name.ensures) ∙ sym c.in-Some.ensures in
-    let read : c.index.result.now ≡ get_or l.firsts.items k None =
-    get_or_read l.firsts.items k c.index.result.now (let below = c.requires.numbers.below (operator_at p o).name k named in omega (arith, inv.names)) c.index.ensures None in
+    let read : c.existing.result ≡ existing p (get_or l.firsts.items k 0) =
+    c.existing.ensures ∙ ap (existing p) (get_or_read l.firsts.items k c.index.result.now (let below = c.requires.numbers.below (operator_at p o).name k named in omega (arith, inv.names)) c.index.ensures 0) in
     record {
       within = omega arith;
-      names = length-set l.firsts.items k (Some o) ∙ inv.names;
-      one_each = length-set l.nexts.items o c.index.result.now ∙ inv.one_each;
-      are = subst (λ v. AreChainsFrom p o number (slice_set l.firsts.items k (Some o)) (slice_set l.nexts.items o v)) (sym read)
+      names = length-set l.firsts.items k o ∙ inv.names;
+      one_each = length-set l.nexts.items o c.existing.result ∙ inv.one_each;
+      are = subst (λ v. AreChainsFrom p o number (slice_set l.firsts.items k o) (slice_set l.nexts.items o v)) (sym read)
           (AreChainsFrom-step p o number l.firsts.items l.nexts.items within
           (subst (λ n. AreChainsFrom p n number l.firsts.items l.nexts.items) (sym back) inv.are)
           (λ a b j x y. sym (c.requires.numbers.named a j x) ∙ c.requires.numbers.named b j y)

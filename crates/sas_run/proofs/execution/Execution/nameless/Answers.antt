@@ -6,4 +6,4 @@ pub returns : goal.returns
 returns g c =
     let its = c.self.inside in
     subst (λ (e : Executed). c.nameless.result ≡ nameless_steps e.task e.plan.steps) c.self.view_is
-    (c.nameless.ensures its.layered.now (g.P.Stepwise.says its.plan.now).steps c.self.invariant.operators)
+    (c.nameless.ensures (g.P.Stepwise.says its.plan.now).steps c.self.invariant.operators)
