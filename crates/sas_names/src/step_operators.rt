@@ -11,7 +11,7 @@ use std::alloc::{AllocError, Global};
 
 /// The operators whose names occur in one plan.
 pub struct StepOperators {
-    /// The lowest operator of the name of each step, or a number that no operator has if none has the name.
+    /// The lowest operator of the name of each step, or a number that no operator has if there is none.
     pub firsts: Vec<u32>,
     /// The next operator of the same name, for each operator of one of these names.
     pub nexts: Vec<Option<u32>>,

@@ -53,7 +53,7 @@ pub trait Chooser<T: Grounded> {
 #[derive(Drop)]
 pub struct NamedPlan<'f, P: Stepwise> {
     pub plan: &'f P,
-    /// The lowest operator of the name of each step, or a number that no operator has if none has the name.
+    /// The lowest operator of the name of each step, or a number that no operator has if there is none.
     pub firsts: &'f [u32],
     /// The next operator of the same name, for each operator of one of these names.
     pub nexts: &'f [Option<u32>],
