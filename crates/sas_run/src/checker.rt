@@ -60,7 +60,6 @@ pub fn checker_for<E: Settle<T> + Drop, T: Grounded>(
 
 impl<E: Drop> Checker<E> {
     /// Checks whether the plan is valid, like `Runner::check_plan`. `layered` is the task of this checker.
-    #[tactic(auto, using(crate::proofs::MadeSteps::named_valid, crate::proofs::MadeSteps::named_faulty))]
     pub fn check_plan<T: Grounded, P: Stepwise>(
         &mut self,
         alloc: Global,

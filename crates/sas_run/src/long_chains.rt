@@ -180,7 +180,6 @@ impl LongChains {
     }
 
     /// Does the same, if the first operator isn't applicable. It isn't inlined, since most steps need only the first operator of their name.
-    #[tactic(auto, using(crate::proofs::NamedAlike::chosen_later))]
     #[inline(never)]
     pub fn later_applicable<T: Grounded>(
         &self,

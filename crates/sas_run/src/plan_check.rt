@@ -50,7 +50,6 @@ impl From<AllocError> for PlanFault {
 
 /// Checks whether the plan is valid, like `Runner::check_plan`. The evaluator must be ready for the task. Use it to check a single plan: it
 /// keeps nothing for the next one. All memory is allocated before the first step.
-#[tactic(auto, using(crate::proofs::MadeSteps::named_valid, crate::proofs::MadeSteps::named_faulty))]
 pub fn check_once<E: Settle<T> + Drop, T: Grounded, P: Stepwise>(
     alloc: Global,
     layered: &Layered<T>,

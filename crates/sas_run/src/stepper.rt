@@ -168,7 +168,6 @@ pub fn step_on<E: Settle<T> + Drop, T: Grounded>(
 /// Makes the step like `step_on`, but from the state that the evaluator settled last. So the evaluator may reuse what the step doesn't
 /// change. Afterwards the stepper lists what the step changed. If deleted facts aren't noted, no variable is derived. Then each state is
 /// settled, so the evaluator isn't called.
-#[tactic(auto, using(crate::proofs::NextStates::stepping))]
 #[inline(always)]
 pub fn go_on_from<E: Settle<T> + Drop, T: Grounded>(
     layered: &Layered<T>,

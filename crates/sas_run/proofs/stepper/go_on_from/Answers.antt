@@ -1,5 +1,6 @@
 -- The effects are applied, and the result is settled from the state before.
-use Rattle.sas_run.proofs.Imports.{◌≢◌, ◌⊎◌, ℕ, ◌∷◌, List, [], is_some, sym, ◌∙◌, ap, subst, inl, inr, All, cases_eq, All-nil, All-cons, Contains-append_left, Contains-append_right, Contains-push, Fact, Parts, ChangedVariables, HaveGone, SameBasic, CoversChanges, layer_cases, HasFactOn, ListsChanges}
+use Rattle.std.proofs.lemmas.Grind.{common_steps}
+use Rattle.sas_run.proofs.Imports.{arith, ◌≢◌, ◌⊎◌, ℕ, ◌∷◌, List, [], is_some, sym, ◌∙◌, ap, subst, inl, inr, All, cases_eq, All-nil, All-cons, Contains-append_left, Contains-append_right, Contains-push, Fact, Parts, ChangedVariables, HaveGone, SameBasic, CoversChanges, layer_cases, HasFactOn, ListsChanges}
 use Rattle.sas_run.proofs.stepper.go_on_from.Goals as goal
 
 -- ---- what is listed
@@ -43,3 +44,6 @@ returns-then-stepper-clause-lists g c noted =
     lists_step p s c.apply.new.state c.settle_on.new.state deleted c.settle_on.new.touched gone c.settle_on.ensures.settles.basic
     (c.settle_on.ensures.covered s (rw (← c.apply.ensures.evaluator) at (c.requires.at.follows (sym c.apply.ensures.notes.noted ∙ noted)))
     (subst (λ (facts : List Fact). HaveGone p facts s c.apply.new.state) (sym c.as_slice.ensures.value) gone))
+
+pub returns-then-stepper-clause-steps : goal.returns-then-stepper-clause-steps
+returns-then-stepper-clause-steps g c = grind (arith, common_steps)

@@ -1,4 +1,5 @@
 -- If no derived variable is counted, each variable is basic.
+use Rattle.std.proofs.lemmas.Grind.{common_steps}
 use Rattle.sas_run.proofs.Imports.{◌≡◌, ℕ, zero, suc, List, [], ◌∷◌, cond, is_some, Option, None, refl, true≢false, arith, count_by, ltb-false, sum_by-cons, Variable, layer_of}
 use Rattle.sas_run.proofs.stepper.memory_for.Goals as goal
 use Rattle.sas_run.proofs.stepper.memory_for.Goals.{then-listing, else-listing}
@@ -13,3 +14,6 @@ each_basic (v ∷ variables) none (suc var) = each_basic variables (omega (arith
 
 pub returns-clause-basic : goal.returns-clause-basic
 returns-clause-basic g c none var = search (arith, then-listing, true≢false, else-listing, each_basic, ltb-false)
+
+pub returns-clause-clean : goal.returns-clause-clean
+returns-clause-clean g c = grind (arith, common_steps)

@@ -1,4 +1,5 @@
 -- One more effect has given its value, if it fires.
+use Rattle.std.proofs.lemmas.Grind.{common_steps}
 use Rattle.sas_run.proofs.Imports.{◌≡◌, ◌∙◌, length, sym, subst, arith, slice_index, Change, operator_at, effect_at, change_of, AllHold, Fires, IsGivenTo, GivesValue, GivesOther, effect_fits}
 use Rattle.sas_run.proofs.Ranges.{effect_within, conditions_within, change_within}
 use Rattle.sas_run.proofs.Giving.{given_on_effects, conflicts_first, gives_one_more}
@@ -64,3 +65,6 @@ returns-then-not-give-clause-given_to g c =
 
 pub returns-clause-none : goal.returns-clause-none
 returns-clause-none g c = search (arith, operator_at, length)
+
+pub bounds-changes-effect : goal.bounds-changes-effect
+bounds-changes-effect g c = grind (arith, common_steps)

@@ -1,4 +1,5 @@
 -- The given value of one more variable is written and removed.
+use Rattle.std.proofs.lemmas.Grind.{elements}
 use Rattle.sas_run.proofs.Imports.{◌≡◌, ◌<◌, ℕ, List, Option, length, set, None, Some, sym, ap, subst, ◌∙◌, arith, IsTrue, cases_eq, Change, operator_at, effect_at, IsBasic, state_set, DeletedFacts, NotesOn, given_to, no_effect}
 use Rattle.sas_run.proofs.Ranges.{change_within}
 use Rattle.sas_run.proofs.Giving.{HasGiven, all_taken, others_given, fewer_on_effects, one_more_taken, written_same}
@@ -79,3 +80,6 @@ returns-clause-written g c = λ var. rw ((returns-clause-clean g c).none var) at
 
 pub returns-clause-gone : goal.returns-clause-gone
 returns-clause-gone g c noted = (c.loop-effect.invariant.deleted noted).gone
+
+pub bounds : goal.bounds
+bounds g c = grind (arith, elements)

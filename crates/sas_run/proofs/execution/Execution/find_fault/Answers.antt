@@ -1,4 +1,5 @@
 -- The plan ends, and the execution returns to its start.
+use Rattle.std.proofs.lemmas.Grind.{common_steps}
 use Rattle.sas_run.proofs.Imports.{subst, ◌∙◌, arith, Progress, Executed, executed_of, IsFound}
 use Rattle.sas_run.proofs.Executing.{goes_back, goes_anew}
 use Rattle.sas_run.proofs.MadeSteps.{named_ending}
@@ -21,3 +22,6 @@ returns g c =
     subst (λ (e : Executed). IsFound e.task e.plan found.result (executed_of its.layered.now plan c.go_back.new.stepper after its.made)) c.self.view_is
     (goes_back c.self.invariant c.task.ensures.layered (rw (← c.self.view_is) at c.requires) c.go_back.new.stepper after found.result c.go_back.ensures.initial
     (named_ending its.layered.now plan found.new.progress.operators.items found.result found.ensures.ends))
+
+pub find_fault-fault-requires-clause-start : goal.find_fault-fault-requires-clause-start
+find_fault-fault-requires-clause-start g c = grind (arith, common_steps)
