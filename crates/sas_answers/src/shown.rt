@@ -5,7 +5,7 @@ ghost use Rattle.sas_answers.specs.Placing.{Places};
 ghost use Rattle.sas_answers.specs.Shown.{hex_digit_of, is_plain_byte, shown, shown_byte, shown_name};
 
 /// Which bytes are shown as they are: those from 32 to `last`, but for `but`. All others are shown as `\x` and two digits.
-#[derive(Clone, Copy, Debug)]
+#[derive(Clone, Copy)]
 pub struct PlainBytes {
     pub last: u8,
     pub but: u8,

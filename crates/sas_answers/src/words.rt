@@ -1,7 +1,7 @@
 // Lines of words.
 
 /// A word of a line.
-#[derive(Clone, Copy, Debug)]
+#[derive(Clone, Copy)]
 pub enum Word<'w> {
     /// These bytes.
     Text(&'w [u8]),
@@ -14,14 +14,14 @@ pub enum Word<'w> {
 }
 
 /// A line of words, with one space between each two. The first ones may be given together, with the spaces before and between them.
-#[derive(Clone, Copy, Debug)]
+#[derive(Clone, Copy)]
 pub struct Words<'w> {
     pub first: &'w [u8],
     pub rest: &'w [Word<'w>],
 }
 
 /// A line of a word, three numbers and a name, with one space between each two.
-#[derive(Clone, Copy, Debug)]
+#[derive(Clone, Copy)]
 pub struct NumberedLine<'w> {
     pub word: &'w [u8],
     pub first: u64,

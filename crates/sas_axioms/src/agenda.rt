@@ -9,7 +9,7 @@ use std::cmp::Reverse;
 use std::collections::BinaryHeap;
 
 /// The update would take longer than settling the state from scratch.
-#[derive(Clone, Copy, Debug, PartialEq, Eq)]
+#[derive(Clone, Copy)]
 pub struct OverBudget;
 
 /// The rules that an update still has to evaluate, layer by layer, and how much work it may still do.

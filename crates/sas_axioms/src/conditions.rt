@@ -10,14 +10,14 @@ use sas_meaning::Layered;
 use std::alloc::{AllocError, Global};
 
 /// A condition of a rule that can fire: the rule waits for a variable to have this value. The index groups conditions by variable.
-#[derive(Clone, Copy, Debug, PartialEq, Eq)]
+#[derive(Clone, Copy)]
 pub struct RuleCondition {
     pub value: u32,
     pub rule: u32,
 }
 
 /// The former and the new value of a variable.
-#[derive(Clone, Copy, Debug)]
+#[derive(Clone, Copy)]
 pub struct ValueChange {
     pub former: u32,
     pub value: u32,

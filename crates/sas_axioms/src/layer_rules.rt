@@ -8,7 +8,7 @@ use sas_meaning::Layered;
 use std::alloc::{AllocError, Global};
 
 /// A rule that can fire, and the layer of its variable. Rules of lower layers come first.
-#[derive(Clone, Copy, Debug, PartialEq, Eq, PartialOrd, Ord)]
+#[derive(Clone, Copy, PartialEq, Eq, PartialOrd, Ord)]
 pub struct LayerRule {
     pub layer: u32,
     pub rule: u32,

@@ -10,7 +10,7 @@ use sas_core::{Fact, Grounded};
 use sas_meaning::{Layered, Settle, State};
 
 /// An evaluator for any layered task. It processes the layers in ascending order and evaluates the rules of a layer until no value changes.
-#[derive(Clone, Copy, Debug, PartialEq, Eq)]
+#[derive(Clone, Copy)]
 pub struct Rounds;
 
 impl<T: Grounded> Settle<T> for Rounds {

@@ -6,7 +6,7 @@ use crate::variables::Variables;
 use sas_core::{Fact, Items};
 
 /// The contents of a task in a few blocks of memory. They may violate the rules of the format.
-#[derive(Debug, Drop)]
+#[derive(Drop)]
 pub struct TaskColumns {
     pub metric: bool,
     pub variables: Variables,

@@ -14,7 +14,6 @@ use std::mem;
 /// A list of effects, or of rules, which have the same form. In a contract its value is that list.
 ///
 /// Most effects have no conditions. So `conditions` may be shorter than `changes`; the effects past its end have none.
-#[derive(Debug)]
 pub struct Effects {
     changes: Vec<Change>,
     conditions: Lists<Fact>,

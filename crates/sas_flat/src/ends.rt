@@ -7,7 +7,7 @@ use std::marker::Model;
 
 /// The end of each list in one block of memory. The ends of the lists in this crate ascend. In a contract the value is the list of the
 /// ends.
-#[derive(Debug, Drop)]
+#[derive(Drop)]
 pub struct Ends {
     places: Vec<usize>,
 }

@@ -10,7 +10,6 @@ use std::marker::Model;
 
 /// The columns of lists: the items of all lists, one after another, and the end of each list. The items of the next list are appended as
 /// they are read; then `close` completes it, or `cut` removes them.
-#[derive(Debug)]
 pub struct ListColumns<T> {
     pub items: Vec<T>,
     pub(crate) ends: Ends,
@@ -25,7 +24,7 @@ impl<T: Drop> Drop for ListColumns<T> {
 }
 
 /// Lists in one block of memory, with the end of each. In a contract the value is the list of these lists.
-#[derive(Debug, Drop)]
+#[derive(Drop)]
 pub struct Lists<T> {
     columns: ListColumns<T>,
 }

@@ -16,7 +16,7 @@ use std::marker::Model;
 
 /// The fixed-size data of an operator: its cost, and the ends of its name, its prevail conditions and its effects in the columns. Each
 /// starts at the end of the previous operator.
-#[derive(Clone, Copy, Debug)]
+#[derive(Clone, Copy)]
 struct Head {
     name: usize,
     prevail: usize,
@@ -26,7 +26,6 @@ struct Head {
 
 /// The columns of operators: the names, prevail conditions and effects of all operators, one after another, and the head of each operator.
 /// The prevail conditions and effects of the next operator are appended as they are read; then `push` completes it, or `cut` removes them.
-#[derive(Debug)]
 pub struct OperatorColumns {
     names: Vec<u8>,
     pub prevail: Vec<Fact>,
@@ -50,7 +49,7 @@ impl Drop for OperatorColumns {
 }
 
 /// A list of operators. In a contract its value is that list.
-#[derive(Debug, Drop)]
+#[derive(Drop)]
 pub struct Operators {
     columns: OperatorColumns,
 }

@@ -3,7 +3,7 @@ use crate::variables::Variables;
 use sas_core::{Fact, Items};
 
 /// The parts of a task that a summary shows: everything except its groups, operators and rules, of which only the numbers are kept.
-#[derive(Debug, Drop)]
+#[derive(Drop)]
 pub struct Outline {
     /// True for metric 1, false for metric 0.
     pub metric: bool,

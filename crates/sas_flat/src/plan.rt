@@ -8,7 +8,7 @@ use sas_core::{CostKind, Stepwise};
 use std::marker::Model;
 
 /// A plan whose step names are stored in one block of memory. In a contract its value is the contents of the plan.
-#[derive(Debug, Drop)]
+#[derive(Drop)]
 pub struct FlatPlan {
     steps: Lists<u8>,
     cost: u64,

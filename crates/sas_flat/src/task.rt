@@ -10,7 +10,6 @@ use sas_core::{Change, Fact, Grounded};
 use std::marker::Model;
 
 /// A task in a few blocks of memory. Its contents are well ranged. In a contract its value is these contents.
-#[derive(Debug)]
 pub struct FlatTask {
     columns: TaskColumns,
 }

@@ -15,7 +15,6 @@ use std::marker::Model;
 
 /// The columns of variables. The value names of all variables are stored one after another; `ends` contains the end of each variable's
 /// names. The value names of the next variable are appended as they are read; then `push` completes it, or `cut` removes them.
-#[derive(Debug)]
 pub struct VariableColumns {
     names: Lists<u8>,
     layers: Vec<Option<u32>>,
@@ -39,7 +38,7 @@ impl Drop for VariableColumns {
 }
 
 /// A list of variables. In a contract its value is that list.
-#[derive(Debug, Drop)]
+#[derive(Drop)]
 pub struct Variables {
     columns: VariableColumns,
 }

@@ -16,7 +16,7 @@ pub struct Fed {
 }
 
 /// The first line of some bytes without its line end, and the number of bytes that it takes including its line end.
-#[derive(Clone, Copy, Debug, PartialEq, Eq)]
+#[derive(Clone, Copy)]
 pub struct FirstLine<'a> {
     pub line: &'a [u8],
     pub taken: usize,
@@ -65,7 +65,7 @@ fn drop_return(line: &mut Vec<u8>)
 }
 
 /// Takes a text in pieces, cut anywhere, and returns its lines.
-#[derive(Debug, Drop)]
+#[derive(Drop)]
 pub struct Lines {
     held: Vec<u8>,
     complete: bool,

@@ -17,7 +17,7 @@ fn cut(line: &[u8]) -> (&[u8], Option<&[u8]>)
 }
 
 /// Iterates over the segments of a line between its spaces, in order. A line with k spaces has k + 1 segments. Some may be empty.
-#[derive(Debug, Drop)]
+#[derive(Drop)]
 pub struct Numbers<'a> {
     rest: Option<&'a [u8]>,
 }

@@ -11,7 +11,7 @@ use std::simd::prelude::*;
 const LANES: usize = 16;
 
 /// How far a text is packed: its first `kept` bytes have no CR and stay. The bytes from `read` on are left to pack.
-#[derive(Clone, Copy, Debug, PartialEq, Eq)]
+#[derive(Clone, Copy)]
 struct Places {
     kept: usize,
     read: usize,

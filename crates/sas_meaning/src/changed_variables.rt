@@ -5,7 +5,7 @@ ghost use Rattle.sas_meaning.specs.ChangedVariables.{IsCleared, AddsTouched};
 use std::alloc::{AllocError, Global};
 
 /// The derived variables that may have changed: those on a list, or all if the list was too short. Only `with_room` allocates memory.
-#[derive(Debug, Drop)]
+#[derive(Drop)]
 pub struct ChangedVariables {
     /// The variables that were added. A variable may occur more than once.
     vars: Vec<u32>,

@@ -25,7 +25,7 @@ impl Model for State {
 }
 
 /// Variables one after another: those from `start` up to but not including `end`.
-#[derive(Clone, Copy, Debug, PartialEq, Eq)]
+#[derive(Clone, Copy)]
 pub struct VariableSpan {
     pub start: u32,
     pub end: u32,

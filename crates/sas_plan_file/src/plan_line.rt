@@ -10,7 +10,7 @@ use sas_lines::cost;
 use sas_reader::{Kind, LineEnd, plain_end};
 
 /// The content of a line of a plan file: the name of a step, or the cost.
-#[derive(Clone, Copy, Debug, PartialEq, Eq)]
+#[derive(Clone, Copy)]
 pub enum PlanLine<'a> {
     Step(&'a [u8]),
     Cost(u64, CostKind),

@@ -11,7 +11,7 @@ use sas_run::{Execution, PlanFault};
 use std::alloc::{AllocError, Global};
 
 /// A step of a plan, counted from 1, and an operator that it may mean besides the one that it means.
-#[derive(Clone, Copy, Debug, PartialEq, Eq)]
+#[derive(Clone, Copy)]
 pub struct OtherOperator {
     pub step: usize,
     pub operator: u32,

@@ -6,7 +6,7 @@ ghost use Rattle.sas_reader.specs.Found.{kept_bytes, IsFoundOf};
 pub const FOUND: usize = 64;
 
 /// The first bytes of the text at a fault, at most 64, and whether it has more.
-#[derive(Clone, Copy, Debug, PartialEq, Eq)]
+#[derive(Clone, Copy)]
 pub struct Excerpt {
     bytes: [u8; FOUND],
     count: usize,

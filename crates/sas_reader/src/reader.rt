@@ -15,7 +15,7 @@ use std::alloc::Global;
 pub const LIMIT: u64 = 4_294_967_296;
 
 /// The first whole lines of some bytes: the number of lines, and the number of their bytes with line ends.
-#[derive(Clone, Copy, Debug, PartialEq, Eq)]
+#[derive(Clone, Copy)]
 pub struct Front {
     pub lines: u64,
     pub bytes: usize,

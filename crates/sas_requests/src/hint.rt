@@ -5,7 +5,7 @@ ghost use Rattle.sas_requests.specs.Hint.{first_hint, hint_for, hint_words, is_c
 use sas_reader::{Fault, Kind};
 
 /// What may have gone wrong with a file that is refused.
-#[derive(Clone, Copy, Debug, PartialEq, Eq)]
+#[derive(Clone, Copy)]
 pub enum Hint {
     Compressed,
     ByteOrderMark,

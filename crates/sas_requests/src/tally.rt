@@ -4,14 +4,14 @@ ghost use Rattle.sas_requests.specs.Judged.{Tallies};
 ghost use Rattle.sas_requests.specs.Judging.{is_lower, tally_with};
 
 /// A valid plan that costs least: its cost, and its number.
-#[derive(Clone, Copy, Debug)]
+#[derive(Clone, Copy)]
 pub struct BestPlan {
     pub cost: u64,
     pub number: usize,
 }
 
 /// How many of the plans so far are valid, and the first of those that cost least.
-#[derive(Clone, Copy, Debug)]
+#[derive(Clone, Copy)]
 pub struct Tally {
     pub valid: usize,
     pub best: Option<BestPlan>,

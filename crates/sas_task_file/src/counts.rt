@@ -5,7 +5,7 @@ ghost use Rattle.sas_task_file.specs.Tracker.{counts_start, after_count, count_a
 use crate::places::{Move, Place};
 
 /// The line with the number of a list's items, counted from 1, and that number.
-#[derive(Clone, Copy, Debug, PartialEq, Eq)]
+#[derive(Clone, Copy)]
 pub struct ListCount {
     pub line: u64,
     pub number: u32,
@@ -17,7 +17,7 @@ impl ListCount {
 }
 
 /// The last numbers of items among the lines so far.
-#[derive(Clone, Copy, Debug, PartialEq, Eq)]
+#[derive(Clone, Copy)]
 pub struct Counts {
     /// The last number of variables, groups, operators or rules.
     pub section: ListCount,

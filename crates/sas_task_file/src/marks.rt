@@ -4,7 +4,7 @@ ghost use Rattle.sas_task_file.specs.Marks.{fixed_word_bytes};
 
 /// The location of a line in a task file: its section, and its variable, group, operator or rule, counted from 0. The plurals are the lines
 /// with the counts.
-#[derive(Clone, Copy, Debug, PartialEq, Eq)]
+#[derive(Clone, Copy)]
 pub enum Location {
     Version,
     Metric,
@@ -23,7 +23,7 @@ pub enum Location {
 }
 
 /// A fixed word of the format.
-#[derive(Clone, Copy, Debug, PartialEq, Eq)]
+#[derive(Clone, Copy)]
 pub enum FixedWord {
     BeginVersion,
     EndVersion,
@@ -70,7 +70,7 @@ impl FixedWord {
 }
 
 /// What is expected on a line of a task file.
-#[derive(Clone, Copy, Debug, PartialEq, Eq)]
+#[derive(Clone, Copy)]
 pub enum Due {
     /// This word.
     Word(FixedWord),
@@ -91,14 +91,14 @@ pub enum Due {
 }
 
 /// The location of a line, and what is expected there.
-#[derive(Clone, Copy, Debug, PartialEq, Eq)]
+#[derive(Clone, Copy)]
 pub struct Mark {
     pub at: Location,
     pub due: Due,
 }
 
 /// The first word of a line that isn't an allowed number. Allowed are the numbers from 0 to `most`, and -1 if `may_be_none`.
-#[derive(Clone, Copy, Debug, PartialEq, Eq)]
+#[derive(Clone, Copy)]
 pub struct WrongWord {
     /// The number of the word in the line, counted from 1.
     pub word: u64,

@@ -3,7 +3,7 @@
 use crate::marks::{Due, Location};
 
 /// What is expected next in a task file.
-#[derive(Clone, Copy, Debug, PartialEq, Eq)]
+#[derive(Clone, Copy, PartialEq, Eq)]
 pub enum Place {
     VersionBegin,
     VersionNumber,
@@ -49,7 +49,7 @@ pub enum Place {
 }
 
 /// What a line adds to the task. A name is the line itself.
-#[derive(Clone, Copy, Debug, PartialEq, Eq)]
+#[derive(Clone, Copy)]
 pub enum Event {
     /// Nothing: a fixed word, the version, a number of variables, groups, goal facts, operators or rules.
     Nothing,
@@ -86,7 +86,7 @@ pub enum Event {
 }
 
 /// How a line moves the tracker.
-#[derive(Clone, Copy, Debug, PartialEq, Eq)]
+#[derive(Clone, Copy)]
 pub enum Move {
     /// To another place.
     To(Place),
@@ -105,7 +105,7 @@ pub enum Move {
 }
 
 /// A row of the table of places: the location of the next line, what is expected there, what the line adds, and how it moves the tracker.
-#[derive(Clone, Copy, Debug, PartialEq, Eq)]
+#[derive(Clone, Copy)]
 pub struct Row {
     pub at: Location,
     pub due: Due,

@@ -34,7 +34,7 @@ pub struct ParsedOperator<'a> {
 }
 
 /// A rule at the beginning of some bytes: its head and its extent.
-#[derive(Clone, Copy, Debug, PartialEq, Eq)]
+#[derive(Clone, Copy)]
 pub struct ParsedRule {
     pub head: Change,
     pub front: Front,

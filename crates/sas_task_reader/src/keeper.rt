@@ -6,7 +6,7 @@ use sas_reader::{Front, Kind, LineEnd};
 use sas_task_file::{Event, LineValues, SoFar};
 
 /// A variable that a keeper has stored: the number of its lines and bytes, and the number of its values.
-#[derive(Clone, Copy, Debug, PartialEq, Eq)]
+#[derive(Clone, Copy)]
 pub struct KeptVariable {
     pub front: Front,
     pub range: u32,

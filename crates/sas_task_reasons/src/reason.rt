@@ -2,7 +2,7 @@
 use sas_core::Fact;
 
 /// How an operator fails to preserve a group. Effects are identified by their index among the effects of the operator.
-#[derive(Clone, Copy, Debug, PartialEq, Eq)]
+#[derive(Clone, Copy)]
 pub enum Failure {
     /// Both effects set facts of the group, on different variables, and may fire together: the facts that hold then don't clash.
     SetsTwo { effect: u32, other: u32 },
@@ -12,7 +12,7 @@ pub enum Failure {
 }
 
 /// The reason why a group isn't exclusive.
-#[derive(Clone, Copy, Debug, PartialEq, Eq)]
+#[derive(Clone, Copy)]
 pub enum Reason {
     /// The first fact of the group on a derived variable.
     OnDerived { fact: Fact },

@@ -46,7 +46,7 @@ impl Source {
 }
 
 /// What the arguments request.
-#[derive(PartialEq, Eq, Drop)]
+#[derive(Drop)]
 pub enum Job {
     /// A question about a task, a plan or both. An input that isn't read has no source.
     Files {
@@ -105,7 +105,7 @@ impl Job {
 }
 
 /// The files that a request is over.
-#[derive(Clone, Copy, Debug, PartialEq, Eq)]
+#[derive(Clone, Copy)]
 enum RequestFiles {
     Task,
     Plan,
