@@ -9,7 +9,7 @@ use sas_lines::without_return;
 use sas_reader::{Excerpt, Fault, Kind, Refusal};
 
 /// Why a plan is refused: its first fault, the text at the fault, and whether only the last line end is missing.
-#[derive(Clone, Copy, Debug, PartialEq, Eq)]
+#[derive(Clone, Copy)]
 pub struct PlanRefusal {
     pub fault: Fault,
     pub found: Excerpt,

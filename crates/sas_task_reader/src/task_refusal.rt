@@ -14,7 +14,7 @@ use sas_task_file::{ListCount, Mark, WrongWord};
 /// Why a task file is refused: its first fault, the location of the fault and what was expected there, the first wrong word of the line, if
 /// any, the count of the list whose item was expected there or whose last item is directly before, if any, the text that was found, and
 /// whether only the last line end is missing.
-#[derive(Clone, Copy, Debug, PartialEq, Eq)]
+#[derive(Clone, Copy)]
 pub struct TaskRefusal {
     pub fault: Fault,
     pub mark: Mark,

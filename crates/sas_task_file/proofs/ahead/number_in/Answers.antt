@@ -1,3 +1,4 @@
+use Rattle.std.proofs.lemmas.Grind.{common_steps}
 use Rattle.sas_task_file.proofs.Imports.{◌≤◌, ◌^◌, arith}
 use Rattle.sas_task_file.proofs.AheadReading.{first_digit, digit_goes_on, number_ends, tens_grow, tens_more}
 use Rattle.sas_task_file.proofs.ahead.number_in.Goals as goal
@@ -38,3 +39,9 @@ loop-at-preserved g c =
       digit_goes_on c.args.bytes.now l.value l.at l.invariant.2 (omega (arith, c.requires.long, c.loop-at-test.true))
           l.invariant.0 (omega (arith, few, l.invariant.1)) digit.0 digit.1,
     )
+
+pub returns-then-not-is_ascii_digit-2-clause-left : goal.returns-then-not-is_ascii_digit-2-clause-left
+returns-then-not-is_ascii_digit-2-clause-left g c = grind (arith, common_steps)
+
+pub returns-clause-ahead : goal.returns-clause-ahead
+returns-clause-ahead g c = grind (arith, common_steps)

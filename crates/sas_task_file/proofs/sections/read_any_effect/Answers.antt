@@ -1,3 +1,4 @@
+use Rattle.std.proofs.lemmas.Grind.{common_steps}
 use Rattle.sas_task_file.proofs.Imports.{◌≡◌, ◌&&◌, IsTrue, ap₂, arith, fact_in_ranges, change_in_ranges}
 use Rattle.sas_task_file.proofs.AheadReading.{one_more_condition, effect_is_ahead}
 use Rattle.sas_task_file.proofs.sections.read_any_effect.Goals as goal
@@ -17,3 +18,6 @@ returns-in-Some-read_change g c =
     let whole = rw all at l.invariant in
     let exists : IsTrue (change_in_ranges c.args.ranges.now change.var change.old change.new) = let looked = c.change_in.ensures in let there = c.if-change_in.true in cc in
     (ap₂ (λ x y. x && y) whole.exist exists, effect_is_ahead c.args.ranges.now c.in-Some.count c.args.bytes.now l.conditions.items l.rest.now _ change c.in-Some.ensures.0 whole c.in-Some-read_change.ensures)
+
+pub loop-i-init : goal.loop-i-init
+loop-i-init g c = grind (arith, common_steps)

@@ -1,4 +1,5 @@
-use Rattle.sas_task_file.proofs.Imports.{IsTrue, change_in_ranges, plain_effect}
+use Rattle.std.proofs.lemmas.Grind.{common_steps}
+use Rattle.sas_task_file.proofs.Imports.{arith, IsTrue, change_in_ranges, plain_effect}
 use Rattle.sas_task_file.proofs.LinesReading.{none_appended, one_more_appended}
 use Rattle.sas_task_file.proofs.sections.read_effects.Goals as goal
 
@@ -15,3 +16,9 @@ pub loop-i-preserved-in_default-read_effect : goal.loop-i-preserved-in_default-r
 loop-i-preserved-in_default-read_effect g c =
     let (e, is, ahead) = rw c.in-Some-2.is at c.in_ok-more.ensures.found in
     one_more_appended _ _ e c.loop-i.invariant is ahead.1 ahead.0
+
+pub returns-in_err-more-clause-kept : goal.returns-in_err-more-clause-kept
+returns-in_err-more-clause-kept g c = grind (arith, common_steps)
+
+pub returns-in_default-2-clause-kept : goal.returns-in_default-2-clause-kept
+returns-in_default-2-clause-kept g c = grind (arith, common_steps)

@@ -1,5 +1,7 @@
 -- Where no fact is on a derived variable, or no two different ones hold, the verdict is another one.
-use Rattle.sas_task_reasons.proofs.Imports.{◌≡◌, ◌<◌, ◌==◌, None, List, length, sym, subst, ◌∙◌, All, ◌&&◌, find, not, is_some, Fact, fact_within, group_facts, holds, layer_of}
+use Rattle.std.proofs.lemmas.Grind.{common_steps}
+use Rattle.std.proofs.lemmas.Grind.{elements}
+use Rattle.sas_task_reasons.proofs.Imports.{arith, ◌≡◌, ◌<◌, ◌==◌, None, List, length, sym, subst, ◌∙◌, All, ◌&&◌, find, not, is_some, Fact, fact_within, group_facts, holds, layer_of}
 use Rattle.sas_task_reasons.proofs.GroupReasons.{all_basic, exclusive_without, exclusive_beside}
 use Rattle.sas_task_reasons.proofs.before_operators.first_reason.Goals as goal
 
@@ -31,3 +33,9 @@ returns-in_err-second-in-Initial g c = λ kept.
     let var = c.in_ok-first-in-Initial.first.var in
     absurd ((rw c.in-Initial.is at c.requires.joint).1 (exclusive_beside s _ var (subst (λ (facts : List Fact). find (λ (f : Fact). holds s f && not (f.var == var)) facts ≡ None)
     (rw c.task.ensures.task at c.group-facts.ensures) (sym c.first_beside.ensures ∙ c.in_err-second-in-Initial.was))))
+
+pub first_derived-requires : goal.first_derived-requires
+first_derived-requires g c = grind (arith, elements)
+
+pub returns-in_ok-second-in-Initial : goal.returns-in_ok-second-in-Initial
+returns-in_ok-second-in-Initial g c = grind (arith, common_steps)

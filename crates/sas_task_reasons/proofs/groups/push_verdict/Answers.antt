@@ -1,5 +1,6 @@
 -- Each verdict has its words.
-use Rattle.sas_task_reasons.proofs.Imports.{◌≡◌, ℕ, List, [], ◌∷◌, ◌++◌, codes, decimal, append_assoc, sym, ap, subst, Pushes}
+use Rattle.std.proofs.lemmas.Grind.{common_steps}
+use Rattle.sas_task_reasons.proofs.Imports.{arith, ◌≡◌, ℕ, List, [], ◌∷◌, ◌++◌, codes, decimal, append_assoc, sym, ap, subst, Pushes}
 use Rattle.sas_task_reasons.proofs.groups.push_verdict.Goals as goal
 
 -- the space may stand with the number or with the words
@@ -13,3 +14,9 @@ pub returns-in-Broken : goal.returns-in-Broken
 returns-in-Broken g c =
     let pushed = rw c.from.ensures at c.push_group_words-in-Broken.ensures in
     rw c.in-Broken.is (subst (Pushes g.W.Write.contents c.args.sink.now _) (said c.args.place (codes "not shown: operator " ++ decimal c.in-Broken.operator)) pushed)
+
+pub returns-in-Exclusive : goal.returns-in-Exclusive
+returns-in-Exclusive g c = grind (arith, common_steps)
+
+pub returns-in-Derived : goal.returns-in-Derived
+returns-in-Derived g c = grind (arith, common_steps)

@@ -1,4 +1,5 @@
-use Rattle.sas_answers.proofs.Imports.{[], Word, Text, behind_space}
+use Rattle.std.proofs.lemmas.Grind.{common_steps}
+use Rattle.sas_answers.proofs.Imports.{arith, [], Word, Text, behind_space}
 use Rattle.sas_answers.proofs.Pushed.{pushes_item, pushes_then}
 use Rattle.sas_answers.proofs.sink.Sink.push_rest.Goals as goal
 
@@ -9,3 +10,6 @@ pub loop-word-preserved : goal.loop-word-preserved
 loop-word-preserved g c =
     let contents = g.W.Write.contents in
     pushes_item contents behind_space _ _ no_word _ _ _ c.loop-word-test.true c.loop-word.invariant (pushes_then contents _ _ _ _ _ c.push.ensures c.push_word.ensures)
+
+pub returns : goal.returns
+returns g c = grind (arith, common_steps)
