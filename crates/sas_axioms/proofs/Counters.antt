@@ -1,5 +1,5 @@
 -- The counters of a worklist.
-use Rattle.sas_axioms.proofs.Imports.{◌≡◌, ◌≢◌, ℕ, ◌+◌, ◌<◌, ◌≤◌, ◌==◌, ◌⊎◌, Vec, Global, true, cond, List, [], ◌∷◌, ◌++◌, length, get_or, set, refl, sym, ◌∙◌, ap, subst, inl, inr, arith, cases_eq, eqb_tells, get_or-set_same, get_or-set_other, length-set, length-append, vec_capacity, Fact, Parts, rule_at, IsState, WellRanged, Holds, AllHold, IsOnLayer, on_layer_within, default_of, IsRuleOn, open_conditions, occurrences, asking, ValueChange, RuleCondition, waiting_at, IsFullIndex, Work, value_seen, IsRunning, AreCountedBy, IsFiring, IsAtWork, WorkGoesOn, with_source, left_to_do, IsLayered, differs, IsSettledAt, AtDefault, equal_places, All, All-nil, All-cons, All-head, All-tail, Fired, fired_there, rule_new, differs_true, differs_same, differs_not, fact_within, forced_at_default, no_effect}
+use Rattle.sas_axioms.proofs.Imports.{◌≡◌, ◌≢◌, ℕ, ◌+◌, ◌<◌, ◌≤◌, ◌⊎◌, Vec, Global, true, cond, List, [], ◌∷◌, ◌++◌, length, get_or, set, refl, sym, ◌∙◌, ap, subst, inl, inr, arith, cases_eq, eqb_tells, get_or-set_same, get_or-set_other, length-set, length-append, vec_capacity, Fact, Parts, rule_at, IsState, WellRanged, Holds, AllHold, IsOnLayer, on_layer_within, default_of, IsRuleOn, open_conditions, occurrences, asking, ValueChange, RuleCondition, waiting_at, IsFullIndex, Work, value_seen, IsRunning, AreCountedBy, IsFiring, IsAtWork, WorkGoesOn, with_source, left_to_do, IsLayered, differs, IsSettledAt, AtDefault, equal_places, All, All-nil, All-cons, All-head, All-tail, Fired, fired_there, rule_new, differs_true, differs_same, differs_not, fact_within, forced_at_default, no_effect}
 use Rattle.sas_axioms.proofs.AllConditions.{can_recount, open_changed}
 use Rattle.sas_axioms.proofs.CountingEntries.{CanRecount, CountersSoFar, counters_after, left_over}
 use Rattle.sas_axioms.proofs.Sources.{given_when_fired, settled_when_set}

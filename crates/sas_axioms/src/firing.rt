@@ -292,7 +292,6 @@ fn fire<T: Grounded>(layered: &Layered<T>, rule: u32, work: &mut Work, state: &m
 
 /// Updates the counters of the rules with conditions on the variable, which has been set. Fires the rules of the layer whose counter
 /// becomes 0, and pushes their variables on the stack.
-#[tactic(auto, using(crate::proofs::Counters::top_within))]
 fn release<T: Grounded>(
     indexed: &IndexedRules<'_, '_, T>,
     var: u32,

@@ -53,7 +53,6 @@ fn is_late<T: Grounded>(layered: &Layered<T>, layer: u32, rule: u32) -> bool
 }
 
 /// Returns the rules of each variable that can fire, in the order of the task.
-#[tactic(auto, using(crate::proofs::RuleChanges::change_within))]
 pub fn rules_of_variables<T: Grounded>(
     alloc: Global,
     layered: &Layered<T>,

@@ -1,6 +1,6 @@
 -- Each group has exactly one joint verdict; that it exists is stated as a double negation, like
 -- each step of the proof.
-use Rattle.sas_groups.proofs.Imports.{◌≡◌, ℕ, zero, suc, ◌<◌, ◌≤◌, Bool, false, List, length, refl, sym, subst, inl, inr, arith, ◌||◌, cases_eq, cases_order, false≢true, get_or_default, Fact, Parts, operator_at, group_at, rules, common_steps, Exclusive, Derived, Broken, Keeps, IsIn, AllKeep, IsKeptJointly, IsGreatest, IsGroupOfOr, IsExclusiveIn, IsOnBasic, MayBeExclusive, IsFirstBreaking, GreatestExists, JointVerdictIsOne, SomeJointVerdict}
+use Rattle.sas_groups.proofs.Imports.{◌≡◌, ℕ, zero, suc, ◌<◌, ◌≤◌, Bool, false, List, length, refl, sym, ap, subst, inl, inr, arith, ◌||◌, cases_eq, cases_order, false≢true, get_or_default, Fact, Parts, operator_at, group_at, Exclusive, Derived, Broken, Keeps, IsIn, AllKeep, IsKeptJointly, IsGreatest, IsGroupOfOr, IsExclusiveIn, IsOnBasic, MayBeExclusive, IsFirstBreaking, GreatestExists, JointVerdictIsOne, SomeJointVerdict}
 use Rattle.sas_groups.specs.declared.verdict.Verdict.TheVariants.{Initial}
 use Rattle.sas_groups.proofs.GreatestFamily.{keeps_more, in_first, in_second, families_unite, greatest_is_one, outside_is_broken}
 
@@ -12,17 +12,29 @@ record IsGreatestBelow (p : Parts) (end : ℕ) (family : ℕ → Bool) : Type 0 
   has : (other : ℕ → Bool) → IsKeptJointly p other → (place : ℕ) → place < end → IsIn p other place → IsIn p family place
 
 none_is_kept : (p : Parts) → IsKeptJointly p (λ place. false)
-none_is_kept p = grind (arith, common_steps, false≢true)
+none_is_kept p = record { may = λ place among. absurd (false≢true among.chosen); kept = λ place among. absurd (false≢true among.chosen) }
 
 -- it is so for one place more, if no family that is kept jointly has that place
 one_more_place : (p : Parts) (end : ℕ) (family : ℕ → Bool) → IsGreatestBelow p end family
     → ((other : ℕ → Bool) → IsKeptJointly p other → IsIn p other end → ⊥) → IsGreatestBelow p (suc end) family
-one_more_place p end family below no_other = grind (arith, common_steps, cases_eq)
+one_more_place p end family below no_other = record {
+  jointly = below.jointly;
+  has = λ other kept place lt among. elim (cases_eq place end) [
+    | inl is ↦ absurd (no_other other kept (subst (IsIn p other) is among))
+    | inr ne ↦ below.has other kept place (omega arith) among
+  ];
+}
 
 -- if one has it, the two families together are so
 with_other : (p : Parts) (end : ℕ) (family other : ℕ → Bool) → IsGreatestBelow p end family
     → IsKeptJointly p other → IsIn p other end → IsGreatestBelow p (suc end) (λ n. family n || other n)
-with_other p end family other below kept here = grind (arith, common_steps, families_unite, cases_eq, in_second, in_first)
+with_other p end family other below kept here = record {
+  jointly = families_unite p family other below.jointly kept;
+  has = λ more kept' place lt among. elim (cases_eq place end) [
+    | inl is ↦ in_second p family other place (subst (IsIn p other) (sym is) here)
+    | inr ne ↦ in_first p family other place (below.has more kept' place (omega arith) among)
+  ];
+}
 
 greatest_exists_below : (p : Parts) (end : ℕ) → ((family : ℕ → Bool) → IsGreatestBelow p end family → ⊥) → ⊥
 greatest_exists_below p zero none = none (λ place. false) (record {
@@ -83,7 +95,7 @@ first_breaking_is_one p Counts More group a b more fewer first first' = elim (ca
 -- under two greatest families the same groups count, also with one group beside them
 pub same_or_itself : (p : Parts) (a b : ℕ → Bool) (itself : List Fact) → IsGreatest p a → IsGreatest p b
     → (group : List Fact) → IsGroupOfOr p a itself group → IsGroupOfOr p b itself group
-same_or_itself p a b itself ga gb group counts = grind (arith, common_steps, greatest_is_one)
+same_or_itself p a b itself ga gb group counts = elim counts [ inl of ↦ inl (of.0, greatest_is_one p a b ga gb of.0 of.1, of.2) | inr is ↦ inr is ]
 
 -- a group of the greatest family may be exclusive
 may_be : (p : Parts) (family : ℕ → Bool) (place : ℕ) → IsGreatest p family → IsIn p family place → MayBeExclusive p (group_at p place)
@@ -93,7 +105,7 @@ pub joint_verdict_is_one : JointVerdictIsOne
 joint_verdict_is_one p place Exclusive Exclusive exists x y = refl
 joint_verdict_is_one p place Exclusive Derived exists (family, greatest, among) y = absurd (y (may_be p family place greatest among).basic)
 joint_verdict_is_one p place Exclusive Initial exists (family, greatest, among) y = absurd (y.1 (may_be p family place greatest among).initial)
-joint_verdict_is_one p place Exclusive (Broken b) exists (family, greatest, among) (family', greatest', outside, basic, initial, first) = grind (arith, common_steps, greatest_is_one)
+joint_verdict_is_one p place Exclusive (Broken b) exists (family, greatest, among) (family', greatest', outside, basic, initial, first) = absurd (outside (greatest_is_one p family family' greatest greatest' place among))
 joint_verdict_is_one p place Derived Exclusive exists x (family, greatest, among) = absurd (x (may_be p family place greatest among).basic)
 joint_verdict_is_one p place Derived Derived exists x y = refl
 joint_verdict_is_one p place Derived Initial exists x y = absurd (x y.0)
@@ -102,10 +114,12 @@ joint_verdict_is_one p place Initial Exclusive exists x (family, greatest, among
 joint_verdict_is_one p place Initial Derived exists x y = absurd (y x.0)
 joint_verdict_is_one p place Initial Initial exists x y = refl
 joint_verdict_is_one p place Initial (Broken b) exists x (family, greatest, outside, basic, initial, first) = absurd (x.1 initial)
-joint_verdict_is_one p place (Broken a) Exclusive exists (family, greatest, outside, basic, initial, first) (family', greatest', among) = grind (arith, common_steps, greatest_is_one)
+joint_verdict_is_one p place (Broken a) Exclusive exists (family, greatest, outside, basic, initial, first) (family', greatest', among) = absurd (outside (greatest_is_one p family' family greatest' greatest place among))
 joint_verdict_is_one p place (Broken a) Derived exists (family, greatest, outside, basic, initial, first) y = absurd (y basic)
 joint_verdict_is_one p place (Broken a) Initial exists (family, greatest, outside, basic, initial, first) y = absurd (y.1 initial)
-joint_verdict_is_one p place (Broken a) (Broken b) exists (family, greatest, outside, basic, initial, first) (family', greatest', outside', basic', initial', first') = search (rules, arith, first_breaking_is_one, same_or_itself)
+joint_verdict_is_one p place (Broken a) (Broken b) exists (family, greatest, outside, basic, initial, first) (family', greatest', outside', basic', initial', first') =
+    ap (λ n. Broken n) (first_breaking_is_one p (IsGroupOfOr p family (group_at p place)) (IsGroupOfOr p family' (group_at p place)) (group_at p place) a b
+    (same_or_itself p family family' (group_at p place) greatest greatest') (same_or_itself p family' family (group_at p place) greatest' greatest) first first')
 
 pub some_joint_verdict : SomeJointVerdict
 some_joint_verdict p place exists none = none Derived (λ basic. none Initial (basic, λ initial. greatest_exists p (broken basic initial)))

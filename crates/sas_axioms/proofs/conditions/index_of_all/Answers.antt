@@ -1,6 +1,6 @@
 -- Each iteration appends the conditions of a rule that can fire, or skips a rule that can't. Grouped
 -- by variable, they form an index.
-use Rattle.sas_axioms.proofs.Imports.{◌≡◌, ◌∙◌, arith, by_key}
+use Rattle.sas_axioms.proofs.Imports.{arith, by_key}
 use Rattle.sas_axioms.proofs.AllConditions.{conditions_more, conditions_skip, conditions_index}
 use Rattle.sas_axioms.proofs.conditions.index_of_all.Goals as goal
 use Rattle.sas_axioms.proofs.conditions.index_of_all.Goals.{in-Some+in_ok-push_conditions, in_default}

@@ -1,5 +1,5 @@
 -- The entry of one more condition is appended.
-use Rattle.sas_axioms.proofs.Imports.{◌≡◌, ℕ, ◌+◌, ◌<◌, ◌≤◌, List, [], ◌∷◌, ◌++◌, length, get_or, drop, sym, ap, ◌∙◌, arith, append_snoc, drop_all, drop_more, Fact, rule_at, Entry, RuleCondition, entries, waiting_entry}
+use Rattle.sas_axioms.proofs.Imports.{◌≡◌, ℕ, ◌+◌, ◌<◌, List, [], ◌∷◌, ◌++◌, length, get_or, drop, sym, ap, ◌∙◌, arith, append_snoc, drop_all, drop_more, Fact, rule_at, Entry, RuleCondition, entries, waiting_entry}
 use Rattle.std.proofs.Common.{append-nil}
 use Rattle.sas_axioms.proofs.conditions.push_conditions.Goals as goal
 

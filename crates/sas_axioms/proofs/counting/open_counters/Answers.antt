@@ -1,6 +1,6 @@
 -- The conditions of one more rule are counted.
 use Rattle.std.proofs.lemmas.Grind.{common_steps}
-use Rattle.sas_axioms.proofs.Imports.{◌≡◌, ℕ, ◌+◌, ◌<◌, List, [], ◌∷◌, ◌++◌, length, get_or, ◌∙◌, arith, slice_index, cases_eq, get_or_append_left, get_or_push, rule_at, open_conditions}
+use Rattle.sas_axioms.proofs.Imports.{◌≡◌, ℕ, ◌+◌, ◌<◌, List, [], ◌∷◌, ◌++◌, length, get_or, arith, slice_index, cases_eq, get_or_append_left, get_or_push, rule_at, open_conditions}
 use Rattle.std.proofs.lemmas.List.{length-append}
 use Rattle.sas_axioms.proofs.counting.open_counters.Goals as goal
 

@@ -1,6 +1,6 @@
 -- One more entry is counted.
 use Rattle.sas_axioms.proofs.Imports.{◌≡◌, ◌<◌, ◌≤◌, [], ◌∷◌, ◌++◌, length, get_or, set, vec_capacity, ap, ◌∙◌, arith, rule_at, All, ValueChange, IsOfRule, IsRuleOn}
-use Rattle.sas_axioms.proofs.Counters.{goes_on_still, popped_running, can_release, ready_so_far, released_on, released_room, released_fired, at_work_again}
+use Rattle.sas_axioms.proofs.Counters.{top_within, goes_on_still, popped_running, can_release, ready_so_far, released_on, released_room, released_fired, at_work_again}
 use Rattle.sas_axioms.proofs.CountingEntries.{CanRecount, no_entry, counters_before, counters_passed, counters_set, its_count, can_count}
 use Rattle.sas_axioms.proofs.firing.release.Goals as goal
 use Rattle.sas_axioms.proofs.firing.release.Goals.{in-Some+then-has_to_fire, in-Some+else-has_to_fire, in_default}
@@ -44,10 +44,9 @@ unwrap-requires g c =
     let of_rule : All (IsOfRule p) ws = rw c.get-waiting-items.ensures (valid.full.only c.args.var) in
     let exists : rule < length w0.counters = omega (arith, (of_rule i no_entry lt).1.exists, c.requires.firing.room.one_each) in
     let next = counters_set moved ws i w0.counters work.counters lt inv.counters c.in-Some.count c.set.new.self exists c.set.ensures c.in-Some.ensures.some in
-    let none = c.has_to_fire.ensures.none c.if-has_to_fire.true in
     let on : IsRuleOn p work.layer rule = rw c.indexed.view_is at c.has_to_fire.ensures.on c.if-has_to_fire.true in
     let hold = ready_so_far p c.indexed.inside.waiting.now c.args.var s0 w0 valid.layered valid.full c.requires i s work c.set.new.self rule (rw (c.get-waiting-items.ensures, (rw c.indexed.view_is at c.initial_value.ensures), c.value.ensures) at inv) (rw (c.get-waiting-items.ensures, (rw c.indexed.view_is at c.initial_value.ensures), c.value.ensures) at next)
-    (rw inv.goes_on.layer at on) (its_count moved ws i w0.counters work.counters lt inv.counters c.in-Some.count c.set.new.self exists c.set.ensures ∙ none) in
+    (rw inv.goes_on.layer at on) (its_count moved ws i w0.counters work.counters lt inv.counters c.in-Some.count c.set.new.self exists c.set.ensures ∙ c.has_to_fire.ensures.none c.if-has_to_fire.true) in
     let room = released_room p moved ws i s0 w0 s work c.set.new.self rule c.in-Some.count inv next (omega (arith, exists, inv.counters.one_each)) c.set.ensures valid.ranged valid.layered on hold
     (rw c.indexed.view_is at c.has_to_fire.ensures.other c.if-has_to_fire.true) in
     c.push.ensures.succeeds (rw c.fire-fired.ensures.work (omega (arith, room, work.stack.ok.0)))
@@ -104,3 +103,15 @@ returns-clause-at_work g c =
     at_work_again c.args.indexed.now c.indexed.inside.waiting.now c.args.var c.args.state.now c.args.work.now valid.layered valid.full c.requires
     c.loop-waiting.waiting-index c.loop-waiting.state c.loop-waiting.work (rw (c.get-waiting-items.ensures, (rw c.indexed.view_is at c.initial_value.ensures), c.value.ensures) at c.loop-waiting.invariant)
     (omega (arith, ap length c.get-waiting-items.ensures))
+
+pub initial_value-requires : goal.initial_value-requires
+initial_value-requires g c = rw c.indexed.view_is (top_within c.args.indexed.now c.args.work.now.layer c.args.state.now c.args.work.now.stack.items c.args.var c.requires.firing.running)
+
+pub value-requires : goal.value-requires
+value-requires g c = rw c.requires.firing.running.state.one_each (top_within c.args.indexed.now c.args.work.now.layer c.args.state.now c.args.work.now.stack.items c.args.var c.requires.firing.running)
+
+pub get-waiting-items-requires : goal.get-waiting-items-requires
+get-waiting-items-requires g c = rw (rw c.indexed.view_is at c.indexed.invariant).full.one_each (top_within c.args.indexed.now c.args.work.now.layer c.args.state.now c.args.work.now.stack.items c.args.var c.requires.firing.running)
+
+pub fire-fired-requires : goal.fire-fired-requires
+fire-fired-requires g c = rw c.indexed.view_is record { rule = (rw c.indexed.view_is at c.has_to_fire.ensures.on c.if-has_to_fire.true).exists; state = c.loop-waiting.invariant.firing.running.state.one_each; sources = c.loop-waiting.invariant.firing.room.sources }

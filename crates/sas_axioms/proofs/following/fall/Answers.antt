@@ -1,5 +1,5 @@
 -- The rules are removed one by one: each resets its variable or becomes ready.
-use Rattle.sas_axioms.proofs.Imports.{◌≡◌, ◌⊎◌, ℕ, ◌<◌, true, ◌∷◌, [], length, get_or, set, is_some, refl, ap, subst, ◌∙◌, inl, arith, All, Contains, heap_items, length-append, Change, rule_at, IsState, default_of, differs, on_layer_within, state_set, differs_not, Agenda, work_left, IsFalling, IsRuleOn, IsHolding}
+use Rattle.sas_axioms.proofs.Imports.{◌≡◌, ◌⊎◌, ℕ, ◌<◌, true, ◌∷◌, [], length, get_or, set, is_some, refl, sym, ap, subst, ◌∙◌, inl, inr, arith, All, Contains, heap_items, length-append, Change, rule_at, IsState, default_of, differs, on_layer_within, state_set, differs_not, Agenda, work_left, IsFalling, IsRuleOn, IsHolding}
 use Rattle.sas_axioms.proofs.RulesOf.{rules_on, rule_under}
 use Rattle.sas_axioms.proofs.FallingSteps.{falling_passed, falling_fell, risen_from_fallen, fallen_is, less_in_the_end}
 use Rattle.sas_axioms.proofs.Tracking.{awaited_on, holding_when_zero, off_step, covered_step}
@@ -7,11 +7,8 @@ use Rattle.sas_axioms.proofs.following.fall.Goals as goal
 use Rattle.sas_axioms.proofs.following.fall.Given.{Over}
 use Rattle.sas_axioms.proofs.following.fall.Goals.{In-Some}
 
-pub take-requires-clause-ordered : goal.take-requires-clause-ordered
-take-requires-clause-ordered g c = (c.loop-rule.invariant.falling c.requires.falling.0 c.requires.falling.1).track.ordered
-
-pub take-requires-clause-lowest : goal.take-requires-clause-lowest
-take-requires-clause-lowest g c = (c.loop-rule.invariant.falling c.requires.falling.0 c.requires.falling.1).track.from
+pub take-requires : goal.take-requires
+take-requires g c = let track = (c.loop-rule.invariant.falling c.requires.falling.0 c.requires.falling.1).track in record { ordered = track.ordered; lowest = track.from }
 
 -- what held before
 some : (g : Over) (c : In-Some g) → IsFalling c.args.indexed.now c.requires.falling.0 c.loop-rule.state c.loop-rule.work
@@ -23,8 +20,8 @@ on g c = awaited_on c.args.indexed.now c.loop-rule.work.layer c.in-Some.rule c.l
 within : (g : Over) (c : In-Some g) → (rule_at c.args.indexed.now c.in-Some.rule).var < length c.args.indexed.now.variables
 within g c = on_layer_within c.args.indexed.now c.loop-rule.work.layer (rule_at c.args.indexed.now c.in-Some.rule).var (on g c).on
 
-pub has_lost-requires-clause-rule : goal.has_lost-requires-clause-rule
-has_lost-requires-clause-rule g c = rw c.indexed.view_is (c.loop-rule.work.layer, on g c)
+pub has_lost-requires : goal.has_lost-requires
+has_lost-requires g c = rw c.indexed.view_is record { rule = (c.loop-rule.work.layer, on g c); state = c.loop-rule.invariant.state; counters = (some g c).track.counts.one_each; places = (some g c).track.places }
 
 pub rule_change-var-requires : goal.rule_change-var-requires
 rule_change-var-requires g c = rw c.indexed.view_is (on g (goal.at.rule_change-var-requires g c).In-Some).exists
@@ -32,17 +29,19 @@ rule_change-var-requires g c = rw c.indexed.view_is (on g (goal.at.rule_change-v
 pub initial_value-value-requires : goal.initial_value-value-requires
 initial_value-value-requires g c = rw (c.indexed.view_is, ap (λ (x : Change). x.var) (rw c.indexed.view_is at c.rule_change-var.ensures)) (within g (goal.at.initial_value-value-requires g c).In-Some)
 
-pub set_to-requires-clause-counts : goal.set_to-requires-clause-counts
-set_to-requires-clause-counts g c = (some g (goal.at.set_to-requires-clause-counts g c).In-Some).track.counts
-
-pub set_to-requires-clause-derived : goal.set_to-requires-clause-derived
-set_to-requires-clause-derived g c = rw (ap (λ (x : Change). x.var) (rw c.indexed.view_is at c.rule_change-var.ensures)) (ap is_some (on g (goal.at.set_to-requires-clause-derived g c).In-Some).on)
+pub set_to-requires : goal.set_to-requires
+set_to-requires g c =
+    let read = rw c.indexed.view_is at c.rule_change-var.ensures in
+    record {
+      counts = (some g (goal.at.set_to-requires g c).In-Some).track.counts;
+      ordered = rw c.in_ok-make_ready.ensures.noted c.in-Some.ensures.some.ordered;
+      derived = rw (ap (λ (x : Change). x.var) read) (ap is_some (on g (goal.at.set_to-requires g c).In-Some).on);
+      other = λ same. differs_not c.args.indexed.now c.loop-rule.state (rule_at c.args.indexed.now c.in-Some.rule).var ((rw c.indexed.view_is at c.has_lost.ensures).yes c.if-has_lost.true)
+          (ap (λ (x : Change). get_or c.loop-rule.state x.var 0) (sym read) ∙ (same ∙ ((rw c.indexed.view_is at c.initial_value-value.ensures) ∙ ap (λ (x : Change). default_of c.args.indexed.now x.var) read)));
+    }
 
 pub get-requires : goal.get-requires
 get-requires g c = rw (ap (λ (x : Change). x.var) (rw c.indexed.view_is at c.rule_change-var.ensures)) (omega (arith, within g (goal.at.get-requires g c).In-Some, (rw c.indexed.view_is at c.indexed.invariant).all.one_each))
-
-pub set_to-requires-clause-other : goal.set_to-requires-clause-other
-set_to-requires-clause-other g c same = search (arith, rule_at, differs_not, true, get_or, default_of)
 
 -- less is left than there was, where less is left than before
 less : (a a0 a' : Agenda) → (work_left a < work_left a0) ⊎ (a ≡ a0) → work_left a' < work_left a → work_left a' < work_left a0
@@ -73,12 +72,7 @@ loop-rule-preserved-in-Continue-branch-2 g c =
     let each : (other : ℕ) → IsRuleOn p work.layer other → (rule_at p other).var ≡ (rule_at p rule).var → Contains c.get.result.now other =
     λ other on e. rw (c.get.ensures, var_is) (subst (λ v. Contains (get_or c.indexed.inside.setting.now v []) other) e (rule_under p c.indexed.inside.setting.now (rw c.indexed.view_is at c.indexed.invariant).all work.layer other on)) in
     rw state_is record {
-      same = record {
-        layer = c.set_to.ensures.same.layer ∙ inv.same.layer;
-        stack = c.set_to.ensures.same.stack ∙ inv.same.stack;
-        one_each = c.set_to.ensures.same.one_each ∙ inv.same.one_each;
-        sources = c.set_to.ensures.same.sources ∙ inv.same.sources;
-      };
+      same = record { layer = c.set_to.ensures.same.layer ∙ inv.same.layer; stack = c.set_to.ensures.same.stack ∙ inv.same.stack; one_each = c.set_to.ensures.same.one_each ∙ inv.same.one_each; sources = c.set_to.ensures.same.sources ∙ inv.same.sources };
       state = state;
       off = off_step p c.args.work.now.layer work.layer c.args.state.now s (set s (rule_at p rule).var (default_of p (rule_at p rule).var)) (rule_at p rule).var (default_of p (rule_at p rule).var) inv.same.layer inv.off is.on refl;
       covered = covered_step p work.layer c.args.state.now s (set s (rule_at p rule).var (default_of p (rule_at p rule).var)) (rule_at p rule).var (default_of p (rule_at p rule).var)
@@ -110,13 +104,22 @@ loop-rule-preserved g c =
     }
 
 pub returns-clause-left : goal.returns-clause-left
-returns-clause-left g c = search (arith, less_in_the_end)
+returns-clause-left g c = less_in_the_end c.args.work.now.layer c.requires.noted.0 c.args.work.now.agenda c.take.new.self c.requires.noted.1 (rw c.loop-rule.invariant.same.layer at c.in_default.ensures.none) (rw c.in_default.ensures.same c.loop-rule.invariant.left)
 
 pub returns-in_err-set_to-clause-covered : goal.returns-in_err-set_to-clause-covered
 returns-in_err-set_to-clause-covered g c = rw (c.in_err-set_to.ensures.unchanged, c.in_err-set_to.ensures.untouched) c.loop-rule.invariant.covered
+
+pub returns-in_err-set_to-clause-state : goal.returns-in_err-set_to-clause-state
+returns-in_err-set_to-clause-state g c = rw c.in_err-set_to.ensures.unchanged c.loop-rule.invariant.state
+
+pub returns-in_err-set_to-clause-off : goal.returns-in_err-set_to-clause-off
+returns-in_err-set_to-clause-off g c = rw c.in_err-set_to.ensures.unchanged c.loop-rule.invariant.off
 
 pub loop-rule-smaller-in-Continue-branch-2 : goal.loop-rule-smaller-in-Continue-branch-2
 loop-rule-smaller-in-Continue-branch-2 g c = search (arith)
 
 pub loop-rule-smaller : goal.loop-rule-smaller
 loop-rule-smaller g c = search (arith, length, length-append, heap_items)
+
+pub loop-rule-init : goal.loop-rule-init
+loop-rule-init g c = record { same = record { layer = refl; stack = refl; one_each = refl; sources = refl }; state = c.requires.falling.1.track.state; off = λ v off. refl; covered = λ before covers. covers; falling = λ s falling. falling; left = inr refl }

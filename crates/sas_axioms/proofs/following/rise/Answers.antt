@@ -6,11 +6,8 @@ use Rattle.sas_axioms.proofs.following.rise.Goals as goal
 use Rattle.sas_axioms.proofs.following.rise.Given.{Over}
 use Rattle.sas_axioms.proofs.following.rise.Goals.{In-Some}
 
-pub next-requires-clause-ordered : goal.next-requires-clause-ordered
-next-requires-clause-ordered g c = (c.loop-rule.invariant.rising c.requires.0 c.requires.1).track.ordered
-
-pub next-requires-clause-lowest : goal.next-requires-clause-lowest
-next-requires-clause-lowest g c = (c.loop-rule.invariant.rising c.requires.0 c.requires.1).track.from
+pub next-requires : goal.next-requires
+next-requires g c = let track = (c.loop-rule.invariant.rising c.requires.0 c.requires.1).track in record { ordered = track.ordered; lowest = track.from }
 
 -- what held before
 some : (g : Over) (c : In-Some g) → IsRising c.args.indexed.now c.requires.0 c.loop-rule.state c.loop-rule.work
@@ -22,17 +19,21 @@ on g c = awaited_on c.args.indexed.now c.loop-rule.work.layer c.in-Some.rule c.l
 within : (g : Over) (c : In-Some g) → (rule_at c.args.indexed.now c.in-Some.rule).var < length c.args.indexed.now.variables
 within g c = on_layer_within c.args.indexed.now c.loop-rule.work.layer (rule_at c.args.indexed.now c.in-Some.rule).var (on g c).on
 
-pub has_to_set-requires-clause-rule : goal.has_to_set-requires-clause-rule
-has_to_set-requires-clause-rule g c = rw c.indexed.view_is (c.loop-rule.work.layer, on g c)
+pub has_to_set-requires : goal.has_to_set-requires
+has_to_set-requires g c = rw c.indexed.view_is record { rule = (c.loop-rule.work.layer, on g c); state = c.loop-rule.invariant.state; counters = (some g c).track.counts.one_each }
 
 pub rule_change-change-requires : goal.rule_change-change-requires
 rule_change-change-requires g c = rw c.indexed.view_is (on g (goal.at.rule_change-change-requires g c).In-Some).exists
 
-pub set_to-requires-clause-counts : goal.set_to-requires-clause-counts
-set_to-requires-clause-counts g c = (some g (goal.at.set_to-requires-clause-counts g c).In-Some).track.counts
-
-pub set_to-requires-clause-derived : goal.set_to-requires-clause-derived
-set_to-requires-clause-derived g c = rw (ap (λ (x : Change). x.var) (rw c.indexed.view_is at c.rule_change-change.ensures)) (ap is_some (on g (goal.at.set_to-requires-clause-derived g c).In-Some).on)
+pub set_to-requires : goal.set_to-requires
+set_to-requires g c =
+    let read = rw c.indexed.view_is at c.rule_change-change.ensures in
+    record {
+      counts = (some g (goal.at.set_to-requires g c).In-Some).track.counts;
+      ordered = c.in-Some.ensures.some.ordered;
+      derived = rw (ap (λ (x : Change). x.var) read) (ap is_some (on g (goal.at.set_to-requires g c).In-Some).on);
+      other = rw read ((rw c.indexed.view_is at c.has_to_set.ensures).other c.if-has_to_set.true);
+    }
 
 -- the rule holds
 holds : (g : Over) (i : In-Some g) → get_or i.loop-rule.work.counters i.in-Some.rule 0 ≡ 0 → IsHolding i.args.indexed.now i.loop-rule.state i.in-Some.rule

@@ -1,5 +1,5 @@
 -- The layers are settled one by one.
-use Rattle.sas_axioms.proofs.Imports.{arith, ◌+◌, ◌≤◌, length, get_or, sym, ap, subst, ◌∙◌, heap_items, IsOnLayer, SameOff, basic_off, entry_for, IsFalling}
+use Rattle.sas_axioms.proofs.Imports.{arith, ◌+◌, ◌≤◌, length, get_or, refl, sym, ap, subst, ◌∙◌, heap_items, IsOnLayer, SameOff, basic_off, entry_for, IsFalling}
 use Rattle.sas_axioms.proofs.RisingSteps.{falling_begins, between_again, followed_when_none}
 use Rattle.sas_axioms.proofs.following.settle_gone.Goals as goal
 use Rattle.sas_axioms.proofs.following.settle_gone.Given.{Over}
@@ -60,3 +60,16 @@ loop-layer-preserved g c =
             (c.in_ok-rise.ensures.risen s0 (c.in_ok-fall.ensures.rising s0 (begins g i))),
       );
     }
+
+pub returns-in_err-fall-clause-basic : goal.returns-in_err-fall-clause-basic
+returns-in_err-fall-clause-basic g c v basic =
+    c.loop-layer.invariant.basic v basic ∙ basic_off c.args.indexed.now c.in-Some.layer c.loop-layer.state c.fall.new.state c.loop-layer.invariant.between.2.layered c.fall.ensures.off v basic
+
+pub returns-in_err-rise-clause-basic : goal.returns-in_err-rise-clause-basic
+returns-in_err-rise-clause-basic g c v basic =
+    let layered = c.loop-layer.invariant.between.2.layered in
+    c.loop-layer.invariant.basic v basic ∙ (basic_off c.args.indexed.now c.in-Some.layer c.loop-layer.state c.fall.new.state layered c.fall.ensures.off v basic
+    ∙ basic_off c.args.indexed.now c.fall.new.work.layer c.fall.new.state c.rise.new.state layered c.rise.ensures.off v basic)
+
+pub loop-layer-init : goal.loop-layer-init
+loop-layer-init g c = record { stack = c.count_gone.ensures.same.stack; one_each = c.count_gone.ensures.same.one_each; sources = ap length c.count_gone.ensures.same.sources; state = c.requires.state; basic = λ v basic. refl; covered = λ before covers. covers; between = (c.in_ok-count_gone.ensures.between.0, 0, c.in_ok-count_gone.ensures.between.1) }

@@ -1,5 +1,5 @@
 -- One more condition isn't on a lower layer.
-use Rattle.sas_axioms.proofs.Imports.{◌≡◌, ◌<◌, length, get_or, ◌∙◌, arith, cases_eq, get_or_default, layer_of, rule_at}
+use Rattle.sas_axioms.proofs.Imports.{length, get_or, arith, cases_eq, get_or_default, layer_of, rule_at}
 use Rattle.sas_axioms.proofs.layer_rules.is_late.Goals as goal
 use Rattle.sas_axioms.proofs.layer_rules.is_late.Goals.{in-Some+else-its-layer, in_default}
 

@@ -1,5 +1,6 @@
 -- Each turn adds the entry of a rule that can fire, or passes one that can't.
-use Rattle.sas_axioms.proofs.Imports.{◌≡◌, ◌<◌, length, sym, ap, subst, ◌∙◌, arith, Change, rule_at, by_key, default_of, fact_within, rule_new}
+use Rattle.sas_axioms.proofs.Imports.{◌≡◌, ◌<◌, length, sym, ap, subst, ◌∙◌, arith, Parts, Change, rule_at, by_key, default_of, fact_within, rule_new}
+use Rattle.sas_axioms.proofs.RuleChanges.{change_within}
 use Rattle.sas_axioms.proofs.RulesOf.{RulesTo, rules_none, rules_skip, rules_more, rules_index}
 use Rattle.sas_axioms.proofs.layer_rules.rules_of_variables.Goals as goal
 use Rattle.sas_axioms.proofs.layer_rules.rules_of_variables.Goals.{then-change-initial_value+in_ok-push, else-change-initial_value}
@@ -27,3 +28,8 @@ loop-rule-preserved g c =
 
 pub returns : goal.returns
 returns g c = search (arith, by_key, rules_index)
+
+pub initial_value-requires : goal.initial_value-requires
+initial_value-requires g c =
+    let task = c.task-task.ensures.task in
+    change_within c.args.layered.now c.task-task.ensures.well_ranged c.loop-rule.rule (omega (arith, (rw task at c.rules-rule-end.ensures), c.loop-rule-test.true)) c.rule_change-change.result (rw task at c.rule_change-change.ensures) _ (ap (λ (p : Parts). length p.variables) task)

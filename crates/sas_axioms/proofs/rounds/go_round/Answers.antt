@@ -1,4 +1,4 @@
-use Rattle.sas_axioms.proofs.Imports.{◌≡◌, ◌<◌, length, get_or, set, sym, ◌∙◌, subst, inl, inr, arith, rules, cases_eq, get_or_default, rule_at, HasFired, Fired, fired_there, no_effect}
+use Rattle.sas_axioms.proofs.Imports.{◌≡◌, ◌<◌, length, get_or, set, sym, ◌∙◌, ap, Change, subst, inl, inr, arith, cases_eq, get_or_default, rule_at, HasFired, Fired, fired_there, no_effect}
 use Rattle.sas_axioms.proofs.rounds.go_round.Goals as goal
 use Rattle.sas_axioms.proofs.rounds.go_round.Goals.{then-changes, else-changes}
 
@@ -9,11 +9,11 @@ loop-rule-preserved g c =
     let s = c.loop-rule.state in
     let k = c.loop-rule.rule in
     let inv = c.loop-rule.invariant in
-    let within : k < length p.rules = search rules in
+    let within : k < length p.rules = omega (arith, (rw c.task-task.ensures.task at c.rules-rule-end.ensures), c.loop-rule-test.true) in
     elim c.if-changes.branch [
       | then-changes w ↦
           (let f : Fired p layer s (rule_at p k) = fired_there p layer s k no_effect c.task-task.ensures.well_ranged c.task-task.ensures.layered inv.state inv.forced within (c.changes.ensures.yes w.if-changes.true) in
-          let is : c.if-changes.state ≡ set s (rule_at p k).var (rule_at p k).new = search rules in
+          let is : c.if-changes.state ≡ set s (rule_at p k).var (rule_at p k).new = w.state-is ∙ (w.set.ensures ∙ ap (λ (x : Change). set s x.var x.new) (rw c.task-task.ensures.task at w.rule_change-change.ensures)) in
           let fewer = f.fewer in
           let was = inv.fewer in
           rw is record {

@@ -1,5 +1,5 @@
 -- Only the records of the fact's variable and groups change.
-use Rattle.sas_groups.proofs.Imports.{ℕ, ◌≡◌, length, ◌∙◌, cases_eq, eqb-false, length-set, get_or-set_other, arith, common_steps, value_note}
+use Rattle.sas_groups.proofs.Imports.{length, cases_eq, eqb-false, length-set, get_or-set_other, arith, common_steps, value_note}
 use Rattle.sas_groups.proofs.notes.note.Goals as goal
 
 pub returns-in-Some-clause-no : goal.returns-in-Some-clause-no

@@ -1,6 +1,6 @@
 -- A group of the one fact that is in the family contains the other fact, or doesn't.
 use Rattle.std.proofs.lemmas.Grind.{common_steps}
-use Rattle.sas_groups.proofs.Imports.{ℕ, length, get_or, ◌∙◌, below_more, arith, true≢false, get_or_default, groups_of, family_of}
+use Rattle.sas_groups.proofs.Imports.{length, get_or, below_more, arith, true≢false, get_or_default, groups_of, family_of}
 use Rattle.sas_groups.proofs.Iff.{iff_yes, iff_no}
 use Rattle.sas_groups.proofs.notes.some_has.Goals as goal
 use Rattle.sas_groups.proofs.notes.some_has.Goals.{else-is_kept-via-then-is_kept+else-has, else-is_kept-via-else-is_kept}

@@ -1,5 +1,5 @@
 -- One more part has the values of the state.
-use Rattle.sas_axioms.proofs.Imports.{◌≤◌, length, ◌∙◌, arith, cases_lt}
+use Rattle.sas_axioms.proofs.Imports.{length, arith, cases_lt}
 use Rattle.std.proofs.lemmas.Grind.{same_number_lists}
 use Rattle.sas_axioms.proofs.counting.ConditionCounts.follow.Goals as goal
 

@@ -1,6 +1,6 @@
 -- One more entry is counted.
 use Rattle.std.proofs.lemmas.Grind.{common_steps}
-use Rattle.sas_axioms.proofs.Imports.{◌<◌, length, get_or, sym, arith, All, ValueChange, IsOfRule}
+use Rattle.sas_axioms.proofs.Imports.{length, get_or, sym, arith, All, ValueChange, IsOfRule}
 use Rattle.sas_axioms.proofs.AllConditions.{can_recount, recounted}
 use Rattle.sas_axioms.proofs.CountingEntries.{CanRecount, no_entry, counters_after, can_count, counters_passed, counters_set}
 use Rattle.sas_axioms.proofs.counting.ConditionCounts.recount.Goals as goal
