@@ -1,5 +1,5 @@
 -- One more rule.
-use Rattle.sas_plan_reasons.proofs.Imports.{ℕ, ◌∷◌, [], ◌++◌, ◌<◌, length, subst, sym, inl, inr, arith, Contains, cases_eq, All-push, Contains-push, Contains-append_left}
+use Rattle.sas_plan_reasons.proofs.Imports.{ℕ, ◌∷◌, [], ◌++◌, ◌<◌, length, subst, sym, inl, inr, arith, Contains, cases_eq, All-nil, All-push, Contains-push, Contains-append_left}
 use Rattle.sas_plan_reasons.proofs.origin_rounds.all_rules.Goals as goal
 
 pub loop-rule-preserved : goal.loop-rule-preserved
@@ -14,3 +14,9 @@ loop-rule-preserved g c =
         | inr ne ↦ Contains-append_left rules (k ∷ []) rule (c.loop-rule.invariant.each rule (omega arith))
       ];
     }
+
+pub returns : goal.returns
+returns g c = record {
+  exist = c.loop-rule.invariant.exist;
+  each = λ rule lt. c.loop-rule.invariant.each rule (omega (arith, c.loop-rule-test.false, c.rules-rule-end.ensures));
+}
