@@ -1,6 +1,6 @@
 -- One effect more: it doesn't fire, or it is the first on its variable, or the first one agrees with it or contradicts it.
 use Rattle.sas_run.proofs.Ranges.{change_within}
-use Rattle.sas_plan_reasons.proofs.Imports.{◌≡◌, ℕ, ◌+◌, ◌<◌, ◌∙◌, All, Fact, List, length, set, Option, Some, sym, ap, subst, arith, slice_index, Change, operator_at, effect_at, AllHold, effect_within, first_on, AreFirstEffects}
+use Rattle.sas_plan_reasons.proofs.Imports.{◌≡◌, ℕ, ◌+◌, ◌∙◌, List, length, set, Option, Some, sym, ap, subst, arith, slice_index, Change, operator_at, effect_at, AllHold, effect_within, first_on, AreFirstEffects}
 use Rattle.sas_plan_reasons.proofs.Firsts.{quiet, again, first_here, contradicted}
 use Rattle.sas_plan_reasons.proofs.conflicts.contradicting.Goals as goal
 

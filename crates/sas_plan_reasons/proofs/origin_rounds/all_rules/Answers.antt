@@ -1,5 +1,5 @@
 -- One more rule.
-use Rattle.sas_plan_reasons.proofs.Imports.{ℕ, ◌∷◌, [], ◌++◌, ◌<◌, length, subst, sym, inl, inr, arith, Contains, cases_eq, All-nil, All-push, Contains-push, Contains-append_left}
+use Rattle.sas_plan_reasons.proofs.Imports.{ℕ, ◌∷◌, [], ◌++◌, ◌<◌, length, subst, sym, inl, inr, arith, Contains, cases_eq, All-push, Contains-push, Contains-append_left}
 use Rattle.sas_plan_reasons.proofs.origin_rounds.all_rules.Goals as goal
 
 pub loop-rule-preserved : goal.loop-rule-preserved
