@@ -14,9 +14,3 @@ loop-rule-preserved g c =
         | inr ne ↦ Contains-append_left rules (k ∷ []) rule (c.loop-rule.invariant.each rule (omega arith))
       ];
     }
-
-pub returns : goal.returns
-returns g c = record {
-  exist = c.loop-rule.invariant.exist;
-  each = λ rule lt. c.loop-rule.invariant.each rule (omega (arith, c.loop-rule-test.false, c.rules-rule-end.ensures));
-}
