@@ -1,6 +1,6 @@
 -- Reports with more lines.
 use Rattle.std.proofs.lemmas.Grind.{common_steps}
-use Rattle.sas_plan_reasons.proofs.Imports.{◌≡◌, ◌≢◌, ℕ, suc, ◌<◌, ◌⊎◌, true, false, not, List, [], ◌∷◌, ◌++◌, length, get_or, set, map, Option, Vec, Global, refl, sym, ◌∙◌, ap, subst, inl, inr, arith, flat_map, find, ◌↔◌, IsTrue, AllByRecursion, AllPairs, Contains, option_map_or, cases_eq, cases_Bool, false≢true, get_or-set_same, get_or-set_other, length-set, flat_map-cons, Origins, Report, is_reported, AreOrigins, ReportsDerivation, lines_of_keepers, is_kept, IsReport, Contains-append_left, Contains-append_right, Contains-append_cases, Fact, Parts, rule_at, of_variable, places, can_give, contains_head, contains_tail, contains_cases, contains_none, places_ascend, Line, RuleDerives, RuleRequires, rule_numbers, is_rule_line, with_lines, ComesBefore, IsDerivation, fails, failing_lines}
+use Rattle.sas_plan_reasons.proofs.Imports.{◌≡◌, ◌≢◌, ℕ, suc, ◌<◌, ◌⊎◌, true, false, not, List, [], ◌∷◌, ◌++◌, length, get_or, set, map, Option, None, Some, Vec, Global, refl, sym, ◌∙◌, ap, subst, inl, inr, arith, flat_map, find, ◌↔◌, IsTrue, AllByRecursion, AllPairs, Contains, option_map_or, cases_eq, cases_Bool, false≢true, get_or-set_same, get_or-set_other, length-set, flat_map-cons, Origins, Report, is_reported, AreOrigins, ReportsDerivation, lines_of_keepers, is_kept, IsReport, Contains-append_left, Contains-append_right, Contains-append_cases, Fact, Parts, rule_at, of_variable, places, can_give, contains_head, contains_tail, contains_cases, contains_none, places_ascend, Line, RuleDerives, RuleRequires, rule_numbers, is_rule_line, with_lines, ComesBefore, IsDerivation, fails, failing_lines}
 use Rattle.sas_plan_reasons.proofs.Derivation.{no_circle}
 use Rattle.sas_plan_reasons.proofs.Once.{IsPlain, Apart, rule_of, other_line, contains_map, map_contains, derived_lines, none_new, all_new}
 use Rattle.sas_plan_reasons.proofs.ReportedRules.{in_filter, of_filter}
@@ -121,11 +121,15 @@ module _ (p : Parts) (s : List ℕ) where
   -- ---- what the rules require that don't fire
 
   at_one : (rule : ℕ) (first : Option Fact) (z : Line) → Contains (option_map_or (λ c. RuleRequires rule c ∷ []) first []) z → (c : Fact) × (z ≡ RuleRequires rule c)
-  at_one rule h1 z h = grind (arith, contains_none, contains_cases)
+  at_one rule None z h = absurd (contains_none z h)
+  at_one rule (Some c) z h = elim (contains_cases (RuleRequires rule c) [] z h) [ inl e ↦ (c, sym e) | inr none ↦ absurd (contains_none z none) ]
 
   keeper : (rules : List ℕ) (z : Line) → Contains (flat_map (failing_lines p s) rules) z → (rule : ℕ) × (c : Fact) × Contains rules rule × (z ≡ RuleRequires rule c)
   keeper [] z h = absurd (contains_none z h)
-  keeper (rule ∷ rules) z h = grind (arith, common_steps, keeper rules z, Contains-append_cases, flat_map-cons, at_one, contains_head, contains_tail)
+  keeper (rule ∷ rules) z h = elim (Contains-append_cases (failing_lines p s rule) (flat_map (failing_lines p s) rules) z (subst (λ l. Contains l z) (flat_map-cons (failing_lines p s) rule rules) h)) [
+    | inl here ↦ (let w = at_one rule (find (fails s) (rule_at p rule).conditions) z here in (rule, w.0, contains_head rule rules, w.1))
+    | inr there ↦ (let w = keeper rules z there in (w.0, w.1, contains_tail rule rules w.0 w.2, w.3))
+  ]
 
   apart_more : (rule : ℕ) (first : Option Fact) (lines : List Line) → Apart lines → ((z : Line) → Contains lines z → rule ≢ rule_of z)
       → Apart (option_map_or (λ c. RuleRequires rule c ∷ []) first [] ++ lines)

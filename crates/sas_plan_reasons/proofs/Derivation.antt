@@ -8,7 +8,7 @@ use Rattle.sas_plan_reasons.proofs.ReachedRounds.{Fires, fires_decides, ReachedB
 -- ---- ranks
 
 reached_or_not : (p : Parts) (layer : ℕ) (s : List ℕ) (var rounds : ℕ) → (reached p layer s rounds var ≡ true) ⊎ (reached p layer s rounds var ≡ true → ⊥)
-reached_or_not p layer s var rounds = grind (arith, common_steps, cases_Bool, false≢true)
+reached_or_not p layer s var rounds = elim (cases_Bool (reached p layer s rounds var)) [ inl y ↦ inl y | inr n ↦ inr (λ y. false≢true (sym n ∙ y)) ]
 
 -- a variable that is reached has a rank, no greater than the rounds that reach it
 rank_within : (p : Parts) (layer : ℕ) (s : List ℕ) (var rounds : ℕ) → reached p layer s rounds var ≡ true
@@ -145,7 +145,8 @@ module _ (p : Parts) (s : List ℕ) (layered : IsLayered p) (settled : IsSettled
     looks c down hold holds = search (rules, arith, layer_cases, cases_eq, on_its_layer, requires_earlier)
 
     pub looks_down : All (λ (c : Fact). IsBasic p c.var ⊎ (RequiresLower p var c ⊎ RequiresEarlier p s var c)) (rule_at p rule).conditions
-    looks_down j d lt = search (rules, arith, looks, fires, conditions_hold)
+    looks_down j d lt =
+        looks (get_or (rule_at p rule).conditions j d) ((layered.rules rule _ given.lowest.has.exists fires.can).order j d lt) (fires.hold j d lt) (conditions_hold j d lt)
 
     -- the variables on which the rule rests come before the variable, and differ from their
     -- defaults

@@ -73,7 +73,10 @@ module _ (p : Parts) (s : List ℕ) (o : Operator) where
 
     -- none before it is
     pub none_before : (e : ℕ) → e < n → (d : ℕ) × ConflictsWith s o e d → ⊥
-    none_before e lt (d, c) = grind (arith, common_steps, same_Some)
+    none_before e lt (d, c) =
+        let a = are.each e lt c.fires' in
+        let b = are.each d (let less = c.before in omega arith) c.fires in
+        c.other (sym b.1.same ∙ (ap (λ k. (effect_at o k).new) (same_Some b.0 a.0 (sym b.1.is ∙ (ap (first_on firsts) c.var ∙ a.1.is))) ∙ a.1.same))
 
     pub is_conflict : (d : ℕ) → IsLowest (ConflictsWith s o n) d → AreLowest (ConflictsWith s o) n d
     is_conflict d lowest = record { first = record { has = (d, lowest.has); first = none_before }; lowest = lowest }

@@ -20,7 +20,7 @@ module _ (step : ℕ) (s : List ℕ) (old mid new : Changes) (var : ℕ) where
 
 -- one variable more is noted
 one_of : (step : ℕ) (s : List ℕ) (mid new : Changes) (v : ℕ) → NotedAt step s mid new v → ((k : ℕ) → k ≢ v → LeftAt mid new k) → (var : ℕ) → NotedAt step s mid new var ⊎ LeftAt mid new var
-one_of step s mid new v noted others var = grind (arith, common_steps, cases_eq)
+one_of step s mid new v noted others var = elim (cases_eq var v) [ inl e ↦ inl (subst (NotedAt step s mid new) (sym e) noted) | inr ne ↦ inr (others var ne) ]
 
 pub notes_more : (step : ℕ) (s : List ℕ) (old mid new : Changes) (v : ℕ) (These Those : ℕ → Type 0) → ((var : ℕ) → Those var → These var ⊎ (v ≡ var)) → Notes step s These old mid
     → HavePlaces (length s) new → NotedAt step s mid new v → ((k : ℕ) → k ≢ v → LeftAt mid new k) → Notes step s Those old new
@@ -69,4 +69,4 @@ module _ (p : Parts) (s s' : List ℕ) (deleted : List Fact) (touched : ChangedV
   -- the same where the lists and the state are only equal to these
   pub all_noted : (state vars : List ℕ) (facts : List Fact) (step : ℕ) (old mid new : Changes) → state ≡ s' → facts ≡ deleted → vars ≡ looked_at derived touched → old.values.items ≡ s
       → Notes step state (HasFactOn facts) old mid → Notes step state (Contains vars) mid new → Notes step s' (λ (var : ℕ). var < length s') old new
-  all_noted state vars facts step old mid new same its looked values first second = grind (arith, looked, noted_all)
+  all_noted state vars facts step old mid new same its are values first second = noted_all step old mid new values (rw (same, its) at first) (rw (same, are) at second)

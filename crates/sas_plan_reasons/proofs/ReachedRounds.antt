@@ -82,7 +82,9 @@ module _ (p : Parts) (layer : ℕ) (s : List ℕ) where
 
     -- a rule that fires with some members fires with more
     pub more_fire : (a b : ℕ → Bool) → ((v : ℕ) → IsOnLayer p layer v → a v ≡ true → b v ≡ true) → (var : ℕ) → ReachedBy a var → ReachedBy b var
-    more_fire a b more var by = grind (arith, more_hold)
+    more_fire a b more var by =
+        let hold = more_hold a b more by.rule by.exists (subst (IsOnLayer p layer) (sym by.fires.on) by.on) by.fires.can by.fires.hold in
+        record { on = by.on; rule = by.rule; exists = by.exists; fires = record { on = by.fires.on; can = by.fires.can; hold = hold } }
 
     -- a reached variable stays reached
     pub reached_more : (rounds var : ℕ) → reached p layer s rounds var ≡ true → reached p layer s (suc rounds) var ≡ true

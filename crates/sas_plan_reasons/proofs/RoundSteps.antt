@@ -89,7 +89,7 @@ module _ (p : Parts) (s : List ℕ) (over var rule layer : ℕ) (origins : List 
   set_lower v k h = grind (arith, cases_eq, get_or-set_other, origin_with_rule, origin_at, with_rule_cases, origin_now, at_var, same_at)
 
   set_itself : HasLower over after var rule
-  set_itself = grind (arith, common_steps, with_rule_cases, at_var)
+  set_itself = elim (with_rule_cases over rule its) [ inl w ↦ record { origin = origin_now over rule; at = at_var ∙ w.0; lower = λ _. omega arith } | inr st ↦ record { origin = st.origin; at = at_var ∙ st.still; lower = st.lower } ]
 
   module _ (requiring : List (List RuleCondition)) (next : List ℕ) where
     abbrev next_after : List ℕ

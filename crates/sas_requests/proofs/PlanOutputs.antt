@@ -1,6 +1,5 @@
 -- A request has exactly one output.
-use Rattle.std.proofs.lemmas.Grind.{common_steps}
-use Rattle.sas_requests.proofs.Imports.{arith, ◌≡◌, ◌≢◌, ℕ, ◌<◌, Bool, true, false, ◌⊎◌, List, [], ◌++◌, length, codes, append-nil, refl, sym, subst, ◌∙◌, inl, inr, Option, Some, None, Result, Ok, Err, ◌↔◌, ◌||◌, IsTrue, none-some, Parts, PlanParts, first_fault, WellRanged, LayerFault, IsLayered, layer_checks, checks_are_rules, Fault, most_bytes, ReadsAs, plan_format, task_format, task_laws_hold, refusal, ShowAnswer, PrintAnswer, TaskOut, UnlayeredAnswer, LayeredOut, VerdictOut, PlanOutBy, OutOf, plain_refusal, IsLayeredText, IsLong, HasOneOutput, Request, Show, Print, Steps, Check, Plan, Mutex, layers_refusal, layers_verdict, Output, some_check_answer, OneAnswer, SomeAnswer}
+use Rattle.sas_requests.proofs.Imports.{arith, ◌≡◌, ◌≢◌, ℕ, ◌<◌, Bool, true, false, ◌⊎◌, List, ◌++◌, length, codes, append-nil, refl, sym, subst, ◌∙◌, inl, inr, Option, Some, None, Result, Ok, Err, ◌↔◌, ◌||◌, IsTrue, none-some, Parts, PlanParts, first_fault, WellRanged, LayerFault, IsLayered, layer_checks, checks_are_rules, Fault, most_bytes, ReadsAs, plan_format, task_format, task_laws_hold, refusal, ShowAnswer, PrintAnswer, TaskOut, UnlayeredAnswer, LayeredOut, VerdictOut, PlanOutBy, OutOf, plain_refusal, IsLayeredText, IsLong, HasOneOutput, Request, Show, Print, Steps, Check, Plan, Mutex, layers_refusal, layers_verdict, Output, some_check_answer, OneAnswer, SomeAnswer}
 use Rattle.sas_meaning.specs.declared.layered.LayerFault.TheVariants as layer_fault
 use Rattle.sas_requests.proofs.Outputs.{one_file, long_file, task_worded, one_made, some_made, task_output, plan_output}
 
@@ -46,7 +45,12 @@ plain_refuses = grind (arith, append-nil)
 
 -- a layered task isn't refused
 pub not_refused : (refused : Parts → LayerFault → Option Output) (b : List ℕ) (o : Option Output) → TaskOut (UnlayeredAnswer refused) b o → IsLayeredText b → ⊥
-not_refused refused b o h1 h2 = grind (arith, task_laws_hold, most_bytes, codes, none-some, checks_are_rules)
+not_refused refused b o (Err f, reads_f, is) (p, reads, layered) = absurd (let e : Err f ≡ Ok p = task_laws_hold.one_reading most_bytes b (Err f) (Ok p) reads_f reads in cc)
+not_refused refused b o (Ok q, reads_q, (out, (fault, is, reported), same)) (p, reads, layered) =
+    let e : Ok p ≡ Ok q = task_laws_hold.one_reading most_bytes b (Ok p) (Ok q) reads reads_q in
+    let equal : p ≡ q = cc in
+    let none : None ≡ Some fault = sym ((checks_are_rules q).1 (subst IsLayered equal layered)) ∙ is in
+    absurd cc
 
 module _ (refused : Parts → LayerFault → Option Output) (refuses : Refuses refused) (IsOut : Parts → Option Output → Type 0) (Long : Type 0) (b : List ℕ) (each : (p : Parts) → WellRanged p → IsLayered p → HasOneOutput (IsOut p) Long) where
   one_unlayered : OneAnswer (UnlayeredAnswer refused)
@@ -74,7 +78,8 @@ module _ (refused : Parts → LayerFault → Option Output) (refuses : Refuses r
   some_read (Ok p) reads none = some_checked p reads (first_fault (layer_checks p)) refl none
 
   long_layered : LayeredOut refused IsOut b None → (most_bytes < length b) ⊎ (IsLayeredText b × Long)
-  long_layered h1 = grind (arith, common_steps, long_file, task_format, codes, task_worded)
+  long_layered (inl x) = inl (long_file task_format (codes "task") (UnlayeredAnswer refused) b task_worded x)
+  long_layered (inr (p, reads, layered, is)) = inr ((p, reads, layered), (each p reads.0.good layered).long is)
 
   -- it has one output if what is judged for a layered task has one
   pub layered_output : HasOneOutput (LayeredOut refused IsOut b) ((most_bytes < length b) ⊎ (IsLayeredText b × Long))

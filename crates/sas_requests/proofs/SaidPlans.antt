@@ -1,11 +1,12 @@
 -- What is said of one plan after another.
 use Rattle.sas_requests.proofs.Imports.{IfSome, ◌≡◌, ◌≢◌, ℕ, ◌+◌, ◌<◌, ◌≤◌, ◌⊎◌, List, [], ◌∷◌, ◌++◌, length, get_or, codes, refl, sym, ap, subst, ◌∙◌, arith, inl, inr, Option, Some, None, Result, Err, IfErr, zip, flat_map, if◌then◌else◌, list_all, get_or-append, get_or-append_seam, cases_lt, length_push, count_by-le-length, Contains-get_or, Consumes-nil, Parts, Status, Yes, No, NotOpened, JudgeFault, Tool, Tally, Judged, IsJudged, PlansOut, is_valid, labelled, plans_answer, summary_of, tally_with, AreReported, HoldsOf, IsUnsaid, Judges, JudgesPlans, unjudged, WasRead, EndsAt, OpensInTurn, ToolFault, Ends, IsWrite, tool_result, judge_result, VerdictAnswer, plan_format, VerdictOut}
 use Rattle.sas_requests.specs.declared.inputs.InputFault.TheVariants.{Read, TooLong}
+use Rattle.sas_answers.specs.declared.ending.ToolFault.TheVariants.{Memory}
 use Rattle.sas_requests.proofs.BestPlans.{best_place}
 use Rattle.sas_requests.proofs.Endings.{ends_as}
 use Rattle.sas_requests.proofs.Outputs.{long_file, plan_worded, same_output}
 use Rattle.std.proofs.lemmas.Bool.Decides.{eqb_tells}
-use Rattle.sas_requests.specs.declared.inputs.JudgeFault.TheVariants.{Plan}
+use Rattle.sas_requests.specs.declared.inputs.JudgeFault.TheVariants.{Plan, Tool}
 use Rattle.sas_requests.specs.Inputs.{tool_fault as fault_of}
 use Rattle.sas_requests.proofs.SideBySide.{all_zip, choose, labelled_next}
 use Rattle.sas_requests.proofs.Tallying.{status_yes, status_no, tally_next}
@@ -116,3 +117,7 @@ module _ (p : Parts) (known : ℕ → Option (List ℕ)) (labels : List (List �
   unreported gives task old new (Plan number Read) h opens Sent = record { output = λ cs have. tt; taken = λ decided. absurd decided; long = tt; reads = λ e. absurd cc }
   unreported gives task old new (Plan number TooLong) h opens Sent = too_long number opens.0 h Sent
   unreported gives task old new (Tool why) h opens Sent = rw h record { output = λ cs have. tt; taken = λ decided. absurd decided; long = tt; reads = λ e. absurd cc }
+
+  -- where memory is refused, nothing is said
+  pub unsaid_all : (Sent : List ℕ → Type 0) → JudgesPlans p known labels Sent (Err (Tool Memory))
+  unsaid_all Sent = record { output = λ cs have. tt; taken = λ decided. absurd decided; long = tt; reads = λ e. absurd cc }

@@ -1,7 +1,6 @@
 -- What is said of a plan with reasons: one thing, and always something; and that it is valid exactly where it is. And what is said
 -- of a task that isn't layered.
-use Rattle.std.proofs.lemmas.Grind.{common_steps}
-use Rattle.sas_requests.proofs.Imports.{◌≡◌, ℕ, ◌<◌, List, [], ◌++◌, get_or, refl, sym, ap, subst, ◌∙◌, inl, inr, Some, arith, Parts, PlanParts, LayerFault, IsLayered, PlanFault, IsFaultOf, some_verdict, valid_has_no_fault, fault_is_one, No, Output, layers_refusal, valid_answer, invalid_answer, valid_line, invalid_line, layer_reasons, with_reasons, why_refusal, refused_why, Line, reasons_text, one_why, some_why, WhyVerdict, Explains, worded}
+use Rattle.sas_requests.proofs.Imports.{◌≡◌, ℕ, ◌<◌, List, [], ◌++◌, get_or, refl, sym, ap, subst, ◌∙◌, inl, inr, Some, arith, Parts, PlanParts, LayerFault, IsLayered, PlanFault, IsFaultOf, some_verdict, valid_has_no_fault, fault_is_one, No, Output, layers_refusal, valid_answer, invalid_answer, valid_line, fault_words, invalid_line, layer_reasons, with_reasons, why_refusal, refused_why, Line, reasons_text, one_why, some_why, WhyVerdict, Explains, worded}
 use Rattle.sas_requests.proofs.Headlines.{ReportsValid}
 use Rattle.sas_requests.proofs.Outputs.{same_output}
 use Rattle.sas_requests.proofs.RefusalReasons.{some_of}
@@ -18,7 +17,9 @@ line_apart : (words behind : List ℕ) (steps cost : ℕ) → invalid_line words
 line_apart words behind steps cost = apart_at 5 (invalid_line words ++ behind) (valid_line steps cost) (omega arith)
 
 explained_apart : (p : Parts) (plan : PlanParts) (fault : PlanFault) (bytes : List ℕ) (steps cost : ℕ) → Explains p plan fault bytes → bytes ≡ valid_line steps cost → ⊥
-explained_apart p plan fault bytes steps cost e is = grind (arith, common_steps, worded, line_apart)
+explained_apart p plan fault bytes steps cost e is =
+    let w = worded (fault_words plan.cost fault) invalid_line e.verdict e.reported in
+    line_apart w.said (reasons_text p plan.steps e.reasons) steps cost (ap (λ (t : List ℕ). t ++ reasons_text p plan.steps e.reasons) (sym w.text) ∙ (sym e.whole ∙ is))
 
 -- ---- one answer
 

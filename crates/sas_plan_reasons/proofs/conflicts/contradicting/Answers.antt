@@ -1,6 +1,6 @@
 -- One effect more: it doesn't fire, or it is the first on its variable, or the first one agrees with it or contradicts it.
-use Rattle.std.proofs.lemmas.Grind.{common_steps}
-use Rattle.sas_plan_reasons.proofs.Imports.{◌≡◌, ℕ, ◌+◌, ◌∙◌, List, set, Option, Some, sym, ap, subst, arith, slice_index, Change, operator_at, effect_at, AllHold, effect_within, first_on, AreFirstEffects}
+use Rattle.sas_run.proofs.Ranges.{change_within}
+use Rattle.sas_plan_reasons.proofs.Imports.{◌≡◌, ℕ, ◌+◌, ◌∙◌, List, length, set, Option, Some, sym, ap, subst, arith, slice_index, Change, operator_at, effect_at, AllHold, effect_within, first_on, AreFirstEffects}
 use Rattle.sas_plan_reasons.proofs.Firsts.{quiet, again, first_here, contradicted}
 use Rattle.sas_plan_reasons.proofs.conflicts.contradicting.Goals as goal
 
@@ -11,10 +11,10 @@ returns-then-not-holds_all-clause-none g c =
     let not = c.if-not-holds_all.true in absurd cc)
 
 pub bounds : goal.bounds
-bounds g c = grind (arith, common_steps, effect_within)
+bounds g c = (let lt = change_within c.args.layered.now c.task-task.ensures.well_ranged _ c.requires.operator _ c.requires.effect _ (rw c.task-task.ensures.task at c.effect_change-change.ensures) in omega (arith, c.requires.firsts.one_each, ap length c.as_slice.ensures))
 
 pub set-requires : goal.set-requires
-set-requires g c = grind (arith, common_steps, effect_within)
+set-requires g c = (let lt = change_within c.args.layered.now c.task-task.ensures.well_ranged _ c.requires.operator _ c.requires.effect _ (rw c.task-task.ensures.task at c.effect_change-change.ensures) in omega (arith, c.requires.firsts.one_each))
 
 pub effect_change-requires-clause-effect : goal.effect_change-requires-clause-effect
 effect_change-requires-clause-effect g c =

@@ -1,4 +1,4 @@
-use Rattle.sas_requests.proofs.Imports.{arith}
+use Rattle.sas_requests.proofs.Imports.{arith, ValueOf, task_format, known_answer}
 use Rattle.sas_requests.proofs.PlansHeadlines.{plans_headline}
 use Rattle.sas_requests.proofs.TaskAnswers.{layered_output, layered_taken, refused_output, refused_taken}
 use Rattle.sas_requests.proofs.Turns.{in_turn_refused, tool_same, tool_failed, tool_read, tool_written, tool_long}
@@ -44,3 +44,21 @@ returns-in-Ended-clause-reads g c = rw c.judge_ended.ensures (tool_read _ c.in-E
 
 pub returns-in-Ended-clause-writes : goal.returns-in-Ended-clause-writes
 returns-in-Ended-clause-writes g c = rw c.judge_ended.ensures (tool_written _ c.in-Ended.ended (rw c.in-Ended.is at c.read_layered.ensures.refused).writes)
+
+pub returns-in-Layered-clause-nothing : goal.returns-in-Layered-clause-nothing
+returns-in-Layered-clause-nothing g c = rw (rw c.in-Layered.is at c.read_layered.ensures.silent) at c.report_plans.ensures.nothing
+
+pub returns-in-Layered-clause-long : goal.returns-in-Layered-clause-long
+returns-in-Layered-clause-long g c = c.report_plans.ensures.judges.long
+
+pub returns-in-Layered-clause-reads : goal.returns-in-Layered-clause-reads
+returns-in-Layered-clause-reads g c =
+    let note = (rw c.in-Layered.is at c.read_layered.ensures.read).note in
+    ((λ e. absurd (c.report_plans.ensures.judges.reads e)), (λ failed. absurd (note.1 failed)))
+
+pub returns-in-Layered-clause-plans_wait : goal.returns-in-Layered-clause-plans_wait
+returns-in-Layered-clause-plans_wait g c = λ b known not. absurd (not (
+  c.in-Layered.layered,
+  known_answer g.T.Read.remaining task_format (ValueOf task_format) _ _ c.in-Layered.layered b (rw c.in-Layered.is at c.read_layered.ensures.read) known,
+  (rw c.in-Layered.is at c.read_layered.ensures.layered),
+))

@@ -1,4 +1,4 @@
-use Rattle.sas_requests.proofs.Imports.{err_from_is_err_and, ℕ, List, [], get_or, ap, ◌++◌, ◌∙◌, arith, IsJudged, labelled}
+use Rattle.sas_requests.proofs.Imports.{err_from_is_err_and, ◌≡◌, length, ℕ, List, [], get_or, ap, ◌++◌, ◌∙◌, arith, IsJudged, labelled}
 use Rattle.sas_requests.proofs.SaidPlans.{holds_same, reported_more, unsaid, valid_few}
 use Rattle.sas_requests.proofs.SideBySide.{none_labelled}
 use Rattle.sas_requests.proofs.Turns.{opens_next, opens_until}
@@ -38,3 +38,13 @@ loop-number-preserved g c =
           (said.2 ∙ ap (λ (l : List (List ℕ)). c.loop-number.text.items ++ labelled (get_or l number [], said.0)) before.labels)
           said.3 c.add.ensures;
     }
+
+pub returns-clause-ok : goal.returns-clause-ok
+returns-clause-ok g c =
+    let all : c.loop-number.number ≡ length (g.S.PlanInputs.labels c.args.plans.now) = omega (arith, c.loop-number-test.false, c.loop-number.auto.number-end, c.loop-number.invariant.end) in
+    rw (← all) c.loop-number.invariant.reported
+
+pub returns-clause-opened : goal.returns-clause-opened
+returns-clause-opened g c =
+    let all : c.loop-number.number ≡ length (g.S.PlanInputs.labels c.args.plans.now) = omega (arith, c.loop-number-test.false, c.loop-number.auto.number-end, c.loop-number.invariant.end) in
+    rw (← all) c.loop-number.invariant.opened

@@ -1,5 +1,5 @@
 use Rattle.sas_requests.proofs.Imports.{ℕ, List, length, refl, arith, ap, sym, ◌∙◌, ◌++◌, inl, inr, None, err_from_is_err_and, summary_of}
-use Rattle.sas_requests.proofs.SaidPlans.{placed, reported, unreported}
+use Rattle.sas_requests.proofs.SaidPlans.{placed, reported, unreported, unsaid_all}
 use Rattle.sas_requests.proofs.Turns.{in_turn_written, tool_stopped, tool_written}
 use Rattle.sas_requests.proofs.reporting.report_plans.Goals as goal
 use Rattle.sas_requests.proofs.reporting.report_plans.Goals.{then-tally-count, else-tally-count}
@@ -25,13 +25,19 @@ returns-clause-judges g c =
     _ c.write.result c.write.ensures.write c.write.ensures.writes.ends)
 
 pub returns-in_err-loaded-clause-judges : goal.returns-in_err-loaded-clause-judges
-returns-in_err-loaded-clause-judges g c = search (arith, err_from_is_err_and)
+returns-in_err-loaded-clause-judges g c =
+    let starved = err_from_is_err_and c.from_residual.result c.from_residual.ensures.1 in
+    rw (starved.1, starved.2) (unsaid_all _ _ _ _)
 
 pub returns-in_err-push_summary-clause-judges : goal.returns-in_err-push_summary-clause-judges
-returns-in_err-push_summary-clause-judges g c = search (arith, err_from_is_err_and)
+returns-in_err-push_summary-clause-judges g c =
+    let starved = err_from_is_err_and c.from_residual-in_err-push_summary.result c.from_residual-in_err-push_summary.ensures.1 in
+    rw (starved.1, starved.2) (unsaid_all _ _ _ _)
 
 pub returns-in_err-push_summary-clause-opens : goal.returns-in_err-push_summary-clause-opens
-returns-in_err-push_summary-clause-opens g c = search (arith, err_from_is_err_and, length)
+returns-in_err-push_summary-clause-opens g c = λ task.
+    let starved = err_from_is_err_and c.from_residual-in_err-push_summary.result c.from_residual-in_err-push_summary.ensures.1 in
+    rw (starved.1, starved.2) (length (g.S.PlanInputs.labels c.args.plans.now), omega arith, c.in_ok-tally.ensures.opened)
 
 pub returns-in_err-loaded-clause-opens : goal.returns-in_err-loaded-clause-opens
 returns-in_err-loaded-clause-opens g c = λ task.
@@ -44,7 +50,7 @@ returns-in_err-tally-clause-opens g c =
     rw (p.1, p.2) c.in_err-tally.ensures.fault
 
 pub returns-clause-opens : goal.returns-clause-opens
-returns-clause-opens g c = search (arith, in_turn_written)
+returns-clause-opens g c = λ task. rw c.judge_ended.ensures (in_turn_written g.S.PlanInputs.open_gives task _ _ _ c.write.result c.write.ensures.write c.in_ok-tally.ensures.opened)
 
 pub returns-clause-nothing : goal.returns-clause-nothing
 returns-clause-nothing g c = rw c.judge_ended.ensures (tool_stopped _ c.write.result c.write.ensures.write)

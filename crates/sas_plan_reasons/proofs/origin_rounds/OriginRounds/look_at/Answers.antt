@@ -1,6 +1,7 @@
 -- A rule that doesn't fire reaches nothing, and one that fires reaches its variable.
 use Rattle.std.proofs.lemmas.Grind.{common_steps}
-use Rattle.sas_plan_reasons.proofs.Imports.{ℕ, ◌<◌, List, ◌∷◌, [], ◌++◌, length, refl, sym, ap, subst, ◌∙◌, arith, on_ok_weaker, Change, Parts, rule_at, layer_of, IsOnLayer, on_layer_within, FiresNext, OriginRounds, InRound}
+use Rattle.sas_plan_reasons.proofs.Imports.{◌≡◌, ℕ, ◌<◌, List, ◌∷◌, [], ◌++◌, length, refl, sym, ap, subst, ◌∙◌, arith, on_ok_weaker, Change, change_of, Parts, WellRanged, rule_at, fact_within, layer_of, IsOnLayer, on_layer_within, FiresNext, OriginRounds, InRound}
+use Rattle.sas_core.proofs.Fitting.{rule_fits}
 use Rattle.sas_plan_reasons.proofs.RoundSteps.{fires_now, looked_none, passed_set, passed_round, reach_round, reach_goes_on, goes_as, sets_default, fails_now, all_hold_now, sets_new}
 use Rattle.sas_plan_reasons.proofs.origin_rounds.OriginRounds.look_at.Goals as goal
 use Rattle.sas_plan_reasons.proofs.origin_rounds.OriginRounds.look_at.Given.{Over}
@@ -29,6 +30,10 @@ returns-then-place-rule_conditions-clause-looked g c looked inside =
     (looked_none _ _ _ looked _ (fails_now _ _ _ _ _ _ _ c.requires.rule on c.first_open-place.ensures below) inside)
 
 -- the variable exists
+var_exists : (p : Parts) (rule : ℕ) (change : Change) → WellRanged p → rule < length p.rules → change ≡ change_of (rule_at p rule) → change.var < length p.variables
+var_exists p rule change ranged lt is =
+    subst (λ (x : Change). x.var < length p.variables) (sym is) (fact_within p (rule_at p rule).var (rule_at p rule).new (rule_fits p ranged rule lt).new)
+
 within : (p : Parts) (s : List ℕ) (r : OriginRounds) (looked : List ℕ) (layer var : ℕ) → InRound p s r looked → IsOnLayer p layer var → var < length r.origins.items
 within p s r looked layer var inside on = grind (arith, common_steps, on_layer_within)
 
@@ -73,3 +78,9 @@ returns-clause-goes_on g c = on_ok_weaker c.reach.result (λ now.
     goes_as c.args.self.now _ c.reach.new.self refl refl refl
     (reach_goes_on c.rule_change-change.result.var c.args.rule _ c.reach.new.self (exists g c) now))
     c.reach.ensures
+
+pub layer-requires : goal.layer-requires
+layer-requires g c = rw c.task-task.ensures.task (var_exists _ _ _ c.task-task.ensures.well_ranged c.requires.rule (rw c.task-task.ensures.task at c.rule_change-change.ensures))
+
+pub initial_value-requires : goal.initial_value-requires
+initial_value-requires g c = rw c.task-task.ensures.task (var_exists _ _ _ c.task-task.ensures.well_ranged c.requires.rule (rw c.task-task.ensures.task at c.rule_change-change.ensures))
