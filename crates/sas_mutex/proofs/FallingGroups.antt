@@ -46,7 +46,7 @@ module _ {p : Parts} where
       both = newly_then first second
 
   pub fallen_grow : {before after : Family} → Falls p before after → length before.fallen.items ≤ length after.fallen.items
-  fallen_grow {before} {after} falls = grind (arith, common_steps, length-append)
+  fallen_grow {before} {after} falls = let len = ap length falls.behind ∙ length-append before.fallen.items (newly before after) in omega arith
 
   -- one group falls, which no family that is kept jointly within the present one has
   pub one_fell : (before after : Family) (place : ℕ) → after.kept ≡ set before.kept place false → after.fallen.items ≡ before.fallen.items ++ place ∷ []
@@ -91,7 +91,8 @@ module _ {p : Parts} where
           (λ operator exists. keeps_from_effects (IsKept p after.kept) (operator_at p operator) (group_at p place)
           (λ effect within has. rest operator exists effect within place w has));
     };
-    greatest = grind (arith, common_steps);
+    greatest = λ other jointly. falls.none_lost other jointly
+        (λ place w. record { exists = w.exists; chosen = (candidates place w.exists).1 (jointly.may place w) });
   }
 
   -- a group that an operator of the task doesn't keep is in no family that is kept jointly
@@ -114,7 +115,7 @@ module _ {p : Parts} where
 
   -- where no more fell than before, none did
   pub none_newly : {b c : Family} → Falls p b c → length c.fallen.items ≡ length b.fallen.items → newly b c ≡ []
-  none_newly {b} {c} falls same = grind (arith, common_steps, none_of_length, length-append)
+  none_newly {b} {c} falls same = none_of_length (newly b c) (let len = ap length falls.behind ∙ length-append b.fallen.items (newly b c) in omega arith)
 
   pub as_before : {b c : Family} → Falls p b c → length c.fallen.items ≡ length b.fallen.items → c.fallen.items ≡ b.fallen.items
   as_before {b} {c} falls same = falls.behind ∙ (ap (λ (xs : List ℕ). b.fallen.items ++ xs) (none_newly falls same) ∙ append-nil b.fallen.items)

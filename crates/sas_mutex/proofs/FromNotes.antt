@@ -54,14 +54,15 @@ module _ (at : EffectPlace) (index : Index) {change : Change} (fits : IsFiring a
 
   -- where another value is noted for its variable, the fact clashes with what is known
   pub other_value_clashes : HasOtherValue notes.values fact → Clash (IsKept p kept) with
-  other_value_clashes (value, at, differs) = search (rules, arith, itself, also, value_note_shows, on_variable)
+  other_value_clashes (value, at, differs) =
+      let other : Fact = record { var = fact.var; value = value } in (other, fact, also other (value_note_shows before fact.var value (value_note notes.values fact.var) (are.noted.values fact.var on_variable) at), itself, inl (refl, differs))
 
   -- a fact that is noted doesn't clash with what is known, which doesn't clash by itself
   there_no_clash : Contains before fact → Clash (IsKept p kept) with → ⊥
   there_no_clash here clash = are.apart (clash.0, clash.1, was_in clash.0 clash.2, was_in clash.1 clash.3, clash.4)
     where
       was_in : (f : Fact) → Contains with f → Contains before f
-      was_in f in_all = grind (arith, common_steps, either)
+      was_in f in_all = elim (either f in_all) [ inl w ↦ w | inr e ↦ subst (Contains before) e here ]
 
   pub noted_no_clash : value_note notes.values fact.var ≡ Some fact.value → Clash (IsKept p kept) with → ⊥
   noted_no_clash at = there_no_clash (value_note_shows before fact.var fact.value (value_note notes.values fact.var) (are.noted.values fact.var on_variable) at)
@@ -88,7 +89,7 @@ module _ (at : EffectPlace) (index : Index) {change : Change} (fits : IsFiring a
     apart_clashes (one, is_apart, share) = shared_clashes one (are.noted.one_apart one is_apart) share
 
     pub beside_clashes : (g : Fact) → Contains before g → ShareOne p kept g fact → Clash (IsKept p kept) with
-    beside_clashes g known_g share = search (arith, shared_clashes, shared_turned, share_kept, indexed, there)
+    beside_clashes g known_g share = shared_clashes g known_g (shared_turned index kept g fact (share_kept p index kept g fact indexed (there g known_g) exists share))
 
     shares_with : (g : Fact) → Contains before g → Contradict (IsKept p kept) fact g → (h : Fact) × Contains before h × ShareKept index kept fact h
     shares_with g known_g contradict = (g, known_g, contradicts_shares p index kept fact g indexed exists (there g known_g) (not_on g known_g) contradict)
@@ -142,7 +143,8 @@ module _ (at : EffectPlace) (index : Index) {change : Change} (fits : IsFiring a
 
   -- a condition that exists is met if it is one of the facts that are known then
   met_is_in : (c : Fact) → FactExists p.variables c → IsMet notes fact c → Contains with c
-  met_is_in c real h1 = grind (arith, itself, also, value_note_shows, value_note, are, variable_below)
+  met_is_in c real (inl e) = subst (Contains with) (sym e) itself
+  met_is_in c real (inr at) = also c (value_note_shows before c.var c.value (value_note notes.values c.var) (are.noted.values c.var (variable_below p c real)) at)
 
   in_is_met : (c : Fact) → FactExists p.variables c → Contains with c → IsMet notes fact c
   in_is_met c real in_all = elim (either c in_all) [
@@ -175,7 +177,8 @@ module _ (at : EffectPlace) (index : Index) {change : Change} (fits : IsFiring a
         effect,
         lt,
         subst (λ (e : Effect). Removes (IsMet notes fact) e fact) (sym same) (record {
-          fires = search (rules, arith, in_is_met, conditions_there);
+          fires = λ k d below. in_is_met _ (subst (λ (e : Effect). All (FactExists p.variables) e.conditions) same (conditions_there effect lt) k d below)
+              (is.removes.fires k d below);
           var = is.removes.var;
           other = is.removes.other;
         }),
@@ -203,11 +206,11 @@ one_clashes Counts o conditions facts fact among clash = (clash.0, clash.1, ther
 -- where what is known doesn't clash, it clashes with further facts if one of them clashes with it,
 -- or they clash themselves
 module _ (Counts : List Fact → Type 0) (o : Operator) (conditions facts : List Fact) where
-  pub themselves_clash : Clash Counts facts → Clash Counts (known o conditions facts)
-  themselves_clash clash = grind (arith, common_steps, Contains-append_right)
-
   abbrev first : List Fact
   first = preconditions o ++ conditions
+
+  pub themselves_clash : Clash Counts facts → Clash Counts (known o conditions facts)
+  themselves_clash (f, g, f_in, g_in, why) = (f, g, Contains-append_right first facts f f_in, Contains-append_right first facts g g_in, why)
 
   pub one_or_themselves : (Clash Counts (known o conditions []) → ⊥) → Clash Counts (known o conditions facts)
       → Any (λ (fact : Fact). Clash Counts (known o conditions (fact ∷ []))) facts ⊎ Clash Counts facts

@@ -4,7 +4,8 @@ use Rattle.sas_mutex.proofs.Imports.{rules, common_steps, ◌≡◌, ◌≢◌, 
 -- where several are, they clash if the group counts
 pub several_clash : (p : Parts) (Counts : List Fact → Type 0) (facts : List Fact) (place : ℕ) → Counts (group_at p place)
     → IsGroupNote p facts place Several → Clash Counts facts
-several_clash p Counts facts place counts (f, g, of_f, of_g, differ) = grind (arith, common_steps)
+several_clash p Counts facts place counts (f, g, of_f, of_g, differ) =
+    (f, g, of_f.among, of_g.among, inr (record { differ = differ; group = group_at p place; counts = counts; first = of_f.has.among; second = of_g.has.among }))
 
 -- where not one fact of a group that counts is noted, none is, unless the facts clash
 pub none_if_not_one : (p : Parts) (facts : List Fact) (place : ℕ) (Counts : List Fact → Type 0) → Counts (group_at p place)
@@ -16,10 +17,11 @@ none_if_not_one p facts place Counts counts apart Several is not_one f of = apar
 
 -- facts contradict each other, whichever is named first
 pub contradict_turned : (Counts : List Fact → Type 0) (f g : Fact) → Contradict Counts f g → Contradict Counts g f
-contradict_turned h1 f g h2 = grind arith
+contradict_turned h1 f g (inl w) = inl (sym w.0, λ e. w.1 (sym e))
+contradict_turned h1 f g (inr one) = inr (record { differ = λ e. one.differ (sym e); group = one.group; counts = one.counts; first = one.second; second = one.first })
 
 pub not_itself : (Counts : List Fact → Type 0) (f : Fact) → Contradict Counts f f → ⊥
-not_itself h1 f h2 = grind arith
+not_itself h1 f h2 = elim h2 [ inl w ↦ w.1 refl | inr one ↦ one.differ refl ]
 
 -- two facts of which a group that is kept has both
 pub shares_contradicts : (p : Parts) (index : Index) (kept : List Bool) (f g : Fact) → IsIndexOf p index → FactExists p.variables f → FactExists p.variables g
@@ -120,12 +122,14 @@ module _ (p : Parts) (index : Index) (kept : List Bool) (before : List Fact) (ol
       here = value_note_shows before fact.var fact.value (value_note old.values fact.var) (known.noted.values fact.var on_variable) is_there.noted
 
       was_in : (f : Fact) → Contains (before ++ fact ∷ []) f → Contains before f
-      was_in f in_all = grind (arith, common_steps, Contains-push_cases, here)
+      was_in f in_all = elim (Contains-push_cases before fact f in_all) [ inl w ↦ w | inr e ↦ subst (Contains before) e here ]
 
   -- a fact that is refused contradicts one of those before
   pub refused : IsContradicted index kept fact old
       → (g : Fact) × Contains before g × Contradict (IsKept p kept) fact g
-  refused (inl (value, at, differs)) = grind (arith, common_steps, value_note_shows, on_variable)
+  refused (inl (value, at, differs)) =
+      let there = value_note_shows before fact.var value (value_note old.values fact.var) (known.noted.values fact.var on_variable) at in
+      (record { var = fact.var; value = value }, there, inl (refl, λ e. differs (sym e)))
   refused (inr (inl is)) =
       let has : HasFact p is.place fact = (indexed.groups fact exists is.place).0 is.among in
       let (other, of, differ) = other_known (IsOfGroupBeside p before old.apart is.place) fact (group_note old.groups is.place) is.other (known.noted.groups is.place has.exists) in (
@@ -179,7 +183,7 @@ module _ (p : Parts) (index : Index) (kept : List Bool) (before : List Fact) (ol
         ]
 
     value_here : value_note new.values fact.var ≡ Some fact.value
-    value_here = grind (arith, common_steps, get_or-set_same, on_variable)
+    value_here = ap (λ vs. value_note vs fact.var) is.values ∙ get_or-set_same old.values fact.var (Some fact.value) None (let wide = wide.variables in let on = on_variable in omega arith)
 
     value_elsewhere : (var : ℕ) → var ≢ fact.var → value_note new.values var ≡ value_note old.values var
     value_elsewhere var ne = ap (λ vs. value_note vs var) is.values ∙ get_or-set_other old.values fact.var var (Some fact.value) None ne
@@ -287,7 +291,7 @@ module _ {p : Parts} {kept : List Bool} {all : List Fact} (exist : All (FactExis
 
       one_of : (apart : Option Fact) (f : Fact) → Contains (option_to_list apart) f → apart ≡ Some f
       one_of None f within = absurd (contains_none f within)
-      one_of (Some one) f within = grind (arith, common_steps, Contains-push_cases, contains_none)
+      one_of (Some one) f within = elim (Contains-push_cases [] one f within) [ inl w ↦ absurd (contains_none f w) | inr e ↦ ap (λ x. Some x) e ]
 
   module _ {index : Index} {came : List Fact} {old : Notes} (indexed : IsIndexOf p index) (so_far : AreSoFar p kept all came old)
       (fact : Fact) (within : Contains all fact) where

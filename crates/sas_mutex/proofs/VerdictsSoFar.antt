@@ -25,7 +25,7 @@ module _ (p : Parts) where
   }
 
   pub first_all : (n : ℕ) (verdicts : List Verdict) → n ≡ length p.groups → FirstUpTo p n verdicts → AreFirstVerdicts p verdicts
-  first_all n verdicts all first = grind (arith, common_steps)
+  first_all n verdicts all first = record { one_each = first.one_each ∙ all; are = λ place lt. first.are place (omega arith) }
 
   -- nothing speaks against a group so far where it may be exclusive
   exclusive_may : (place : ℕ) (verdict : Verdict) → IsFirstVerdict p (group_at p place) verdict → (verdict ≡ Exclusive) ↔ MayBeExclusive p (group_at p place)
@@ -134,7 +134,9 @@ module _ (p : Parts) (kept : List Bool) where
 
   pub next_operator : (operator effects : ℕ) (verdicts : List Verdict) → effects ≡ length (operator_at p operator).effects
       → AreVerdictsSoFar p kept operator effects verdicts → AreVerdictsSoFar p kept (operator + 1) 0 verdicts
-  next_operator operator effects verdicts all so_far = search (rules, arith, so_far_by, one_operator_more)
+  next_operator operator effects verdicts all so_far =
+      let next = λ (place : ℕ). so_far_by operator effects (operator + 1) 0 place (verdict_at verdicts place) (λ _. one_operator_more operator effects place all) in
+      record { one_each = so_far.one_each; are = λ place lt. next place (so_far.are place lt) }
 
   -- the effect judged of each group that has the fact which it sets and another one
   one_effect_judged : (operator effect place : ℕ) (verdict : Verdict) → place < length p.groups
@@ -153,12 +155,17 @@ module _ (p : Parts) (kept : List Bool) where
   pub next_effect : (operator effect : ℕ) (verdicts : List Verdict)
       → ((place : ℕ) → HasFactBeside p place (sets (effect_at (operator_at p operator) effect)) → IsVerdictSoFar p kept operator (effect + 1) place (verdict_at verdicts place))
       → AreVerdictsSoFar p kept operator effect verdicts → AreVerdictsSoFar p kept operator (effect + 1) verdicts
-  next_effect operator effect verdicts judged so_far = grind (arith, common_steps, one_effect_judged)
+  next_effect operator effect verdicts judged so_far =
+      let next = λ (place : ℕ) (lt : place < length p.groups). one_effect_judged operator effect place (verdict_at verdicts place) lt (judged place) (so_far.are place lt) in
+      record { one_each = so_far.one_each; are = next }
 
   -- of a group that is in the family, or of which something is judged, nothing is left to decide
   pub decided_already : (operator effect place : ℕ) (verdicts : List Verdict) → place < length p.groups → (IsUndecided kept verdicts place → ⊥)
       → IsVerdictSoFar p kept operator effect place (verdict_at verdicts place) → IsVerdictSoFar p kept operator (effect + 1) place (verdict_at verdicts place)
-  decided_already operator effect place verdicts exists judged is = grind (arith, common_steps, cases_Bool, so_far_by, decided_for_good)
+  decided_already operator effect place verdicts exists judged is = elim (cases_Bool (family_of kept place)) [
+    | inl here ↦ so_far_by operator effect operator (effect + 1) place (verdict_at verdicts place) (λ out. absurd (out (record { exists = exists; chosen = here }))) is
+    | inr gone ↦ decided_for_good operator effect operator (effect + 1) place (verdict_at verdicts place) (λ e. judged (record { fell = gone; nothing = e })) is
+  ]
 
   -- one verdict is judged
   pub one_judged : (operator effect place : ℕ) (verdicts : List Verdict) (verdict : Verdict) → place < length p.groups

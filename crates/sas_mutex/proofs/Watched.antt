@@ -152,7 +152,10 @@ module _ (p : Parts) where
   pub unwatched_if_over : (w : Watches) (group at : ℕ) (next : Option ℕ) → at < length w.made
       → ((place : ℕ) → at < place → place < length w.made → (watch_at w.made place).group ≡ group → IsOver w place)
       → IsOver w at → IsLastBelow w.made at group next → IsUnwatchedBehind w group next
-  unwatched_if_over w group at next lt behind here link = search (rules, arith, linked_on, cases_eq)
+  unwatched_if_over w group at next lt behind here link = linked_on w group at next lt (λ place from below of. elim (cases_eq place at) [
+    | inl e ↦ subst (IsOver w) (sym e) here
+    | inr ne ↦ behind place (omega arith) below of
+  ]) link
 
   -- those who watch groups that aren't in the family stay unwatched
   pub unwatched_more : (xs : List ℕ) (count : ℕ) (kept : List Bool) (w after : Watches) → ((place : ℕ) → place < count → family_of kept (get_or xs place 0) ≡ true → ⊥)
@@ -171,7 +174,8 @@ module _ (p : Parts) where
   stay_then start b first w after falls one_each before then group out unwatched = search (rules, arith, kept_below)
 
   pub unwatched_in : (xs ys : List ℕ) (more : List ℕ) (count : ℕ) (w : Watches) → ys ≡ xs ++ more → count ≤ length xs → FallenAreUnwatched xs count w → FallenAreUnwatched ys count w
-  unwatched_in xs ys more count w is within unwatched place lt = grind (arith, common_steps, get_or_append_left)
+  unwatched_in xs ys more count w is within unwatched place lt =
+      subst (IsUnwatched w) (sym (ap (λ (l : List ℕ). get_or l place 0) is ∙ get_or_append_left xs more 0 place (omega arith))) (unwatched place lt)
 
   -- ---- in the end
 

@@ -17,6 +17,9 @@ word_line : (i : TaskLine) (w : List ℕ) → task_slot i ≡ task_slot (word w)
 word_line (word v) w s = cc
 word_line _ w s = absurd cc
 
+places_apart : at.Operators ≡ at.RuleEnd → ⊥
+places_apart e = cc
+
 -- after the line all lines have been read
 abbrev EndsAt : Place → ℕ → ℕ → Tracker → TaskLine → Type 0
 EndsAt p left more t i =
@@ -86,8 +89,8 @@ module _ {K : Type 0} (keeps : List (List ℕ) → SoFar → K → Type 0) (line
 
   one_last : (a b : List ℕ) → IsLastLine m.judge a → IsLastLine m.judge b → a ≡ b
   one_last a b (l, inl (p, e)) (k, inl (q, f)) = e ∙ sym f
-  one_last a b (l, inl (p, e)) (k, inr (q, f)) = let apart : at.Operators ≡ at.RuleEnd = sym p ∙ q in absurd cc
-  one_last a b (l, inr (p, e)) (k, inl (q, f)) = let apart : at.Operators ≡ at.RuleEnd = sym q ∙ p in absurd cc
+  one_last a b (l, inl (p, e)) (k, inr (q, f)) = absurd (places_apart (sym p ∙ q))
+  one_last a b (l, inr (p, e)) (k, inl (q, f)) = absurd (places_apart (sym q ∙ p))
   one_last a b (l, inr (p, e)) (k, inr (q, f)) = e ∙ sym f
 
   module _ (text : List ℕ) (found : Excerpt) (kept : IsFoundOf text found) where

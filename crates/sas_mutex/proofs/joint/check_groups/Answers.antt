@@ -1,6 +1,6 @@
 -- At first the family contains all groups that may be exclusive, with room for all that may be
 -- removed.
-use Rattle.sas_mutex.proofs.Imports.{arith, ◌≢◌, listed_invariants}
+use Rattle.sas_mutex.proofs.Imports.{arith, listed_invariants}
 use Rattle.sas_mutex.proofs.JointLists.{decided_at_first}
 use Rattle.sas_mutex.proofs.joint.check_groups.Goals as goal
 

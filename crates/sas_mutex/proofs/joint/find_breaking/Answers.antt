@@ -1,5 +1,5 @@
 -- All operators were checked.
-use Rattle.sas_mutex.proofs.Imports.{◌≡◌, length, arith}
+use Rattle.sas_mutex.proofs.Imports.{length, arith}
 use Rattle.sas_mutex.proofs.VerdictsSoFar.{joint_in_the_end}
 use Rattle.sas_mutex.proofs.joint.find_breaking.Goals as goal
 

@@ -1,6 +1,6 @@
 -- At first the family contains all groups that may be exclusive, with room for all that may be
 -- removed.
-use Rattle.sas_mutex.proofs.Imports.{ℕ, ◌∙◌, length, arith}
+use Rattle.sas_mutex.proofs.Imports.{length, arith}
 use Rattle.sas_mutex.proofs.Counting.{count_within}
 use Rattle.sas_mutex.proofs.VerdictsSoFar.{candidates_from}
 use Rattle.sas_mutex.proofs.Supporting.{none_are}

@@ -1,5 +1,5 @@
 -- The verdict on one more group considers the effect.
-use Rattle.sas_mutex.proofs.Imports.{◌+◌, get_or, below_more, arith, cases_eq, All-from_get_or, IsJudgedAt}
+use Rattle.sas_mutex.proofs.Imports.{get_or, below_more, arith, cases_eq, All-from_get_or, IsJudgedAt}
 use Rattle.sas_mutex.proofs.joint.judge_groups.Goals as goal
 
 pub loop-group-preserved : goal.loop-group-preserved

@@ -1,5 +1,5 @@
 -- The record of the fact's variable decides whether the fact clashes.
-use Rattle.sas_mutex.proofs.Imports.{inl, inr, None, both_ways, iff_from, iff_other, iff_not, ◌≡◌, ◌≢◌, ap, subst, sym, ◌∙◌, arith, common_steps, Some, value_note, EffectPlace}
+use Rattle.sas_mutex.proofs.Imports.{length, variable_below, inl, inr, None, both_ways, iff_from, iff_other, iff_not, ◌≡◌, ◌≢◌, ap, subst, sym, ◌∙◌, arith, common_steps, Some, value_note, EffectPlace}
 use Rattle.sas_mutex.proofs.FromNotes.{IsFiring, other_value_clashes, noted_no_clash, apart_clashes, beside_clashes, clash_shares, apart_or_beside}
 use Rattle.sas_mutex.proofs.effects.FiringEffect.clashes.Goals as goal
 
@@ -33,3 +33,9 @@ returns-in-Some g c =
     other_value_clashes c.args.self.now c.self.inside.index.now fits c.args.kept.now c.args.marks.now c.requires.notes c.args.fact c.requires.fact (c.in-Some.value, there, differs)))
     (λ t. (let same : c.in-Some.value ≡ c.args.fact.value = grind (arith, common_steps) in
     noted_no_clash c.args.self.now c.self.inside.index.now fits c.args.kept.now c.args.marks.now c.requires.notes c.args.fact c.requires.fact (there ∙ ap (λ x. Some x) same)))
+
+pub bounds : goal.bounds
+bounds g c = omega (arith, variable_below c.args.self.now.task c.args.fact c.requires.fact, c.requires.notes.noted.from.known.wide.variables, ap length c.as_slice.ensures)
+
+pub bounds-as_slice-fact : goal.bounds-as_slice-fact
+bounds-as_slice-fact g c = omega (arith, variable_below c.args.self.now.task c.args.fact c.requires.fact, c.requires.notes.noted.from.known.wide.variables, ap length c.as_slice.ensures)

@@ -1,6 +1,6 @@
 -- One more effect sets no other fact of the group, or doesn't exist. Each effect on the variable is
 -- one of these.
-use Rattle.sas_mutex.proofs.Imports.{◌≡◌, length, ◌∙◌, below_more, subst, arith, get_or_default, EffectPlace, operator_of, IsApartAt}
+use Rattle.sas_mutex.proofs.Imports.{◌≡◌, length, ◌∙◌, iff_not, below_more, subst, arith, get_or_default, EffectPlace, operator_of, IsApartAt}
 use Rattle.sas_mutex.proofs.effects.FiringEffect.is_single_on.Goals as goal
 use Rattle.sas_mutex.proofs.effects.FiringEffect.is_single_on.Goals.{else-other-effects-via-then-other-effects+else-not-not_both, else-other-effects-via-else-other-effects}
 
@@ -28,3 +28,8 @@ returns-clause-yes g c t other on lt =
 
 pub loop-other-init : goal.loop-other-init
 loop-other-init g c = record { notes = c.requires.notes; apart = λ k lt. absurd (omega arith) }
+
+pub returns-then-not-not_both-clause-no : goal.returns-then-not-not_both-clause-no
+returns-then-not-not_both-clause-no g c _ single =
+    let count = subst (λ (s : EffectPlace). c.effects.result ≡ length (operator_of s).effects) c.self.view_is c.effects.ensures in
+    iff_not c.not_both.ensures.is c.if-not-not_both.true (single _ (omega (arith, count)))

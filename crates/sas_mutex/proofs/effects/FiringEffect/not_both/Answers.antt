@@ -1,5 +1,5 @@
 -- The other effect sets a fact of the group on another variable, or doesn't.
-use Rattle.sas_mutex.proofs.Imports.{arith, ◌≡◌, iff_yes, iff_other, iff_not, effect_at, change_of, operator_of}
+use Rattle.sas_mutex.proofs.Imports.{arith, iff_yes, iff_other, iff_not, effect_at, change_of, operator_of}
 use Rattle.sas_mutex.proofs.SetFacts.{change_exists, not_beside, clash_beside}
 use Rattle.sas_mutex.proofs.effects.FiringEffect.not_both.Goals as goal
 

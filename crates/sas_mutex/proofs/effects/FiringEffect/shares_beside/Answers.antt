@@ -1,6 +1,6 @@
 -- A known fact other than the one set apart is recorded for each group that contains it; or one more
 -- known fact shares no group with the fact, or is the one set apart.
-use Rattle.sas_mutex.proofs.Imports.{arith, ℕ, length, subst, ◌∙◌, groups_below, iff_other, EffectPlace, iff_not, ◌≢◌, Some, both_ways, All-contains, Fact, known, turn_has, turn_more, turns_end, iff_yes, iff_no, ShareOne, known_at}
+use Rattle.sas_mutex.proofs.Imports.{arith, length, subst, groups_below, iff_other, EffectPlace, iff_not, ◌≢◌, Some, both_ways, All-contains, Fact, known, turn_has, turn_more, turns_end, iff_yes, iff_no, ShareOne, known_at}
 use Rattle.sas_mutex.proofs.TaskFacts.{known_at_exist}
 use Rattle.sas_mutex.proofs.KnownFacts.{share_one, share_kept}
 use Rattle.sas_mutex.proofs.FromNotes.{IsFiring, noted_beside, beside_noted}

@@ -1,5 +1,5 @@
 -- One more group is added to the basis.
-use Rattle.sas_mutex.proofs.Imports.{arith, ◌∙◌, refl}
+use Rattle.sas_mutex.proofs.Imports.{arith, refl}
 use Rattle.sas_mutex.proofs.Supporting.{same_grown, grown_then}
 use Rattle.sas_mutex.proofs.family.Family.grow_basis.Goals as goal
 

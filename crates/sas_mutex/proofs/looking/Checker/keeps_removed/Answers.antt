@@ -10,3 +10,14 @@ returns-then-keeps_by_excluding-clause-is g c =
     let group = group_at f.task c.args.group in
     iff_yes (effect_keeps_more (IsKept f.task kept) (IsGroupOfOr f.task (family_of kept) group) (operator_of f) group (effect_of f) (λ facts counts. inl counts)
     (c.keeps_by_excluding.ensures.yes c.if-keeps_by_excluding.true))
+
+pub note_excluding-requires-clause-checking : goal.note_excluding-requires-clause-checking
+note_excluding-requires-clause-checking g c =
+    rw c.keeps_with_itself-keeps.ensures.kept (record { room = c.keeps_by_excluding.ensures.checking.room; notes = c.keeps_with_itself-keeps.ensures.notes })
+
+pub returns-else-keeps-clause-checking : goal.returns-else-keeps-clause-checking
+returns-else-keeps-clause-checking g c =
+    rw c.keeps_with_itself-keeps.ensures.kept (record { room = c.keeps_by_excluding.ensures.checking.room; notes = c.keeps_with_itself-keeps.ensures.notes })
+
+pub returns-else-keeps-clause-is : goal.returns-else-keeps-clause-is
+returns-else-keeps-clause-is g c = rw c.keeps_by_excluding.ensures.same at c.keeps_with_itself-keeps.ensures.is
