@@ -43,3 +43,12 @@ overflow_add-self-in-Ok g c = grind (arith, common_steps, within_fits, takes_bou
 
 pub invariant_of-self-in-Ok : goal.invariant_of-self-in-Ok
 invariant_of-self-in-Ok g c = grind (arith, common_steps, within_fits, takes_bound, takes_some, some_when)
+
+pub take_cut_line-requires-clause-room : goal.take_cut_line-requires-clause-room
+take_cut_line-requires-clause-room g c = grind (arith, common_steps)
+
+pub take_cut_line-requires-in_default-clause-room : goal.take_cut_line-requires-in_default-clause-room
+take_cut_line-requires-in_default-clause-room g c = grind (arith, common_steps)
+
+pub overflow_add-self-in-Ok-2 : goal.overflow_add-self-in-Ok-2
+overflow_add-self-in-Ok-2 g c = grind (arith, common_steps)
