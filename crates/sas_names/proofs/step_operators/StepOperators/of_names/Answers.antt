@@ -1,4 +1,5 @@
 -- An operator that has one of the names is stored.
+use Rattle.std.proofs.lemmas.Grind.{elements}
 use Rattle.sas_names.proofs.Imports.{◌≡◌, ℕ, ◌+◌, ◌-◌, ◌<◌, List, length, get_or, slice_set, Some, sym, ap, subst, ◌∙◌, arith, length-set, get_or_read, operator_at, value_of, step_names, existing}
 use Rattle.sas_names.proofs.ChainsFrom.{AreChainsFrom, AreChainsFrom-step}
 use Rattle.sas_names.proofs.step_operators.StepOperators.of_names.Goals as goal
@@ -45,3 +46,6 @@ loop-operator-preserved g c = search (arith, value_of, step_names, length, opera
 
 pub returns : goal.returns
 returns g c = search (arith, value_of, step_names)
+
+pub loop-operator-init : goal.loop-operator-init
+loop-operator-init g c = grind (arith, elements)
