@@ -1,4 +1,5 @@
 -- The first condition that fails determines the fault.
+use Rattle.std.proofs.lemmas.Grind.{common_steps, elements}
 use Rattle.sas_meaning.proofs.Imports.{rules, ◌≡◌, ◌∙◌, ℕ, Bool, List, length, get_or, Option, Some, None, ap, arith, result_err, Fact, Parts, Check, first_fault, check, rule_at, LayerFault, LayerOrder, looks_down}
 use Rattle.sas_meaning.proofs.NumberedChecks.{same_check, pass_before_next, fails_at, pass_all}
 use Rattle.sas_meaning.proofs.layer_checks.check_conditions.Goals as goal
@@ -31,3 +32,12 @@ returns-in_err-check g c =
 
 pub returns : goal.returns
 returns g c = search (arith, pass_all, rule_at, length)
+
+pub looks_down-requires-clause-var : goal.looks_down-requires-clause-var
+looks_down-requires-clause-var g c = grind (arith, elements)
+
+pub looks_down-requires-clause-condition : goal.looks_down-requires-clause-condition
+looks_down-requires-clause-condition g c = grind (arith, elements)
+
+pub overflow_cast-condition : goal.overflow_cast-condition
+overflow_cast-condition g c = grind (arith, common_steps)

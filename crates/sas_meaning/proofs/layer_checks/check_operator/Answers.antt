@@ -1,4 +1,5 @@
 -- The first effect that fails determines the fault.
+use Rattle.std.proofs.lemmas.Grind.{elements}
 use Rattle.sas_meaning.proofs.Imports.{rules, ◌≡◌, ◌∙◌, ℕ, Bool, true, false, not, Option, Some, None, refl, arith, is_some, result_err, Change, Parts, first_fault, check, operator_at, effect_at, change_of, layer_of, LayerFault, EffectOnDerived, effect_layer_checks}
 use Rattle.sas_meaning.proofs.NumberedChecks.{same_check, pass_before_next, fails_at, pass_all}
 use Rattle.sas_meaning.proofs.layer_checks.check_operator.Goals as goal
@@ -26,3 +27,6 @@ returns-in_err-check g c =
 
 pub returns : goal.returns
 returns g c = search (arith, pass_all, effect_layer_checks, operator_at)
+
+pub layer-requires : goal.layer-requires
+layer-requires g c = grind (arith, elements)
