@@ -1,11 +1,15 @@
 -- The verdict is the first reason against the group.
-use Rattle.sas_groups.proofs.Imports.{arith, get_or, fact_within, ◌≡◌, List, Fact, Parts, Verdict, Exclusive, IsVerdictAlone, IsFirstVerdict}
+use Rattle.sas_groups.proofs.Imports.{refl, get_or, fact_within, ◌≡◌, List, Fact, Parts, Verdict, Exclusive, Derived, Broken, IsVerdictAlone, IsFirstVerdict}
+use Rattle.sas_groups.specs.declared.verdict.Verdict.TheVariants.{Initial}
 use Rattle.sas_groups.proofs.Invariance.{exclusive_alone_is_invariant}
 use Rattle.sas_groups.proofs.group.check_group.Goals as goal
 
 -- what speaks against a group before operators are asked is the verdict on it
 first_is_last : (p : Parts) (group : List Fact) (verdict : Verdict) → (verdict ≡ Exclusive → ⊥) → IsFirstVerdict p group verdict → IsVerdictAlone p group verdict
-first_is_last p group h1 not h = search (arith)
+first_is_last p group Exclusive not first = absurd (not refl)
+first_is_last p group Derived not first = first
+first_is_last p group Initial not first = first
+first_is_last p group (Broken operator) not first = absurd first
 
 pub before_operators-requires : goal.before_operators-requires
 before_operators-requires g c k d lt = fact_within c.args.layered.now (get_or c.args.group.now k d).var (get_or c.args.group.now k d).value (c.requires k d lt)
