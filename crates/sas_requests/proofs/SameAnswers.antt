@@ -79,7 +79,7 @@ check_same p (Some fault) o ranged is = refused_same p fault o ranged is
 -- the reason for each verdict, counted from the first one
 reasons_from : (p : Parts) (verdicts : List Verdict) (reasons : List (Option Reason)) → AreJointVerdicts p verdicts → AreReasons p verdicts reasons
     → (k : ℕ) → k < length verdicts → IsReasonIfAny p (0 + k) (get_or verdicts k Exclusive) (reason_at reasons (0 + k))
-reasons_from p verdicts reasons joint are k lt = grind (arith, common_steps)
+reasons_from p verdicts reasons joint are k lt = (let e : 0 + k ≡ k = omega arith in rw e (are.are k (omega (arith, joint.one_each))))
 
 mutex_same : (p : Parts) (first : Option LayerFault) (o : Output) → WellRanged p → WhyAnswer p (WhyGroupsAnswer p) first o → (plain : Output) × LayeredGroupsAnswer p first plain × IsSameAnswer plain o
 mutex_same p None o ranged (verdicts, reasons, joint, are, is) =
