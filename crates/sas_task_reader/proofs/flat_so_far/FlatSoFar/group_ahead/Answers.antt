@@ -1,4 +1,5 @@
 use Rattle.sas_task_reader.proofs.Imports.{ap, ◌∙◌, the_view, lists_opened, one_list_more}
+use Rattle.sas_flat.proofs.Blocks.{ends_opened}
 use Rattle.sas_task_file.specs.TaskEvents.{behind_group}
 use Rattle.sas_task_file.specs.declared.so_far.SoFar.{SoFar}
 use Rattle.sas_task_reader.proofs.StoredParts.{with_groups, one_group_more}
@@ -22,3 +23,9 @@ pub returns-in_ok-close-in-Ok-Some-clause-none : goal.returns-in_ok-close-in-Ok-
 returns-in_ok-close-in-Ok-Some-clause-none g c = λ none.
     let (facts, is, ahead) = rw c.in-Ok-Some.field-0-is at c.in-Ok-Some.ensures.found in
     absurd (some_bytes _ _ c.args.bytes.now c.in-Ok-Some.front ahead.1 none)
+
+pub close-requires : goal.close-requires
+close-requires g c = ends_opened _ _ _ c.self.invariant.1 c.read_group.ensures.kept
+
+pub cut-requires : goal.cut-requires
+cut-requires g c = ends_opened _ _ _ c.self.invariant.1 c.read_group.ensures.kept

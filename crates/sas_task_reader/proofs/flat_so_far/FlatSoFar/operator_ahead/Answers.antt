@@ -30,3 +30,13 @@ pub returns-in_default-push-clause-none : goal.returns-in_default-push-clause-no
 returns-in_default-push-clause-none g c = λ none.
     let (p, e, more_p, more_e, ahead) = rw c.in-Ok-Some.field-0-is at c.in-Ok-Some.ensures.found in
     absurd (some_bytes _ _ c.args.bytes.now c.in-Ok-Some.found.front ahead.1 none)
+
+pub push-requires : goal.push-requires
+push-requires g c =
+    let old = c.self.inside.operators in
+    (operators_opened old (record old { prevail = c.read_operator.new.prevail; effects = c.read_operator.new.effects }) refl refl c.self.invariant.2 c.read_operator.ensures.prevail c.read_operator.ensures.effects).align
+
+pub cut-requires-in_default : goal.cut-requires-in_default
+cut-requires-in_default g c =
+    let old = c.self.inside.operators in
+    (operators_opened old (record old { prevail = c.read_operator.new.prevail; effects = c.read_operator.new.effects }) refl refl c.self.invariant.2 c.read_operator.ensures.prevail c.read_operator.ensures.effects).align

@@ -28,3 +28,13 @@ pub returns-in_default-push-clause-none : goal.returns-in_default-push-clause-no
 returns-in_default-push-clause-none g c = λ none.
     let (values, names, many, ahead) = rw c.in-Ok-Some.field-0-is at c.in-Ok-Some.ensures.found in
     absurd (some_bytes _ _ c.args.bytes.now c.in-Ok-Some.found.front ahead.1 none)
+
+pub push-requires : goal.push-requires
+push-requires g c =
+    let old = c.self.inside.variables in
+    (variables_opened old (record old { values = c.read_variable.new.names }) refl refl refl c.self.invariant.0 c.read_variable.ensures.kept).align
+
+pub cut-requires-in_default : goal.cut-requires-in_default
+cut-requires-in_default g c =
+    let old = c.self.inside.variables in
+    (variables_opened old (record old { values = c.read_variable.new.names }) refl refl refl c.self.invariant.0 c.read_variable.ensures.kept).align
