@@ -60,8 +60,8 @@ impl Names {
         self.first.get(task, name)
     }
 
-    /// Returns the lowest operator of the name of each step, or a number that no operator has if there is none: it takes four bytes, an
-    /// `Option` eight. `task` is the task of these names. No operator's name is read before all digests are looked up: both read memory in
+    /// Returns the lowest operator of the name of each step. A number that no operator has stands for none, since an `Option` takes twice
+    /// the memory. `task` is the task of these names. No operator's name is read before all digests are looked up: both read memory in
     /// random order, and the processor waits for several reads at once only if they follow each other directly.
     pub fn first_operators<T: Grounded, P: Stepwise>(
         &self,
