@@ -8,10 +8,10 @@ CRATE is a program, as sas, or a static library, as sas_c. PROCESSORS is how man
 PLATFORM is x86_64-linux, if left out, or aarch64-linux. For another platform only CRATE is proved again, and nothing is linked: the object
 file of a program, or the archive of a library, stands in out/PLATFORM/.
 
-Each crate is proved once those that it uses are proved: first the crate with the longest chain of others above it. Where fewer crates
-are ready than there are processors, they get several. What is written of a library, into out/libraries/, are its interface, its code and
-the statements of its proofs, as `rt ci` does it: with whole proofs, as `rt lib` writes them, the crates at the top load for minutes. A
-crate whose files and crates below are those of the last run isn't proved again.
+Each crate is proved once those that it uses are proved: first the crate with the longest chain of others above it. It gets half of the
+processors that are idle, the next one half of the rest, and the last one what is left. What is written of a library, into out/libraries/,
+are its interface, its code and the statements of its proofs, as `rt ci` does it: with whole proofs, as `rt lib` writes them, the crates at
+the top load for minutes. A crate whose files and crates below are those of the last run isn't proved again.
 
 --check proves any crate over what the last run left of those below, and keeps its work in the crate's out/incremental, so that the next
 check is short. Flags are those of `rattle check`, such as `--only FUNCTION`, `--allow-holes` or `--jobs 1`.
@@ -210,11 +210,12 @@ class Build:
             while running or (waiting and well):
                 ready = [it for it in waiting if well and self.proved.issuperset(below(it))]
                 idle = processors - sum(jobs for _, jobs in running.values())
-                for at, crate in enumerate(ready[:idle]):
-                    jobs = min(MOST, max(1, idle - (len(ready) - at - 1)))
-                    idle -= jobs
-                    waiting.remove(crate)
-                    running[pool.submit(prove, crate, jobs)] = crate, jobs
+                for crate in ready:
+                    jobs = min(MOST, idle if crate == ready[-1] else (idle + 1) // 2)
+                    if jobs:
+                        idle -= jobs
+                        waiting.remove(crate)
+                        running[pool.submit(prove, crate, jobs)] = crate, jobs
                 for it in concurrent.futures.wait(running, return_when=concurrent.futures.FIRST_COMPLETED).done:
                     well &= self.report(running.pop(it)[0], it.result())
         return well

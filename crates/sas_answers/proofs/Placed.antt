@@ -24,6 +24,12 @@ module _ (old mid new : List ℕ) (a at : ℕ) (x : List ℕ) where
   placed_then y (Some end) room first second = record { as_long = second.as_long ∙ first.as_long; places = places_then y end first.places second.places }
   placed_then y None room first second = record { as_long = second.as_long ∙ first.as_long; places = leaves_then room first.places second.places }
 
+  -- without room for what follows the first bytes stay
+  pub placed_then_none : (y whole : List ℕ) (result : Option ℕ) → a ≤ length old → PlacesOrLeaves old mid a x (Some at)
+      → PlacesOrLeaves mid new at y None → result ≡ None → PlacesOrLeaves old new a whole result
+  placed_then_none y whole result room first second none =
+      rw none record { as_long = second.as_long ∙ first.as_long; places = leaves_then room first.places second.places }
+
 -- the same bytes in other words
 pub places_as : (old new : List ℕ) (at : ℕ) (x whole : List ℕ) (result : Option ℕ) → x ≡ whole → PlacesOrLeaves old new at x result → PlacesOrLeaves old new at whole result
 places_as old new at x whole result e places = subst (λ (l : List ℕ). PlacesOrLeaves old new at l result) e places

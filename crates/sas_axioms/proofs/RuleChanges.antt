@@ -1,11 +1,21 @@
 -- The variables and values in a rule of a task exist.
 use Rattle.std.proofs.lemmas.Grind.{common_steps}
-use Rattle.sas_axioms.proofs.Imports.{arith, ◌≡◌, ◌≢◌, ◌⊎◌, ℕ, ◌<◌, ◌^◌, true, false, not, nat_eq, Option, Some, List, length, refl, sym, subst, option_eq, eqb_tells, slice_index, All, Fact, Parts, Change, change_of, rule_at, WellRanged, default_of, differs, fact_within, ◌==◌, rule_fits}
+use Rattle.sas_axioms.proofs.Imports.{arith, ◌≡◌, ◌≢◌, ◌⊎◌, ℕ, ◌<◌, ◌^◌, true, false, not, nat_eq, Option, Some, List, length, refl, sym, ap, subst, option_eq, eqb_tells, slice_index, All, Fact, Parts, Change, change_of, rule_at, WellRanged, default_of, differs, fact_within, ◌==◌, rule_fits}
 
 module _ (p : Parts) (ranged : WellRanged p) (rule : ℕ) (exists : rule < length p.rules) where
   -- the variable of the rule exists
   pub change_within : (change : Change) → change ≡ change_of (rule_at p rule) → (n : ℕ) → n ≡ length p.variables → change.var < n
   change_within change is n all = rw (is, all) (fact_within p (rule_at p rule).var (rule_at p rule).new (rule_fits p ranged rule exists).new)
+
+  -- also where the rule is that of a task which is equal to this one
+  pub var_within : (task : Parts) → task ≡ p → (change : Change) → change ≡ change_of (rule_at task rule)
+      → change.var < length task.variables
+  var_within task is change of_rule = change_within change (rw is at of_rule) (length task.variables)
+      (ap (λ (t : Parts). length t.variables) is)
+
+  pub value_within : (task : Parts) → task ≡ p → (change : Change) → change ≡ change_of (rule_at task rule)
+      → (n : ℕ) → n ≡ length p.variables → change.var < n
+  value_within task is change of_rule = change_within change (rw is at of_rule)
 
   -- and so do those of its conditions
   pub conditions_within : (s : List ℕ) → length s ≡ length p.variables → (conditions : List Fact) → conditions ≡ (rule_at p rule).conditions

@@ -1,6 +1,6 @@
 -- The values that effects give, for one more effect, and the state after they are written.
 use Rattle.std.proofs.lemmas.Grind.{common_steps}
-use Rattle.sas_run.proofs.Imports.{◌≡◌, ◌≢◌, ℕ, ◌+◌, ◌<◌, ◌≤◌, List, length, get_or, set, Option, None, Some, sym, ◌∙◌, ap, arith, unwrap_or, cases_eq, get_or_default, get_or-set_same, get_or-set_other, length-set, Operator, Parts, effect_at, IsState, EffectFits, AllHold, preconditions, Fires, same_Some, given_to, value_after, NothingGiven, IsGiven, IsGivenTo, GivesValue, GivesOther, IsApplied, IsFirstConflict, no_effect}
+use Rattle.sas_run.proofs.Imports.{◌≡◌, ◌≢◌, ℕ, ◌+◌, ◌<◌, ◌≤◌, List, length, get_or, set, Option, None, Some, sym, ◌∙◌, ap, subst, inl, inr, arith, unwrap_or, cases_eq, get_or_default, get_or-set_same, get_or-set_other, length-set, Operator, Parts, effect_at, IsState, EffectFits, AllHold, preconditions, Fires, same_Some, given_to, value_after, NothingGiven, IsGiven, IsGivenTo, GivesValue, GivesOther, IsApplied, IsFirstConflict, no_effect}
 
 pub not_both : (a : ℕ) (given : Option ℕ) → given ≡ None → given ≡ Some a → ⊥
 not_both a given none some = let e : None ≡ Some a = sym none ∙ some in absurd cc
@@ -18,6 +18,18 @@ module _ (p : Parts) (s : List ℕ) (o : Operator) (n : ℕ) (given : List (Opti
   pub gives_one_more : (effect_at o n).var < length p.variables → Fires s (effect_at o n) → (given' : List (Option ℕ)) → GivesValue given (effect_at o n).var (effect_at o n).new given'
       → IsGiven p s o (n + 1) given'
   gives_one_more within fires given' new = grind (arith, length-set, effect_at, set, given_to, get_or-set_same, get_or-set_other, cases_eq, same_Some)
+
+  -- one more effect that doesn't fire gives nothing
+  pub gives_no_more : (Fires s (effect_at o n) → ⊥) → IsGiven p s o (n + 1) given
+  gives_no_more not = record {
+    one_each = is.one_each;
+    gives = λ k lt fires. elim (cases_eq k n) [
+      | inl e ↦ absurd (not (subst (λ i. Fires s (effect_at o i)) e fires))
+      | inr ne ↦ is.gives k (omega arith) fires
+    ];
+    giver = λ var value at.
+        (let w = is.giver var value at in (w.0, (let lt = w.1 in omega arith), w.2, w.3, w.4));
+  }
 
 -- a value is given to the variable
 abbrev pub HasGiven : List (Option ℕ) → ℕ → Type 0

@@ -1,5 +1,5 @@
 -- The search in a long chain.
-use Rattle.sas_run.proofs.Imports.{◌≡◌, ℕ, ◌+◌, ◌<◌, ◌≤◌, List, length, get_or, slice_index, Option, None, Some, refl, sym, ap, subst, ◌∙◌, inl, inr, arith, cases_lt, eq-or-lt_of_le, All-contains, Parts, operator_at, Holds, preconditions, IsNamed, IsApplicable, IsFirstChosen, IsFirstFrom, HaveValues, AreAll, NoneAmong, IsFirstAmong}
+use Rattle.sas_run.proofs.Imports.{◌≡◌, ℕ, ◌+◌, ◌<◌, ◌≤◌, List, length, get_or, slice_index, Option, None, Some, refl, sym, ap, subst, ◌∙◌, inl, inr, arith, cases_lt, eq-or-lt_of_le, All-contains, Parts, operator_at, Holds, preconditions, IsNamed, IsApplicable, IsFirstChosen, IsFirstFrom, ValueGroups, AreValueGroups, first_with, HaveValues, AreAll, NoneAmong, IsFirstAmong}
 use Rattle.std.proofs.Math.Nat.{min-le_left, min-le_right, min-eq_left, min_comm}
 use Rattle.std.proofs.Common.{min}
 
@@ -10,12 +10,17 @@ module _ (p : Parts) (s operators : List ℕ) (values : List (Option ℕ)) where
     pub has : item < length values → get_or values item None ≡ value
     pub none : (before : ℕ) → before < item → get_or values before None ≡ value → IsApplicable s (operator_at p (get_or operators before 0)) → ⊥
 
-  pub starts_at : (value : Option ℕ) (item : ℕ) → IsFirstFrom values 0 value item → SearchedAt value item
-  starts_at value item low = grind arith
+  pub starts_at : (groups : ValueGroups) → AreValueGroups values groups → (value : Option ℕ) (item : ℕ) → item ≡ first_with groups value
+      → SearchedAt value item
+  starts_at groups are value item is =
+      let low = are.first value in
+      rw is record { within = low.within; has = low.has; none = λ before lt same can. low.first before (omega arith) lt same }
 
-  pub goes_to : (value : Option ℕ) (item next : ℕ) → SearchedAt value item → item < length values → (IsApplicable s (operator_at p (get_or operators item 0)) → ⊥)
-      → IsFirstFrom values (item + 1) (get_or values item None) next → SearchedAt value next
-  goes_to value item next searched lt not low = grind (arith, cases_lt, eq-or-lt_of_le, operator_at, get_or)
+  pub goes_to : (groups : ValueGroups) → AreValueGroups values groups → (value : Option ℕ) (item next : ℕ) → SearchedAt value item
+      → item < length values → (IsApplicable s (operator_at p (get_or operators item 0)) → ⊥) → next ≡ slice_index groups.next.items item → SearchedAt value next
+  goes_to groups are value item next searched lt not is =
+      let low : IsFirstFrom values (item + 1) (get_or values item None) next = rw is (are.next item lt) in
+      grind (arith, cases_lt, eq-or-lt_of_le, operator_at, get_or)
 
   module _ (var : ℕ) (have : HaveValues p operators var values) where
     -- an operator that requires another value isn't applicable

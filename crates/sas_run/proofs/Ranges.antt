@@ -1,6 +1,6 @@
 -- The operators of a task and their effects are well ranged, and their variables exist.
 use Rattle.std.proofs.lemmas.Grind.{common_steps}
-use Rattle.sas_run.proofs.Imports.{arith, ◌≡◌, ℕ, ◌<◌, List, [], ◌∷◌, length, Option, None, Some, sym, subst, filter_map, option_map, All, AllByRecursion, cons_option, Fact, Variable, FactExists, MayHaveValue, Effect, Parts, Change, change_of, operator_at, effect_at, WellRanged, EffectFits, old_fact, preconditions, fact_within, operator_fits, effect_fits}
+use Rattle.sas_run.proofs.Imports.{arith, ◌≡◌, ℕ, ◌<◌, List, [], ◌∷◌, length, All-from_recursion, IsState, Option, None, Some, sym, subst, filter_map, option_map, All, AllByRecursion, cons_option, Fact, Variable, FactExists, MayHaveValue, Effect, Parts, Change, change_of, operator_at, effect_at, WellRanged, EffectFits, old_fact, preconditions, fact_within, operator_fits, effect_fits}
 
 -- the old values that effects require exist
 old_facts_exist : (variables : List Variable) (effects : List Effect) → AllByRecursion (EffectFits variables) effects
@@ -31,3 +31,9 @@ module _ (p : Parts) (ranged : WellRanged p) (operator : ℕ) (exists : operator
   -- the variables of its preconditions exist
   pub preconditions_within : All (λ (f : Fact). f.var < length p.variables) (preconditions (operator_at p operator))
   preconditions_within = grind (arith, common_steps, length, fact_within, preconditions, operator_at, filter_map, old_fact, operator_fits, old_facts_exist)
+
+-- the variables of the goal have values in a state
+pub goal_in_state : (p : Parts) (s : List ℕ) → WellRanged p → IsState p.variables s → All (λ (f : Fact). f.var < length s) p.goal
+goal_in_state p s ranged state k d lt =
+    let fact = All-from_recursion (FactExists p.variables) p.goal ranged.goal.each k d lt in
+    omega (arith, state.one_each, fact_within p _ _ fact)

@@ -1,14 +1,11 @@
-use Rattle.sas_answers.proofs.Imports.{rules}
-use Rattle.sas_answers.proofs.Placed.{places_as, placed_then}
+use Rattle.sas_answers.proofs.Placed.{places_as, placed_then, placed_then_none}
 use Rattle.sas_answers.proofs.WordLines.{line_is}
 use Rattle.sas_answers.proofs.placing.place_line.Goals as goal
 
 pub returns-in_err-behind_rest : goal.returns-in_err-behind_rest
 returns-in_err-behind_rest c =
-    let stays = placed_then _ _ _ _ _ _ _ _ c.requires c.in_ok-behind_first.ensures c.in_err-behind_rest.ensures in
-    let long = stays.as_long in
-    let front = stays.places in
-    search rules
+    placed_then_none _ _ _ _ _ _ _ _ _ c.requires c.in_ok-behind_first.ensures c.in_err-behind_rest.ensures
+    c.from_residual-in_err-behind_rest.ensures
 
 pub returns : goal.returns
 returns c =

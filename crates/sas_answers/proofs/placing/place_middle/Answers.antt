@@ -1,7 +1,12 @@
 -- The ten thousands, two digits behind them, and two more.
 use Rattle.sas_answers.proofs.Imports.{List, ℕ, ◌∷◌, ◌++◌, ◌≡◌, ◌/◌, ◌%◌, arith, sym, ap, ◌∙◌, decimal, decimal_pair, pair}
-use Rattle.sas_answers.proofs.Placed.{places_as, placed_then}
+use Rattle.sas_answers.proofs.Placed.{places_as, placed_then, placed_then_none}
 use Rattle.sas_answers.proofs.placing.place_middle.Goals as goal
+
+pub returns-in_err-behind_hundreds : goal.returns-in_err-behind_hundreds
+returns-in_err-behind_hundreds c =
+    placed_then_none _ _ _ _ _ _ _ _ _ c.requires.at c.in_ok-behind_ten_thousands.ensures c.in_err-behind_hundreds.ensures
+    c.from_residual-in_err-behind_hundreds.ensures
 
 pub returns : goal.returns
 returns c =

@@ -1,3 +1,4 @@
+use Rattle.sas_axioms.proofs.RuleChanges.{value_within}
 use Rattle.sas_axioms.proofs.Imports.{◌≡◌, ◌<◌, length, get_or, set, sym, ◌∙◌, ap, Change, subst, inl, inr, arith, cases_eq, get_or_default, rule_at, HasFired, Fired, fired_there, no_effect}
 use Rattle.sas_axioms.proofs.rounds.go_round.Goals as goal
 use Rattle.sas_axioms.proofs.rounds.go_round.Goals.{then-changes, else-changes}
@@ -37,3 +38,10 @@ loop-rule-preserved g c =
         ];
       }
     ]
+
+pub set-requires : goal.set-requires
+set-requires g c =
+    let within : c.loop-rule.rule < length c.args.layered.now.rules =
+        omega (arith, (rw c.task-task.ensures.task at c.rules-rule-end.ensures), c.loop-rule-test.true) in
+    value_within _ c.task-task.ensures.well_ranged c.loop-rule.rule within _ c.task-task.ensures.task
+        _ c.rule_change-change.ensures _ c.loop-rule.invariant.state.one_each

@@ -27,3 +27,12 @@ loop-change-preserved g c =
           (changes_basic p c.args.operator c.requires.operator changes effects c.task.ensures.layered n no_change some) c.replace.new.deleted.facts.items (rw c.fact.ensures at (c.replace.ensures.deleted before)));
       notes = notes_on c.args.deleted.now c.loop-change.deleted c.replace.new.deleted c.loop-change.invariant.notes c.replace.ensures.notes;
     }
+
+pub returns-clause-made : goal.returns-clause-made
+returns-clause-made g c =
+    let made = c.loop-change.invariant.made in
+    record {
+      state = made.state;
+      set = λ k d lt. made.set k d (omega (arith, lt, c.loop-change-test.false));
+      kept = λ var others. made.kept var (λ k d lt. others k d (omega (arith, lt, c.loop-change.auto.change-index-end)));
+    }

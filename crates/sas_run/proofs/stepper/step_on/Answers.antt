@@ -1,8 +1,10 @@
 -- The effects are applied, and the result is settled.
-use Rattle.std.proofs.Common.{arith}
-use Rattle.std.proofs.lemmas.Grind.{common_steps}
+use Rattle.sas_run.proofs.Imports.{operator_at}
 use Rattle.sas_run.proofs.NextStates.{effects_basic, step_from_applied}
 use Rattle.sas_run.proofs.stepper.step_on.Goals as goal
 
 pub returns-clause-steps : goal.returns-clause-steps
-returns-clause-steps g c = grind (arith, common_steps, step_from_applied, effects_basic)
+returns-clause-steps g c =
+    let p = c.args.layered.now in
+    step_from_applied p c.args.state.now (operator_at p c.args.operator) _ c.settle.new.state
+    (effects_basic p c.args.operator c.task.ensures.layered c.requires.operator) c.in_ok-apply.ensures.applies c.settle.ensures.settles

@@ -1,8 +1,8 @@
 -- One more effect has given its value, if it fires.
 use Rattle.std.proofs.lemmas.Grind.{common_steps}
-use Rattle.sas_run.proofs.Imports.{◌≡◌, ◌∙◌, length, sym, subst, arith, slice_index, Change, operator_at, effect_at, change_of, AllHold, Fires, IsGivenTo, GivesValue, GivesOther, effect_fits}
+use Rattle.sas_run.proofs.Imports.{◌≡◌, ◌∙◌, true≢false, length, sym, subst, arith, slice_index, Change, operator_at, effect_at, change_of, AllHold, Fires, IsGivenTo, GivesValue, GivesOther, effect_fits}
 use Rattle.sas_run.proofs.Ranges.{effect_within, conditions_within, change_within}
-use Rattle.sas_run.proofs.Giving.{given_on_effects, conflicts_first, gives_one_more}
+use Rattle.sas_run.proofs.Giving.{given_on_effects, conflicts_first, gives_one_more, gives_no_more}
 use Rattle.sas_run.proofs.PlainSteps.{no_change, change_made}
 use Rattle.sas_run.proofs.steps.give_each.Goals as goal
 use Rattle.sas_run.proofs.steps.give_each.Goals.{in-Some, in-None+else-not-holds_all}
@@ -41,6 +41,15 @@ loop-effect-preserved g c =
     ] in
     gives_one_more p s o n given c.loop-effect.invariant (effect_within p c.task.ensures.well_ranged c.args.operator c.requires.operator n (omega arith)) made.0 c.give.new.given
     (subst (λ (change : Change). GivesValue given change.var change.new c.give.new.given) made.1 (c.give.ensures.yes c.if-not-give.false))
+
+pub loop-effect-preserved-then-not-holds_all : goal.loop-effect-preserved-then-not-holds_all
+loop-effect-preserved-then-not-holds_all g c =
+    let p = c.args.task.now in
+    let s = c.args.state.now in
+    let o = operator_at p c.args.operator in
+    let n = c.loop-effect.effect in
+    gives_no_more p s o n c.loop-effect.given c.loop-effect.invariant (λ fires. true≢false (sym (c.holds_all.ensures.1
+    (subst (AllHold (slice_index s)) (sym c.effect_conditions.ensures) fires)) ∙ c.if-not-holds_all.true))
 
 pub returns-then-not-give-clause-some : goal.returns-then-not-give-clause-some
 returns-then-not-give-clause-some g c =

@@ -1,6 +1,5 @@
 -- One more entry is counted.
-use Rattle.std.proofs.lemmas.Grind.{common_steps}
-use Rattle.sas_axioms.proofs.Imports.{length, get_or, sym, arith, All, ValueChange, IsOfRule}
+use Rattle.sas_axioms.proofs.Imports.{get_or, sym, arith, All, ValueChange, IsOfRule}
 use Rattle.sas_axioms.proofs.AllConditions.{can_recount, recounted}
 use Rattle.sas_axioms.proofs.CountingEntries.{CanRecount, no_entry, counters_after, can_count, counters_passed, counters_set}
 use Rattle.sas_axioms.proofs.counting.ConditionCounts.recount.Goals as goal
@@ -23,7 +22,17 @@ set-requires-in-Some c =
     omega (arith, (of_rule c.loop-condition.condition-index no_entry c.loop-condition-test.true).1.exists, was.counts.one_each, c.loop-condition.invariant.one_each)
 
 pub loop-condition-preserved : goal.loop-condition-preserved
-loop-condition-preserved c = grind (arith, common_steps, get_or, no_entry, length, in-Some, counters_set, in_default, counters_passed)
+loop-condition-preserved c =
+    let was = c.requires.counts.1 in
+    let lt = c.loop-condition-test.true in
+    let of_rule : All (IsOfRule c.requires.counts.0) c.get-condition-items.result.now =
+        rw c.get-condition-items.ensures (was.index.only c.args.fact.var) in
+    let exists = (of_rule c.loop-condition.condition-index no_entry lt).1.exists in
+    elim c.match-count_after.branch [
+      | in-Some w ↦ rw w.counters-is (counters_set _ _ _ _ _ lt c.loop-condition.invariant w.in-Some.count _
+          (rw was.counts.one_each exists) w.set-in-Some.ensures w.in-Some.ensures.some)
+      | in_default w ↦ rw w.counters-is (counters_passed _ _ _ _ _ lt c.loop-condition.invariant w.in_default.ensures.none)
+    ]
 
 pub returns-clause-counts : goal.returns-clause-counts
 returns-clause-counts c p was =

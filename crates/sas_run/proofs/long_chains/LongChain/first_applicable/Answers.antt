@@ -9,11 +9,10 @@ loop-item-init g c =
     let s = c.args.state.now in
     let chain = c.args.self.now in
     let ops = chain.operators.items in
-    let x = slice_index s chain.var in
     record {
-      same = λ values groups. starts_at p s ops values (Some x) c.first-same.result
-          (subst (IsFirstFrom values 0 (Some x)) (sym (rw c.value.ensures at c.first-same.ensures)) (groups.first (Some x)));
-      free = λ values groups. starts_at p s ops values None c.first-free.result (subst (IsFirstFrom values 0 None) (sym c.first-free.ensures) (groups.first None));
+      same = λ values groups. starts_at p s ops values chain.groups groups (Some (slice_index s chain.var)) c.first-same.result
+          (rw c.value.ensures at c.first-same.ensures);
+      free = λ values groups. starts_at p s ops values chain.groups groups None c.first-free.result c.first-free.ensures;
     }
 
 pub returns-then-is_applicable : goal.returns-then-is_applicable
@@ -47,16 +46,33 @@ loop-item-preserved-then-item-same g c =
     let lt : item < length ops = omega (arith, c.loop-item-test.true, c.len.ensures, chain.operators.ok.0, c.min.ensures, c.min-item.ensures, is) in
     let tested : c.index.result.now ≡ get_or ops item 0 = get_or_read ops item c.index.result.now lt (rw is at c.index.ensures) 0 in
     record {
-      same = λ values groups.
-          let within : item < length values = omega (arith, lt, groups.one_each, its.groups.one_each, its.have.one_each) in
-          goes_to p s ops values (Some (slice_index s chain.var)) item c.next-same.result (c.loop-item.invariant.same values groups) within
+      same = λ values groups. goes_to p s ops values chain.groups groups (Some (slice_index s chain.var)) item c.next-same.result
+          (c.loop-item.invariant.same values groups) (omega (arith, lt, groups.one_each, its.groups.one_each, its.have.one_each))
           (λ can. true≢false (sym (c.is_applicable.ensures.1 (subst (λ o. IsApplicable s (operator_at p o)) (sym tested) can)) ∙ c.if-is_applicable.false))
-          (subst (IsFirstFrom values (item + 1) (get_or values item None)) (sym (rw is at c.next-same.ensures)) (groups.next item within));
+          (rw is at c.next-same.ensures);
       free = c.loop-item.invariant.free;
     }
 
 pub loop-item-preserved : goal.loop-item-preserved
-loop-item-preserved g c = search (arith, is_other, length, get_or, get_or_read, goes_to, true≢false, operator_at)
+loop-item-preserved g c =
+    let p = c.args.task.now in
+    let s = c.args.state.now in
+    let chain = c.args.self.now in
+    let ops = chain.operators.items in
+    let its = c.requires.chain in
+    let item = c.loop-item.free in
+    let is : c.min-item.result ≡ item = is_other c.loop-item.same item c.min-item.result c.min-item.ensures c.if-item-same.false in
+    let lt : item < length ops =
+        omega (arith, c.loop-item-test.true, c.len.ensures, chain.operators.ok.0, c.min.ensures, c.min-item.ensures, is) in
+    let tested : c.index.result.now ≡ get_or ops item 0 = get_or_read ops item c.index.result.now lt (rw is at c.index.ensures) 0 in
+    record {
+      same = c.loop-item.invariant.same;
+      free = λ values groups. goes_to p s ops values chain.groups groups None item c.next-free.result
+          (c.loop-item.invariant.free values groups) (omega (arith, lt, groups.one_each, its.groups.one_each, its.have.one_each))
+          (λ can. true≢false (sym (c.is_applicable.ensures.1 (subst (λ o. IsApplicable s (operator_at p o)) (sym tested) can))
+          ∙ c.if-is_applicable.false))
+          (rw is at c.next-free.ensures);
+    }
 
 pub returns : goal.returns
 returns g c =
