@@ -15,12 +15,12 @@ loop-rule-preserved g c = grind (arith, common_steps, open_conditions, slice_ind
 pub open_of-requires-clause-exist : goal.open_of-requires-clause-exist
 open_of-requires-clause-exist g c =
     let within : c.loop-rule.rule < length c.args.layered.now.rules =
-        omega (arith, (rw c.task-task.ensures.task at c.rules-rule-end.ensures), c.loop-rule-test.true) in
+    omega (arith, (rw c.task-task.ensures.task at c.rules-rule-end.ensures), c.loop-rule-test.true) in
     conditions_within _ c.task-task.ensures.well_ranged _ within _ c.requires.known _
-        (rw c.task-task.ensures.task at c.rule_conditions.ensures)
+    (rw c.task-task.ensures.task at c.rule_conditions.ensures)
 
 pub open_of-requires-clause-few : goal.open_of-requires-clause-few
 open_of-requires-clause-few g c =
     let within : c.loop-rule.rule < length c.args.layered.now.rules =
-        omega (arith, (rw c.task-task.ensures.task at c.rules-rule-end.ensures), c.loop-rule-test.true) in
+    omega (arith, (rw c.task-task.ensures.task at c.rules-rule-end.ensures), c.loop-rule-test.true) in
     conditions_few _ c.task-task.ensures.well_ranged _ within _ (rw c.task-task.ensures.task at c.rule_conditions.ensures)

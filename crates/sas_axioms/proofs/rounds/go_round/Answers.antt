@@ -42,6 +42,6 @@ loop-rule-preserved g c =
 pub set-requires : goal.set-requires
 set-requires g c =
     let within : c.loop-rule.rule < length c.args.layered.now.rules =
-        omega (arith, (rw c.task-task.ensures.task at c.rules-rule-end.ensures), c.loop-rule-test.true) in
+    omega (arith, (rw c.task-task.ensures.task at c.rules-rule-end.ensures), c.loop-rule-test.true) in
     value_within _ c.task-task.ensures.well_ranged c.loop-rule.rule within _ c.task-task.ensures.task
-        _ c.rule_change-change.ensures _ c.loop-rule.invariant.state.one_each
+    _ c.rule_change-change.ensures _ c.loop-rule.invariant.state.one_each

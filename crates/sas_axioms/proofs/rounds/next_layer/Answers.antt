@@ -15,10 +15,10 @@ pub returns-clause-some : goal.returns-clause-some
 returns-clause-some g c =
     let all : length c.args.layered.now.variables ≤ c.loop-var.var = omega (arith, c.variables-var-end.ensures, c.loop-var-test.false) in
     IfSome_then c.loop-var.lowest c.loop-var.invariant.some
-        (λ n is. (is.0, is.1, λ m le o. is.2 o.0 m (seen c.args.layered.now c.loop-var.var m all o) le o.1))
+    (λ n is. (is.0, is.1, λ m le o. is.2 o.0 m (seen c.args.layered.now c.loop-var.var m all o) le o.1))
 
 pub returns-clause-none : goal.returns-clause-none
 returns-clause-none g c =
     let all : length c.args.layered.now.variables ≤ c.loop-var.var = omega (arith, c.variables-var-end.ensures, c.loop-var-test.false) in
     none_then c.loop-var.lowest c.loop-var.invariant.none
-        (λ none m le o. none o.0 m (seen c.args.layered.now c.loop-var.var m all o) le o.1)
+    (λ none m le o. none o.0 m (seen c.args.layered.now c.loop-var.var m all o) le o.1)

@@ -9,7 +9,7 @@ pub returns : goal.returns
 returns g c =
     let inv = c.loop-operator.invariant in
     let all : length c.loop-operator.values.items ≡ length c.args.operators.now =
-        omega (arith, inv.one_each, c.loop-operator-test.false, c.loop-operator.auto.operator-index-end) in
+    omega (arith, inv.one_each, c.loop-operator-test.false, c.loop-operator.auto.operator-index-end) in
     record {
       one_each = all;
       each = λ item value lt is. inv.each item value (subst (λ n. item < n) (sym all) lt) is;

@@ -26,7 +26,7 @@ loop-condition-preserved c =
     let was = c.requires.counts.1 in
     let lt = c.loop-condition-test.true in
     let of_rule : All (IsOfRule c.requires.counts.0) c.get-condition-items.result.now =
-        rw c.get-condition-items.ensures (was.index.only c.args.fact.var) in
+    rw c.get-condition-items.ensures (was.index.only c.args.fact.var) in
     let exists = (of_rule c.loop-condition.condition-index no_entry lt).1.exists in
     elim c.match-count_after.branch [
       | in-Some w ↦ rw w.counters-is (counters_set _ _ _ _ _ lt c.loop-condition.invariant w.in-Some.count _

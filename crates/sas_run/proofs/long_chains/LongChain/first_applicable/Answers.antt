@@ -63,7 +63,7 @@ loop-item-preserved g c =
     let item = c.loop-item.free in
     let is : c.min-item.result ≡ item = is_other c.loop-item.same item c.min-item.result c.min-item.ensures c.if-item-same.false in
     let lt : item < length ops =
-        omega (arith, c.loop-item-test.true, c.len.ensures, chain.operators.ok.0, c.min.ensures, c.min-item.ensures, is) in
+    omega (arith, c.loop-item-test.true, c.len.ensures, chain.operators.ok.0, c.min.ensures, c.min-item.ensures, is) in
     let tested : c.index.result.now ≡ get_or ops item 0 = get_or_read ops item c.index.result.now lt (rw is at c.index.ensures) 0 in
     record {
       same = c.loop-item.invariant.same;
