@@ -1,7 +1,6 @@
 -- Lines of reasons in their parts.
 use Rattle.std.specs.Prelude.{ℕ, ◌-◌, if◌then◌else◌, List, [], ◌∷◌, codes, decimal, slice_index_or, Option, Some, None}
 use Rattle.std.specs.Borrow.{Bor}
-use Rattle.sas_core.specs.declared.parts.Fact.{Fact}
 use Rattle.sas_core.specs.declared.parts.Parts.{Parts}
 use Rattle.sas_core.specs.PlanParts.{PlanParts}
 use Rattle.sas_core.specs.Changes.{change_of, fact_of}

@@ -267,7 +267,7 @@ moved_to t s v = record { former = default_of t v; value = get_or s v 0 }
 
 module _ (t : Parts) (index : List (List RuleCondition)) (v : ℕ) (s0 : List ℕ) (w0 : Work) (layered : IsLayered t) (is_index : IsFullIndex t index) (popped : IsAtWork t s0 (w0.stack.items ++ v ∷ []) w0) where
   pub can_release : WellRanged t → CanRecount (moved_to t s0 v) (waiting_at index v) w0.counters
-  can_release ranged = search (arith, can_recount, value_seen, seen_before, popped_differs)
+  can_release ranged = search (arith, can_recount, seen_before, popped_differs)
 
   -- a rule of the layer whose counter is at zero has conditions that hold
   pub ready_so_far : (i : ℕ) (s : List ℕ) (w : Work) (counters : List ℕ) (k : ℕ)

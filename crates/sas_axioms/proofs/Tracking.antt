@@ -24,7 +24,7 @@ with_agenda w a = record { layer = w.layer; counters = w.counters; stack = w.sta
 -- a rule is taken off
 pub track_taken : (p : Parts) (layer rule : ℕ) (s : List ℕ) (w : Work) (a' : Agenda) → IsOnTrack p layer s w → RemovesFromAgenda layer rule w.agenda a'
     → IsOnTrack p layer s (with_agenda w a')
-track_taken p layer rule s w a' track takes = search (arith, all_still, heap_items)
+track_taken p layer rule s w a' track takes = search (arith, all_still)
 
 -- rules of the layer are made ready
 pub track_ready : (p : Parts) (layer : ℕ) (s : List ℕ) (w : Work) (a' : Agenda) (rules : List ℕ) → IsOnTrack p layer s w → All (λ (r : ℕ). IsRuleOn p layer r) rules

@@ -117,8 +117,6 @@ fn report_givers<T: Grounded>(
         (λ run. AreDerivationLines
         (is_given task.now (last_state run) var) task.now (last_state run) var)) }
 {
-    // By its contract the task is well ranged and layered.
-    let _ = task.task();
     let value = history.last.value(var);
     if !requires_rules(task, Fact { var, value }) {
         return Ok(());
@@ -153,8 +151,6 @@ fn report_keepers<T: Grounded>(
     ensures { OnOk result (AddsLines task.now history.now report.old report.new
         (λ run lines. lines ≡ keeping_lines task.now (last_state run) fact)) }
 {
-    // By its contract the task is well ranged and layered.
-    let _ = task.task();
     let var = fact.var as usize;
     let rules = report.rules.get(var);
     if !give_value(task, rules, fact) {

@@ -90,8 +90,6 @@ impl OriginRounds {
         requires rules { AreAllRules task.now rules.items }
         ensures { OnOk result (HaveOrigins task.now state.now self.new.origins.items) }
     {
-        // By its contract the task is well ranged and layered.
-        let _ = task.task();
         while !rules.is_empty() {
             self.look_at_all(task, state, rules.as_slice())?;
             self.over += 1;

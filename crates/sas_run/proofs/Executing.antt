@@ -77,7 +77,10 @@ makes_step p s operator s' h1 next step steps = grind (arith, rules, fault_is_co
 
 module _ {E : Type 0} {Ready : E → Parts → Type 0} {Follows : E → Parts → List ℕ → Type 0} {p : Parts} {plan : PlanParts} {stepper : Stepper E}
     {found : StepOperators} {long : LongChains} {progress : Progress} {made : ℕ}
-    (executing : IsExecuting Ready Follows p plan stepper found long progress made) (layered : IsLayered p) where
+    (executing : IsExecuting Ready Follows p plan stepper found long progress made) where
+  layered : IsLayered p
+  layered = executing.at.prepared.layered
+
   abbrev e : Executed
   e = executed_of p plan stepper progress made
 

@@ -100,7 +100,7 @@ module _ (p : Parts) where
 
     pub leads_chosen : (names : List (List ℕ)) (operators last : List ℕ) (k : ℕ) (there : List ℕ) → LeadsTo p names operators last → k < length operators
         → GoesThrough p (take k operators) there → IsChosen p there (get_or names k []) (get_or operators k 0)
-    leads_chosen names operators last k there leads lt through = search (arith, chosen_at, from, take)
+    leads_chosen names operators last k there leads lt through = search (arith, chosen_at, from)
 
     -- operators that go through have a step at each of their numbers
     go_on : (s operators last : List ℕ) (k : ℕ) (there : List ℕ) → GoThrough p s operators last → k < length operators → GoThrough p s (take k operators) there

@@ -127,11 +127,11 @@ module _ (s : List ℕ) (o : Operator) (changes : List Change) (effects : o.effe
   met prevail olds = grind (arith, common_steps, get_or, preconditions_are, filter_map, old_fact, plain_effects, olds_hold)
 
   pub prevail_met : AllHold (λ v. get_or s v 0) (preconditions o) → AllHold (λ v. get_or s v 0) o.prevail
-  prevail_met all = search (arith, all_front, get_or, filter_map, old_fact, plain_effects, preconditions_are)
+  prevail_met all = search (arith, all_front)
 
   pub olds_met : AllHold (λ v. get_or s v 0) (preconditions o) → All (OldHolds s) changes
   olds_met all = olds_held s changes (all_behind (Holds (λ v. get_or s v 0)) o.prevail (filter_map old_fact (plain_effects changes))
       (subst (AllHold (λ v. get_or s v 0)) (preconditions_are o changes effects) all))
 
   pub prevail_within : (n : ℕ) → All (λ (f : Fact). f.var < n) (preconditions o) → All (λ (f : Fact). f.var < n) o.prevail
-  prevail_within n all = search (arith, all_front, filter_map, old_fact, plain_effects, preconditions_are)
+  prevail_within n all = search (arith, all_front)

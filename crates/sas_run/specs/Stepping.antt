@@ -8,7 +8,7 @@ use Rattle.sas_core.specs.Grounded.{operator_at}
 use Rattle.sas_core.specs.Variables.{IsDerived, IsState}
 use Rattle.sas_meaning.specs.declared.changed_variables.ChangedVariables.{ChangedVariables}
 use Rattle.sas_meaning.specs.InitialStates.{IsInitial}
-use Rattle.sas_meaning.specs.Layers.{IsBasic}
+use Rattle.sas_meaning.specs.Layers.{IsBasic, IsLayered}
 use Rattle.sas_meaning.specs.States.{AllHold}
 use Rattle.sas_meaning.specs.ChangedVariables.{MayHaveChanged}
 use Rattle.sas_run.specs.declared.progress.Progress.{Progress}
@@ -16,10 +16,11 @@ use Rattle.sas_run.specs.declared.stepper.Stepper.{Stepper}
 use Rattle.sas_run.specs.PlainSteps.{DeletedHasRoom}
 use Rattle.sas_run.specs.Given.{NothingGiven}
 
--- The evaluator is ready, and no value is given. If deleted facts are noted, each operator's
--- effects may all delete a fact without allocation. If not, no variable is derived.
+-- The task is layered, the evaluator is ready, and no value is given. If deleted facts are noted,
+-- each operator's effects may all delete a fact without allocation. If not, no variable is derived.
 pub record IsPrepared {E : Type 0} (Ready : E → Parts → Type 0) (p : Parts) (w : Stepper E)
     : Type 0 where
+  pub layered : IsLayered p
   pub ready : Ready w.evaluator p
   pub clean : NothingGiven p w.given
   pub room : (operator : ℕ) → operator < length p.operators

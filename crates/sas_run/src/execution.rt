@@ -139,8 +139,6 @@ impl<'t, 'p, E: Settle<T> + Drop, T: Grounded, P: Stepwise> Execution<'t, 'p, E,
         requires { self.old.operators ≡ [] }
         ensures { IsFound self.old.task self.old.plan result self.new }
     {
-        // By its contract the task is well ranged and layered.
-        let _ = self.layered.task();
         let named = NamedPlan {
             plan: self.plan,
             firsts: self.found.firsts.as_slice(),
@@ -158,8 +156,6 @@ impl<'t, 'p, E: Settle<T> + Drop, T: Grounded, P: Stepwise> Execution<'t, 'p, E,
         requires { self.now.made < length self.now.operators }
         ensures { IsLaterIfAny self.now.task self.now.state (next_operator self.now) result }
     {
-        // By its contract the task is well ranged and layered.
-        let _ = self.layered.task();
         later_applicable(
             self.layered,
             self.found.nexts.as_slice(),
@@ -172,8 +168,6 @@ impl<'t, 'p, E: Settle<T> + Drop, T: Grounded, P: Stepwise> Execution<'t, 'p, E,
     pub fn has_namesakes(&self) -> bool
         ensures { IsFalse result → HaveNoNamesakes self.now.task self.now.operators }
     {
-        // By its contract the task is well ranged and layered.
-        let _ = self.layered.task();
         have_next(
             self.progress.operators.as_slice(),
             self.found.nexts.as_slice(),
@@ -186,8 +180,6 @@ impl<'t, 'p, E: Settle<T> + Drop, T: Grounded, P: Stepwise> Execution<'t, 'p, E,
         ensures advances { Advances self.old result self.new }
         ensures run { (run : Run) → Executes run self.old → Executes run self.new }
     {
-        // By its contract the task is well ranged and layered.
-        let _ = self.layered.task();
         let operator = self.progress.operators[self.made];
         go_on_from(
             self.layered,

@@ -225,8 +225,6 @@ fn operators_of<T: Grounded>(
     requires first { first < length layered.now.operators }
     ensures { IfOk result (λ operators. AreAll layered.now first operators.items) }
 {
-    // By its contract the task is well ranged and layered.
-    let _ = layered.task();
     let mut operators = Vec::new(alloc);
     let mut next = Some(first);
     while let Some(operator) = next {

@@ -143,8 +143,6 @@ fn make_steps<E: Settle<T> + Drop, T: Grounded, C: Chooser<T>>(
         progress.new.operators.items progress.new.state result }
     ensures room { vec_capacity progress.old.operators ≤ vec_capacity progress.new.operators }
 {
-    // By its contract the task is well ranged and layered.
-    let _ = layered.task();
     for step in 0..chooser.steps() {
         match make_plan_step(layered, stepper, chooser, step, &mut progress.state) {
             Ok(operator) => progress.operators.push(operator).unwrap(),

@@ -2,7 +2,7 @@
 ghost use Rattle.std.specs.Prelude.{◌≡◌, ◌<◌, ◌≤◌, ℕ, length, IfOk, IfErr, IsTrue, IsFalse, OnOk, vec_capacity};
 ghost use Rattle.sas_core.specs.Grounded.{operator_at};
 ghost use Rattle.sas_core.specs.Variables.{IsState};
-ghost use Rattle.sas_meaning.specs.Layers.{IsBasic};
+ghost use Rattle.sas_meaning.specs.Layers.{IsBasic, IsLayered};
 ghost use Rattle.sas_meaning.specs.InitialStates.{IsInitial};
 ghost use Rattle.sas_run.specs.PlainSteps.{DeletedHasRoom};
 ghost use Rattle.sas_run.specs.Given.{NothingGiven};
@@ -78,16 +78,18 @@ fn memory_for<T: Grounded>(
     ensures clean { IfOk result (λ m. NothingGiven layered.now m.0) }
     ensures room { IfOk result (λ m. (operator : ℕ) → operator < length layered.now.operators
         → DeletedHasRoom m.1 (length (operator_at layered.now operator).effects)) }
+    ensures layered { IfOk result (λ m. IsLayered layered.now) }
     ensures basic { IfOk result (λ m. IsFalse m.1.noted → (var : ℕ) → IsBasic layered.now var) }
     ensures noted { IfOk result (λ m. IsTrue listing → IsTrue m.1.noted) }
     ensures touched { IfOk result (λ m. IsTrue listing
         → vec_capacity m.2.vars ≡ derived_variable_count layered.now) }
 {
+    let task = layered.task();
     let derived = count_derived(layered);
     let noted = listing || derived > 0;
     let room = if noted { most_effects(layered) } else { 0 };
     let facts = Vec::with_capacity(alloc, room)?;
-    let given = vec![in alloc; None; layered.variables() as usize]?;
+    let given = vec![in alloc; None; task.variables() as usize]?;
     let touched = if listing {
         ChangedVariables::with_room(alloc, derived)?
     } else {
@@ -158,8 +160,6 @@ pub fn step_on<E: Settle<T> + Drop, T: Grounded>(
     ensures prepared { IsPrepared E.ready layered.now stepper.new }
     ensures steps { Steps layered.now state.old operator state.new result }
 {
-    // By its contract the task is well ranged and layered.
-    let _ = layered.task();
     apply(layered, stepper, operator, state)?;
     stepper.evaluator.settle(layered, state);
     Ok(())
@@ -185,8 +185,6 @@ pub fn go_on_from<E: Settle<T> + Drop, T: Grounded>(
         → ListsChanges layered.now state.old state.new stepper.new.deleted.facts.items
         stepper.new.touched) }
 {
-    // By its contract the task is well ranged and layered.
-    let _ = layered.task();
     apply(layered, stepper, operator, state)?;
     if stepper.deleted.noted {
         stepper.evaluator.settle_on(

@@ -1,5 +1,5 @@
 -- At the end each variable has been seen.
-use Rattle.sas_axioms.proofs.Imports.{ℕ, ◌<◌, ◌≤◌, length, arith, Option, None, Some, IfNone, Parts, IsOnLayer, Occurs, on_layer_within}
+use Rattle.sas_axioms.proofs.Imports.{ℕ, ◌<◌, ◌≤◌, length, arith, Option, None, Some, IfNone, Parts, Occurs, on_layer_within}
 use Rattle.std.proofs.lemmas.Option.{IfSome_then}
 use Rattle.sas_axioms.proofs.rounds.next_layer.Goals as goal
 

@@ -1,7 +1,7 @@
 -- All rules derive the value that the first derives.
 use Rattle.std.proofs.lemmas.Grind.{common_steps}
 use Rattle.std.proofs.Common.{arith}
-use Rattle.sas_plan_reasons.proofs.Imports.{sym, ◌∙◌, subst, Contains, of_variable}
+use Rattle.sas_plan_reasons.proofs.Imports.{sym, subst, Contains, of_variable}
 use Rattle.sas_plan_reasons.proofs.RulesOf.{none_gives, one_gives, first_is, first_is_none}
 use Rattle.sas_plan_reasons.proofs.causes.give_value.Goals as goal
 

@@ -1,6 +1,6 @@
 -- One rule more, which has a condition that fails or none.
 use Rattle.std.proofs.lemmas.Grind.{common_steps}
-use Rattle.sas_plan_reasons.proofs.Imports.{arith, ◌≡◌, ℕ, ◌<◌, [], ◌∷◌, ◌++◌, length, get_or, ◌∙◌, flat_map, find, option_map_or, append-nil, take_all, rule_at, fails, failing_lines}
+use Rattle.sas_plan_reasons.proofs.Imports.{arith, length, get_or, flat_map, find, option_map_or, append-nil, take_all, rule_at, fails, failing_lines}
 use Rattle.sas_plan_reasons.proofs.Composing.{flat_more}
 use Rattle.sas_plan_reasons.proofs.Within.{conditions_within}
 use Rattle.sas_plan_reasons.proofs.causes.push_keepers.Goals as goal

@@ -1,5 +1,5 @@
 -- The rules of the derivation, and their lines.
-use Rattle.sas_plan_reasons.proofs.Imports.{arith, ◌≡◌, ℕ, not, ◌==◌, ◌&&◌, ◌++◌, map, ◌∙◌, default_of, on_ok_weaker, is_some, layer_of}
+use Rattle.sas_plan_reasons.proofs.Imports.{arith, not, map, default_of, on_ok_weaker, is_some, layer_of}
 use Rattle.sas_plan_reasons.proofs.Composing.{some_givers}
 use Rattle.sas_plan_reasons.proofs.causes.report_givers.Goals as goal
 

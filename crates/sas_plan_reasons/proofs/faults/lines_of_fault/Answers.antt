@@ -1,6 +1,6 @@
 -- What each fault gives is known of the run.
 use Rattle.std.proofs.lemmas.Grind.{common_steps}
-use Rattle.sas_plan_reasons.proofs.Imports.{arith, ℕ, List, Some, sym, ◌∙◌, subst, IfOk-weaker, operator_at, Agree, PlanFault, RunEndsWith, Step, LineThen, AreOperatorLines, AreConflictLines, AreFaultLines, operators_exist, ReportsOnce}
+use Rattle.sas_plan_reasons.proofs.Imports.{arith, ℕ, List, Some, sym, subst, IfOk-weaker, operator_at, Agree, PlanFault, RunEndsWith, Step, LineThen, AreOperatorLines, AreConflictLines, AreFaultLines, operators_exist, ReportsOnce}
 use Rattle.sas_plan_reasons.proofs.Behind.{behind, conflict_clashes, last_is, operators_are, operators_as_many}
 use Rattle.sas_plan_reasons.proofs.Faulty.{costs_reported}
 use Rattle.sas_plan_reasons.proofs.faults.lines_of_fault.Goals as goal

@@ -1,5 +1,5 @@
 -- Before the first step nothing is noted; then one step more is made and noted; in the end all steps are.
-use Rattle.sas_plan_reasons.proofs.Imports.{◌≡◌, ℕ, ◌+◌, ◌<◌, length, refl, sym, ◌∙◌, ap, subst, arith, not, IsLaterIfAny, next_operator}
+use Rattle.sas_plan_reasons.proofs.Imports.{◌≡◌, ◌+◌, ◌<◌, length, refl, sym, ◌∙◌, ap, subst, arith, not, IsLaterIfAny, next_operator}
 use Rattle.sas_plan_reasons.proofs.Noted.{AddsOther, NotesChanges, adds_same, adds_none, adds_now, places, notes_start, notes_longer, retraced}
 use Rattle.sas_plan_reasons.proofs.second_pass.retrace.Goals as goal
 use Rattle.sas_plan_reasons.proofs.second_pass.retrace.Goals.{then-is_none+in-Some, then-is_none+in_default, else-is_none}

@@ -1,5 +1,5 @@
 -- One line more is pushed.
-use Rattle.sas_plan_reasons.proofs.Imports.{◌<◌, ◌≤◌, ◌++◌, ◌∷◌, [], rules, codes, slice_index, fact_line, length, arith, Pushes, initial_all, initial_next}
+use Rattle.sas_plan_reasons.proofs.Imports.{◌<◌, ◌++◌, ◌∷◌, [], rules, codes, slice_index, fact_line, length, arith, Pushes, initial_all, initial_next}
 use Rattle.sas_plan_reasons.proofs.tracing.push_initial_lines.Goals as goal
 
 pub loop-var-preserved : goal.loop-var-preserved

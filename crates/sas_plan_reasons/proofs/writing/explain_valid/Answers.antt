@@ -1,4 +1,4 @@
-use Rattle.sas_plan_reasons.proofs.Imports.{arith, ℕ, ◌++◌, ◌∙◌, reasons_text}
+use Rattle.sas_plan_reasons.proofs.Imports.{arith, reasons_text}
 use Rattle.std.proofs.Common.{append-nil}
 use Rattle.sas_plan_reasons.proofs.writing.explain_valid.Goals as goal
 

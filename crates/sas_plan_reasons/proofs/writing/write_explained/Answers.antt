@@ -1,4 +1,4 @@
-use Rattle.sas_plan_reasons.proofs.Imports.{arith, ℕ, ◌++◌, ◌∙◌, reasons_text, writes_as}
+use Rattle.sas_plan_reasons.proofs.Imports.{arith, reasons_text, writes_as}
 use Rattle.sas_plan_reasons.proofs.writing.write_explained.Goals as goal
 
 pub returns : goal.returns

@@ -14,7 +14,7 @@ loop-step-preserved g c =
     record {
       at = c.make_plan_step.ensures.at;
       noted = c.make_plan_step.ensures.noted ∙ inv.noted;
-      makes = rw items (makes_one_more p c.task.ensures.layered (g.C.Chooser.means c.args.chooser.now p) progress.operators.items progress.state inv.makes operator c.make_plan_step.new.state
+      makes = rw items (makes_one_more p inv.at.prepared.layered (g.C.Chooser.means c.args.chooser.now p) progress.operators.items progress.state inv.makes operator c.make_plan_step.new.state
           made.1 (rw inv.one_each made.0) made.2);
       one_each = rw items (let len = length-append progress.operators.items (operator ∷ []) in let one = inv.one_each in omega arith);
       room = omega (arith, inv.room, c.push.ensures.capacity);

@@ -7,4 +7,4 @@ pub returns-clause-steps : goal.returns-clause-steps
 returns-clause-steps g c =
     let p = c.args.layered.now in
     step_from_applied p c.args.state.now (operator_at p c.args.operator) _ c.settle.new.state
-    (effects_basic p c.args.operator c.task.ensures.layered c.requires.operator) c.in_ok-apply.ensures.applies c.settle.ensures.settles
+    (effects_basic p c.args.operator c.requires.prepared.layered c.requires.operator) c.in_ok-apply.ensures.applies c.settle.ensures.settles

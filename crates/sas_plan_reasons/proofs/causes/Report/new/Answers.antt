@@ -1,5 +1,5 @@
 -- Nothing is reported.
-use Rattle.sas_plan_reasons.proofs.Imports.{common_steps, arith, rules, ◌≡◌, ℕ, ◌∙◌, false, length, get_or, replicate, false≢true, length-replicate, contains_none}
+use Rattle.sas_plan_reasons.proofs.Imports.{common_steps, arith, rules, ◌≡◌, ℕ, false, length, get_or, replicate, false≢true, length-replicate, contains_none}
 use Rattle.sas_plan_reasons.proofs.causes.Report.new.Goals as goal
 
 none_kept : (n var : ℕ) → get_or (replicate n false) var false ≡ false

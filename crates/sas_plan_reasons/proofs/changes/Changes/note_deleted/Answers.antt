@@ -1,5 +1,5 @@
 -- One variable more is looked at.
-use Rattle.sas_plan_reasons.proofs.Imports.{◌≤◌, ◌∙◌, length, ap, inl, inr, take_all, arith, Fact, contains_none}
+use Rattle.sas_plan_reasons.proofs.Imports.{◌∙◌, length, ap, inl, inr, take_all, arith, Fact, contains_none}
 use Rattle.sas_plan_reasons.proofs.Looking.{among_more, notes_more, notes_none}
 use Rattle.sas_plan_reasons.proofs.changes.Changes.note_deleted.Goals as goal
 

@@ -1,5 +1,5 @@
 -- One variable more is looked at.
-use Rattle.sas_plan_reasons.proofs.Imports.{ℕ, ◌≤◌, length, take_all, arith, contains_none}
+use Rattle.sas_plan_reasons.proofs.Imports.{length, take_all, arith, contains_none}
 use Rattle.sas_plan_reasons.proofs.Looking.{among_more, notes_more, notes_none}
 use Rattle.sas_plan_reasons.proofs.changes.Changes.note_touched.Goals as goal
 

@@ -24,11 +24,11 @@ loop-self-preserved g c =
     let rules = c.loop-self.rules.items in
     let some : 0 < length rules = some_rule c.loop-self.rules c.is_empty.result c.is_empty.ensures c.loop-self-test.true in
     let inside : InRound p s r' rules = subst (λ xs. InRound p s r' xs) c.as_slice.ensures.value c.in_ok-look_at_all.ensures.looked in
-    next_begins _ _ c.task.ensures.layered c.requires.settled _ _ _ _ _ c.loop-self.invariant inside c.in_ok-look_at_all.ensures.goes_on some
+    next_begins _ _ c.requires.before.layered c.requires.settled _ _ _ _ _ c.loop-self.invariant inside c.in_ok-look_at_all.ensures.goes_on some
     (ap (λ v. v.items) c.swap.ensures.x_after) refl refl refl refl c.clear.ensures.items
 
 pub returns : goal.returns
 returns g c =
     let empty = no_rule c.loop-self.rules c.is_empty.result c.is_empty.ensures c.loop-self-test.false in
-    found_all c.args.task.now c.args.state.now c.task.ensures.layered c.requires.settled c.loop-self.self c.loop-self.invariant.round
+    found_all c.args.task.now c.args.state.now c.requires.before.layered c.requires.settled c.loop-self.self c.loop-self.invariant.round
     (subst (λ xs. AreDue c.args.task.now c.args.state.now c.loop-self.self.over xs) empty c.loop-self.invariant.due)

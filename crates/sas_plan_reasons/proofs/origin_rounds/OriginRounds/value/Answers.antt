@@ -1,5 +1,5 @@
 -- A variable of the layer that wasn't reached has its default, and any other its value in the state.
-use Rattle.sas_plan_reasons.proofs.Imports.{arith, ◌≡◌, ℕ, ◌∙◌, option_eq, false≢true, same_option, layer_of, ◌==◌}
+use Rattle.sas_plan_reasons.proofs.Imports.{arith, option_eq, false≢true, same_option, layer_of}
 use Rattle.sas_plan_reasons.proofs.Reaching.{value_when_reached, value_off}
 use Rattle.sas_plan_reasons.proofs.origin_rounds.OriginRounds.value.Goals as goal
 use Rattle.sas_plan_reasons.proofs.origin_rounds.OriginRounds.value.Goals.{else-eq-via-then-eq+else-not-is_reached, else-eq-via-else-eq}

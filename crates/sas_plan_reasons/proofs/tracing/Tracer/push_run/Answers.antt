@@ -1,5 +1,5 @@
 -- One step more is made, and its lines pushed, as in the run.
-use Rattle.sas_plan_reasons.proofs.Imports.{◌≡◌, ℕ, List, ◌+◌, ◌-◌, ◌<◌, ◌++◌, length, sym, ap, subst, ◌∙◌, arith, append_assoc, text, initial_lines, Parts, Pushes, pushes_lost, pushes_then, next_operator, as_many, state_at}
+use Rattle.sas_plan_reasons.proofs.Imports.{ℕ, List, ◌+◌, ◌-◌, ◌<◌, ◌++◌, length, sym, ap, subst, ◌∙◌, arith, append_assoc, text, initial_lines, Parts, Pushes, pushes_lost, pushes_then, next_operator, as_many, state_at}
 use Rattle.std.proofs.Common.{append-nil}
 use Rattle.sas_plan_reasons.proofs.Changing.{said, said_more, said_rest}
 use Rattle.sas_plan_reasons.proofs.Standing.{step_text, run_text_all, stands_fits, stands_next, step_is}

@@ -1,5 +1,5 @@
 -- The first chosen operator from the lowest of the step's name on.
-use Rattle.sas_run.proofs.Imports.{◌∙◌, length, get_or, sym, subst, arith, IsNextNamed, IsChain}
+use Rattle.sas_run.proofs.Imports.{◌∙◌, get_or, sym, subst, arith, IsNextNamed, IsChain}
 use Rattle.sas_run.proofs.NamedAlike.{exists_as, found_from, none_from}
 use Rattle.sas_run.proofs.choosers.NamedPlanChooser.choose.Goals as goal
 

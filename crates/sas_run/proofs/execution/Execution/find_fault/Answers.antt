@@ -9,7 +9,7 @@ pub invariant_of-self : goal.invariant_of-self
 invariant_of-self g c =
     let found = c.find_fault-fault in
     let after : Progress = record { state = c.go_back.new.state; operators = found.new.progress.operators } in
-    goes_anew c.self.invariant c.task.ensures.layered (rw (← c.self.view_is) at c.requires) c.go_back.new.stepper after found.result c.go_back.ensures.initial
+    goes_anew c.self.invariant (rw (← c.self.view_is) at c.requires) c.go_back.new.stepper after found.result c.go_back.ensures.initial
     (named_ending c.self.inside.layered.now (g.P.Stepwise.says c.self.inside.plan.now) found.new.progress.operators.items found.result found.ensures.ends)
     c.go_back.ensures.at (c.go_back.ensures.noted ∙ found.ensures.noted ∙ c.self.invariant.noted) (omega (arith, c.self.invariant.room, found.ensures.room))
 
@@ -20,7 +20,7 @@ returns g c =
     let found = c.find_fault-fault in
     let after : Progress = record { state = c.go_back.new.state; operators = found.new.progress.operators } in
     subst (λ (e : Executed). IsFound e.task e.plan found.result (executed_of its.layered.now plan c.go_back.new.stepper after its.made)) c.self.view_is
-    (goes_back c.self.invariant c.task.ensures.layered (rw (← c.self.view_is) at c.requires) c.go_back.new.stepper after found.result c.go_back.ensures.initial
+    (goes_back c.self.invariant (rw (← c.self.view_is) at c.requires) c.go_back.new.stepper after found.result c.go_back.ensures.initial
     (named_ending its.layered.now plan found.new.progress.operators.items found.result found.ensures.ends))
 
 pub find_fault-fault-requires-clause-start : goal.find_fault-fault-requires-clause-start

@@ -1,5 +1,5 @@
 -- The lower one of the two items is tested, until one is applicable or none is left.
-use Rattle.sas_run.proofs.Imports.{◌≡◌, ◌+◌, ◌<◌, ◌≤◌, length, get_or, slice_index, None, Some, sym, subst, ◌∙◌, arith, true≢false, get_or_read, operator_at, IsApplicable, IsFirstFrom}
+use Rattle.sas_run.proofs.Imports.{◌≡◌, ◌<◌, ◌≤◌, length, get_or, slice_index, None, Some, sym, subst, ◌∙◌, arith, true≢false, get_or_read, operator_at, IsApplicable}
 use Rattle.sas_run.proofs.LongSearch.{starts_at, goes_to, none_among, below_both, is_other}
 use Rattle.sas_run.proofs.long_chains.LongChain.first_applicable.Goals as goal
 
