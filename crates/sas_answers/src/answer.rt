@@ -3,7 +3,7 @@ ghost use Rattle.std.specs.Prelude.{◌≡◌, false, Some, IfErr};
 ghost use Rattle.sas_answers.specs.Ending.{output_of, Ends, IsWrite, Writes};
 
 use crate::ending::{Status, ToolFault};
-use sas_lines::{Watched, write_out};
+use sas_lines::{Watched, write_lines, write_out};
 use std::io::Write;
 
 /// An answer: a text, and its status.
@@ -21,11 +21,18 @@ impl Answer {
             out.old out.new result }
         ensures write { IfErr result IsWrite }
     {
-        match write_out(out, self.text.as_slice()) {
-            Ok(()) => Ok(self.status),
-            Err(short) => Err(ToolFault::Write {
-                written: short.written,
-            }),
-        }
+        write_out(out, self.text.as_slice())?;
+        Ok(self.status)
+    }
+
+    /// Does the same, whole lines at a time, which a pipe doesn't mix with those of other writers.
+    pub fn write_lines<W: Write>(&self, out: &mut Watched<W>) -> Result<Status, ToolFault>
+        requires { out.old.failed ≡ false }
+        ensures writes { Writes W.contents (Ends (λ output. output ≡ Some (output_of self.now)))
+            out.old out.new result }
+        ensures write { IfErr result IsWrite }
+    {
+        write_lines(out, self.text.as_slice())?;
+        Ok(self.status)
     }
 }

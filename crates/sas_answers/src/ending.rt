@@ -1,6 +1,7 @@
 // How a run ends.
 ghost use Rattle.std.specs.Prelude.{◌≡◌};
 
+use sas_lines::Short;
 use std::alloc::AllocError;
 use thiserror::Error;
 
@@ -38,5 +39,17 @@ impl From<AllocError> for ToolFault {
 
     fn from(_error: AllocError) -> ToolFault {
         ToolFault::Memory
+    }
+}
+
+impl From<Short> for ToolFault {
+    ghost use Rattle.sas_answers.specs.declared.ending.ToolFault.TheVariants.{Write};
+
+    ghost from_gives = { λ short e. e ≡ Write short.written };
+
+    fn from(short: Short) -> ToolFault {
+        ToolFault::Write {
+            written: short.written,
+        }
     }
 }

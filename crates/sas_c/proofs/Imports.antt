@@ -1,6 +1,5 @@
 -- What the proofs use of other crates, and of the definitions of this one.
 pub use Rattle.std.proofs.Common.{◌≡◌, ℕ, zero, suc, List, [], ◌∷◌, ◌++◌, refl, subst, Option, Some, None, ◌<◌, length, take, drop, codes, arith, sym, ap, ◌∙◌, inr, Result, Ok, Err, IfSome, decimal, inl, Bor, true≢false, IsSome, lit<}
-pub use Rattle.std.proofs.lemmas.List.{same_from_push}
 pub use Rattle.std.proofs.lemmas.Option.{same_Some}
 pub use Rattle.std.proofs.raw_atomic.Walks.{proved_at, leaves}
 pub use Rattle.std.specs.Global.{Vec}
@@ -22,9 +21,6 @@ pub use Rattle.sas_answers.specs.NumberedPlans.{NumbersAnswer, number_fault_word
 pub use Rattle.sas_answers.specs.PlanWords.{invalid_line}
 pub use Rattle.sas_core.specs.PlanParts.{PlanParts}
 pub use Rattle.sas_core.specs.declared.parts.Parts.{Parts}
-pub use Rattle.sas_lines.proofs.Splitting.{lines-append, lines-one, unfinished-text}
-pub use Rattle.sas_lines.specs.Lines.{text}
-unfoldable pub use Rattle.sas_lines.specs.Lines.{lines}
 pub use Rattle.sas_meaning.specs.Layers.{IsLayered}
 pub use Rattle.sas_meaning.specs.declared.layered.LayerFault.{LayerFault}
 pub use Rattle.sas_answers.specs.Ending.{Output, EndsCounting}
@@ -40,18 +36,17 @@ pub use Rattle.sas_requests.specs.Invariants.{Invariants}
 pub use Rattle.sas_requests.specs.Output.{Out, FileOut, TaskOut, UnlayeredAnswer, PlanOutBy, VerdictOut, plain_refusal}
 pub use Rattle.sas_requests.specs.declared.Request.{Request}
 pub use Rattle.sas_requests.specs.declared.Request.TheVariants.{Check, Plan, Mutex}
-pub use Rattle.sas_requests.proofs.PlanLines.{IsLine, valid_plain, verdict_line, task_refused}
+pub use Rattle.sas_requests.proofs.PlanLines.{task_refused}
 pub use Rattle.sas_reader.proofs.Known.{known_answer}
-pub use Rattle.sas_reader.proofs.Plain.{plain}
 pub use Rattle.sas_reader.specs.Devices.{ValueOf}
 pub use Rattle.sas_reader.specs.Format.{ReadsAs}
 pub use Rattle.sas_reader.specs.Limit.{most_bytes}
 pub use Rattle.sas_requests.proofs.InvariantGroups.{ReportsGroups, invariants_of, plain_groups}
 pub use Rattle.sas_requests.proofs.ReasonedOutputs.{headline_why, invariants_why}
 pub use Rattle.sas_requests.proofs.RequestEnds.{judged_by, check_yes, check_no}
-pub use Rattle.sas_requests.proofs.TraceLaws.{trace_ends}
+pub use Rattle.sas_requests.proofs.TracedPlans.{traced_headline}
 pub use Rattle.sas_requests.specs.FileReasons.{PlanFileReasons}
-pub use Rattle.sas_requests.specs.TraceOut.{TraceOut}
+pub use Rattle.sas_requests.specs.TraceOut.{EndsInLine, TraceOut}
 pub use Rattle.sas_requests.specs.Why.{OutWhy, WithReasons}
 pub use Rattle.sas_requests.specs.declared.question.PlanDetail.TheVariants.{Reasons}
 pub use Rattle.sas_requests.specs.declared.question.Detail.TheVariants.{Plain}
@@ -60,7 +55,7 @@ pub use Rattle.sas_plan_reasons.specs.Traced.{TraceVerdict}
 pub use Rattle.sas_plan_reasons.specs.Verdict.{WhyVerdict}
 pub use Rattle.sas_run.proofs.NumberVerdicts.{numbers_have_no_fault}
 pub use Rattle.sas_c.specs.Holding.{HoldsTask, HeldOut, NumbersOut, owns_task}
-pub use Rattle.sas_c.specs.Reporting.{Returns, HeadlineByNumbers, SolvesByNumbers, ReturnsByNumbers, ReturnsHeadline, EndsInLine, ReturnsLastLine, ReturnsInvariants, number_of_fault, number_of_status}
+pub use Rattle.sas_c.specs.Reporting.{Returns, HeadlineByNumbers, SolvesByNumbers, ReturnsByNumbers, ReturnsHeadline, ReturnsLastLine, ReturnsInvariants, number_of_fault, number_of_status}
 pub use Rattle.sas_c.specs.Written.{IsWritten}
 pub use Rattle.sas_c.specs.contracts.box_pointer.BoxPointer.into_box.{ended, clauses}
 pub use Rattle.sas_c.specs.declared.plans.PlanCall.{PlanCall}

@@ -1,6 +1,5 @@
 -- What is returned follows from how a run ended.
-use Rattle.sas_c.proofs.Imports.{◌≡◌, ℕ, ◌<◌, List, [], ◌++◌, length, take, drop, codes, arith, refl, sym, ap, subst, ◌∙◌, inr, Option, Some, None, Result, Ok, Err, IfSome, Appends, Parts, LayerFault, IsLayered, ReadsAs, most_bytes, task_format, Status, Yes, No, ToolFault, Memory, Read, TooLong, Write, Output, EndsCounting, layers_verdict, VerdictAnswer, HoldsTask, IsWritten, Returns, ReturnsHeadline, EndsInLine, ReturnsLastLine, ReturnsInvariants, number_of_fault, number_of_status, PlanParts, WhyVerdict, TraceVerdict, Plan, Mutex, Check, Headline, Invariants, Out, FileOut, TaskOut, UnlayeredAnswer, plain_refusal, PlanOutBy, VerdictOut, same_output, ReportsValid, headline_of, Refuses, ReportsGroups, invariants_of, headline_why, invariants_why, judged_by, check_yes, check_no, task_refused, Plain, Reasons, PlanFileReasons, OutWhy, WithReasons, TraceOut}
-use Rattle.sas_c.proofs.TracedPlans.{traced_headline}
+use Rattle.sas_c.proofs.Imports.{◌≡◌, ℕ, ◌<◌, List, [], ◌++◌, length, take, drop, codes, arith, refl, sym, ap, subst, ◌∙◌, inr, Option, Some, None, Result, Ok, Err, IfSome, Appends, Parts, LayerFault, IsLayered, ReadsAs, most_bytes, task_format, Status, Yes, No, ToolFault, Memory, Read, TooLong, Write, Output, EndsCounting, layers_verdict, VerdictAnswer, HoldsTask, IsWritten, Returns, ReturnsHeadline, EndsInLine, ReturnsLastLine, ReturnsInvariants, number_of_fault, number_of_status, PlanParts, WhyVerdict, TraceVerdict, Plan, Mutex, Check, Headline, Invariants, Out, FileOut, TaskOut, UnlayeredAnswer, plain_refusal, PlanOutBy, VerdictOut, same_output, ReportsValid, headline_of, Refuses, ReportsGroups, invariants_of, headline_why, invariants_why, judged_by, check_yes, check_no, task_refused, Plain, Reasons, PlanFileReasons, OutWhy, WithReasons, TraceOut, traced_headline}
 
 same_number : (s t : Status) → number_of_status s ≡ number_of_status t → s ≡ t
 same_number Yes Yes e = refl

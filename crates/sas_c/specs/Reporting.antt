@@ -1,7 +1,6 @@
 -- What a call of the library returns: a number, and an answer in the caller's memory.
-use Rattle.std.specs.Prelude.{◌≡◌, ◌↔◌, ℕ, ◌<◌, ◌≤◌, List, ◌++◌, length, take, drop, Option, Some, None}
+use Rattle.std.specs.Prelude.{◌≡◌, ◌↔◌, ℕ, ◌<◌, ◌≤◌, List, length, take, drop, Option, Some, None}
 use Rattle.sas_core.specs.declared.parts.Parts.{Parts}
-use Rattle.sas_lines.specs.Lines.{text}
 use Rattle.sas_run.specs.ByNumbers.{IsValidByNumbers}
 use Rattle.sas_answers.specs.declared.ending.Status.{Status}
 use Rattle.sas_answers.specs.declared.ending.Status.TheVariants.{Yes, No}
@@ -11,6 +10,7 @@ use Rattle.sas_answers.specs.Ending.{Output}
 use Rattle.sas_answers.specs.ValidLine.{valid_line}
 use Rattle.sas_requests.specs.Headline.{Headline}
 use Rattle.sas_requests.specs.Invariants.{Invariants}
+use Rattle.sas_requests.specs.TraceOut.{EndsInLine}
 
 -- the number of an answer that is written
 abbrev pub number_of_status : Status → ℕ
@@ -70,10 +70,6 @@ abbrev pub ReturnsByNumbers : Parts → List ℕ → ℕ → List ℕ → ℕ �
 ReturnsByNumbers p operators cost room size number = (status : Status)
     → number ≡ number_of_status status
     → HeadlineByNumbers p operators cost (take size room) status
-
--- the bytes are some lines, each ended by LF, and after them this one
-abbrev pub EndsInLine : List ℕ → List ℕ → Type 0
-EndsInLine bytes line = (front : List (List ℕ)) × (bytes ≡ text front ++ line)
 
 -- If an answer is written after a trace, the same holds of the last line in the room.
 abbrev pub ReturnsLastLine : List ℕ → List ℕ → List ℕ → ℕ → ℕ → Type 0

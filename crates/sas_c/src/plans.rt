@@ -11,8 +11,8 @@ ghost use Rattle.sas_requests.specs.TraceOut.{TraceOut};
 ghost use Rattle.sas_c.specs.Reporting.{Returns, ReturnsByNumbers, ReturnsHeadline, ReturnsLastLine};
 ghost use Rattle.sas_c.specs.Holding.{HeldOut, HoldsTask, NumbersOut, ReturnsHeld};
 
-use crate::numbers::{NO_TASK, OUT_OF_MEMORY, fault_number};
-use crate::reporting::{report_ended, return_answer};
+use crate::numbers::{NO_TASK, OUT_OF_MEMORY};
+use crate::reporting::{report_answer, report_ended, return_answer};
 use crate::sas_task::{HeldTask, SasTask};
 use sas_answers::answer_numbers;
 use sas_lines::Watched;
@@ -148,10 +148,9 @@ fn answer_loaded(
     let _ = loaded.layered().task();
     match call {
         // The names and the evaluator of the loaded task serve all its plans.
-        PlanCall::Bytes(PlanDetail::Plain, plan) => match judge_bytes(alloc, loaded, plan) {
-            Ok(answer) => return_answer(answer, room, size),
-            Err(fault) => fault_number(fault),
-        },
+        PlanCall::Bytes(PlanDetail::Plain, plan) => {
+            report_answer(judge_bytes(alloc, loaded, plan), room, size)
+        }
         PlanCall::Bytes(detail, plan) => {
             let mut text = Watched::new(Vec::new(alloc));
             let layered = loaded.layered();

@@ -1,8 +1,8 @@
 // How an answer goes into the caller's memory.
-ghost use Rattle.std.specs.Prelude.{◌≡◌, ◌<◌, length, take, drop, IsTrue, IsFalse, Some};
+ghost use Rattle.std.specs.Prelude.{◌≡◌, ◌<◌, ⊥, length, take, drop, IfErr, IfOk, IsTrue, IsFalse, Some};
 ghost use Rattle.sas_answers.specs.Ending.{output_of};
-ghost use Rattle.sas_c.specs.Reporting.{Returns};
-ghost use Rattle.sas_c.specs.Written.{IsWritten};
+ghost use Rattle.sas_c.specs.Reporting.{Returns, number_of_fault};
+ghost use Rattle.sas_c.specs.Written.{IsAnswered, IsWritten};
 
 use crate::numbers::{ROOM_TOO_SHORT, fault_number, status_number};
 use sas_answers::{Answer, Status, ToolFault};
@@ -10,8 +10,9 @@ use sas_lines::Watched;
 
 /// Writes an answer with this text and this status. Returns the status as a number, or that the text is longer than the room.
 pub fn report(text: &[u8], status: Status, room: &mut [u8], size: &mut usize) -> u32
-    ensures { Returns (λ output. output ≡ Some (record { text = text.now; status = status }))
+    ensures answers { Returns (λ output. output ≡ Some (record { text = text.now; status = status }))
         room.old room.new size.new result }
+    ensures never { result ≡ 3 → ⊥ }
 {
     if copy(text, room, size) {
         status_number(status)
@@ -22,12 +23,25 @@ pub fn report(text: &[u8], status: Status, room: &mut [u8], size: &mut usize) ->
 
 /// Writes an answer, and drops it.
 pub fn return_answer(answer: Answer, room: &mut [u8], size: &mut usize) -> u32
-    ensures { Returns (λ output. output ≡ Some (output_of answer))
+    ensures answers { Returns (λ output. output ≡ Some (output_of answer))
         room.old room.new size.new result }
+    ensures never { result ≡ 3 → ⊥ }
 {
     let number = report(answer.text.as_slice(), answer.status, room, size);
     drop(answer);
     number
+}
+
+/// Writes the answer, or returns why there is none.
+pub fn report_answer(answered: Result<Answer, ToolFault>, room: &mut [u8], size: &mut usize) -> u32
+    ensures answers { Returns (IsAnswered answered) room.old room.new size.new result }
+    ensures number { IfErr answered (λ why. result ≡ number_of_fault why) }
+    ensures never { IfOk answered (λ _. result ≡ 3 → ⊥) }
+{
+    match answered {
+        Ok(answer) => return_answer(answer, room, size),
+        Err(fault) => fault_number(fault),
+    }
 }
 
 /// Writes the answer of a run that wrote this text and ended so, or returns why there is none.
@@ -37,8 +51,10 @@ pub fn report_ended(
     room: &mut [u8],
     size: &mut usize,
 ) -> u32
-    ensures { Returns (IsWritten text.device.items ended)
+    ensures answers { Returns (IsWritten text.device.items ended)
         room.old room.new size.new result }
+    ensures number { IfErr ended (λ why. result ≡ number_of_fault why) }
+    ensures never { IfOk ended (λ _. result ≡ 3 → ⊥) }
 {
     match ended {
         Ok(status) => report(text.into_device().as_slice(), status, room, size),

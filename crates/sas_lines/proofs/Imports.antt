@@ -25,7 +25,7 @@ pub use Rattle.std.specs.List.{AllByRecursion, prefix_len}
 pub use Rattle.std.specs.Option.{IfNone}
 pub use Rattle.std.specs.Str.Parse.{AllDigits, digits_value}
 pub use Rattle.memchr.specs.Find.{Nowhere, NoneBefore, Passes, is_byte}
-pub use Rattle.sas_lines.specs.FirstLines.{LinesStandFirst, TakesLine, EndedLines, NoEnd}
+pub use Rattle.sas_lines.specs.FirstLines.{LinesStandFirst, TakesLine, AreLines, EndedLines, NoEnd}
 pub use Rattle.sas_lines.specs.Lines.{text, without_return, without_returns, lines_among, rest_among}
 pub use Rattle.sas_lines.specs.Segments.{onto_first}
 pub use Rattle.sas_lines.specs.Separators.{StandsFirst, Without}

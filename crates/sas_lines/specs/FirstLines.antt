@@ -14,10 +14,22 @@ EndedLines (line ∷ more) rest bytes = (behind : List ℕ)
     × ((bytes ≡ line ++ 10 ∷ behind) ⊎ (bytes ≡ line ++ 13 ∷ 10 ∷ behind))
     × EndedLines more rest behind
 
--- law: any bytes are their complete lines, each with its line end, followed by a rest without LF
-abbrev pub BytesAreEndedLines : Type 0
-BytesAreEndedLines = (bytes : List ℕ) → EndedLines (lines bytes) (unfinished bytes) bytes
-    × NoEnd (unfinished bytes)
+-- The bytes are these lines and the rest, all without LF. Each line has its line end: CR LF where a
+-- CR stands before the LF, else LF.
+abbrev pub AreLines : List (List ℕ) → List ℕ → List ℕ → Type 0
+AreLines [] rest bytes = (bytes ≡ rest) × NoEnd rest
+AreLines (line ∷ more) rest bytes = (behind : List ℕ) × NoEnd line
+    × (((bytes ≡ line ++ 10 ∷ behind) × ((front : List ℕ) → line ≢ front ++ 13 ∷ []))
+    ⊎ (bytes ≡ line ++ 13 ∷ 10 ∷ behind))
+    × AreLines more rest behind
+
+-- laws: any bytes are their complete lines and their rest, and no other lines and rest
+abbrev pub BytesAreLines : Type 0
+BytesAreLines = (bytes : List ℕ) → AreLines (lines bytes) (unfinished bytes) bytes
+
+abbrev pub BytesAreNoOtherLines : Type 0
+BytesAreNoOtherLines = (bytes : List ℕ) (others : List (List ℕ)) (rest : List ℕ)
+    → AreLines others rest bytes → (others ≡ lines bytes) × (rest ≡ unfinished bytes)
 
 -- the bytes taken are those up to and including the first LF, or all if there is none
 abbrev pub TakesLine : List ℕ → ℕ → Bool → Type 0

@@ -3,8 +3,12 @@ ghost use Rattle.std.specs.Prelude.{◌≡◌, ◌≤◌, ◌<◌, ◌↔◌, []
 ghost use Rattle.std.specs.Io.KnownBytes.{ReadConsumes, WriteAppends, Appends};
 ghost use Rattle.sas_lines.specs.Device.{Device};
 
+use memchr::memrchr;
 use std::io::{Read, Write};
 use std::marker::Model;
+
+/// How many bytes a pipe takes at once, without those of another writer between them (`PIPE_BUF` of Linux).
+const AT_ONCE: usize = 4096;
 
 /// The device has failed.
 #[derive(Clone, Copy, Debug, PartialEq, Eq)]
@@ -129,4 +133,46 @@ pub fn write_out<W: Write>(out: &mut Watched<W>, bytes: &[u8]) -> Result<(), Sho
         }
     }
     Ok(())
+}
+
+/// Writes all bytes as `write_out` does, but whole lines at a time, as many as a pipe takes at once. So a pipe doesn't mix them with the
+/// lines of other writers, unless a line is longer than that.
+#[tactic(auto, using(crate::proofs::Sent::sent_more))]
+pub fn write_lines<W: Write>(out: &mut Watched<W>, bytes: &[u8]) -> Result<(), Short>
+    requires { out.old.failed ≡ false }
+    ensures ok { OnOk result (Appends (W.contents out.old.device) (W.contents out.new.device)
+        bytes.now) }
+    ensures short { IfErr result (λ e. (e.written < length bytes.now)
+        × Appends (W.contents out.old.device) (W.contents out.new.device)
+        (take e.written bytes.now)) }
+    ensures note { IsErr result ↔ IsTrue out.new.failed }
+    ensures none { bytes.now ≡ [] → out.new ≡ out.old }
+{
+    let mut written = 0;
+    while written < bytes.len() {
+        let rest = &bytes[written..];
+        let count = lines_at_once(rest);
+        if let Err(short) = write_out(out, &rest[..count]) {
+            return Err(Short {
+                written: written + short.written,
+            });
+        }
+        written += count;
+    }
+    Ok(())
+}
+
+/// Returns how many bytes the first lines have that a pipe takes at once. Of a line that is longer, they are its first bytes.
+fn lines_at_once(bytes: &[u8]) -> usize
+    requires { 0 < length bytes.now }
+    ensures some { 0 < result }
+    ensures within { result ≤ length bytes.now }
+{
+    if bytes.len() <= AT_ONCE {
+        return bytes.len();
+    }
+    match memrchr(b'\n', &bytes[..AT_ONCE]) {
+        Some(place) => place + 1,
+        None => AT_ONCE,
+    }
 }

@@ -11,7 +11,7 @@ mod spelling;
 pub mod trial;
 mod writing;
 
-pub use devices::{Failed, Short, Watched, write_out};
+pub use devices::{Failed, Short, Watched, write_lines, write_out};
 pub use inputs::OpenInput;
 pub use lines::{Fed, FirstLine, Lines, first_line, lines_law, without_return};
 pub use numbers::Numbers;

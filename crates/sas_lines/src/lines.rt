@@ -1,7 +1,7 @@
 // Splits a stream that arrives in pieces into lines.
 ghost use Rattle.std.specs.Prelude.{◌≡◌, ◌<◌, [], ◌++◌, take, false, true, IfOk, OnErr, IfSome, IfNone, if◌then◌else◌};
 ghost use Rattle.sas_lines.specs.Lines.{lines, unfinished, without_return};
-ghost use Rattle.sas_lines.specs.FirstLines.{NoEnd, BytesAreEndedLines, TakesLine, LineStandsFirst};
+ghost use Rattle.sas_lines.specs.FirstLines.{BytesAreLines, BytesAreNoOtherLines, NoEnd, TakesLine, LineStandsFirst};
 ghost use Rattle.sas_lines.specs.Progress.{completed};
 
 use crate::separators::first_place;
@@ -150,7 +150,8 @@ impl Lines {
     }
 }
 
-/// Law: any bytes consist of their complete lines, each ended by LF or CR LF, and a rest without LF.
+/// Law: any bytes consist of their complete lines, each ended by LF or CR LF, and a rest without LF, in exactly one way.
 pub fn lines_law()
-    ensures { BytesAreEndedLines }
+    ensures lines { BytesAreLines }
+    ensures one_way { BytesAreNoOtherLines }
 {}

@@ -7,7 +7,7 @@ pub use Rattle.std.proofs.Math.Seq.{drop-append_seam, get_or-append_seam}
 pub use Rattle.std.proofs.lemmas.Bool.{false≢true, and_from, ne_eqb, ltb-true, ltb-false, cases_lt, lt-ltb}
 pub use Rattle.std.proofs.lemmas.Fmt.{length-decimal-le}
 pub use Rattle.std.proofs.lemmas.Grind.{elements, common_steps, flat_map-append}
-pub use Rattle.std.proofs.lemmas.List.{append_cancel_left, take-append-drop, take_all, map-append, length-map, append_cancel_right, length_push}
+pub use Rattle.std.proofs.lemmas.List.{append_cancel_left, take-append-drop, take_all, map-append, length-map, append_cancel_right, length_push, same_from_push}
 pub use Rattle.std.proofs.lemmas.List.Elements.{Contains-append_cases, All-nil, All-cons, All-head, All-tail, All-same, All-append, All-push, All-weaker, All-contains, Contains-append_right, Contains-append_left, Contains-push, All-get_or, All-from_get_or, Contains-get_or, All-map}
 pub use Rattle.std.proofs.lemmas.List.Folds.{flat_map-map}
 pub use Rattle.std.proofs.lemmas.List.FromFn.{length-enumerate_from}
@@ -144,7 +144,7 @@ pub use Rattle.sas_requests.specs.Judging.{HoldsOf, judged_of, cost_if, Judges, 
 pub use Rattle.sas_requests.specs.Output.{word_of, refusal, refusal_line, IsAnswerOrRefusal, UnlayeredAnswer, VerdictOut, PlanOutBy, FileOut, TaskOut, HasOneOutput, ShowAnswer, PrintAnswer, LayeredOut, OutOf, plain_refusal, IsLayeredText, IsLong, AreInputs, reads_task, Out, ShortOutput}
 pub use Rattle.sas_requests.specs.Slices.{bytes_of, labels_of}
 pub use Rattle.sas_requests.specs.Summary.{number_lines, goal_fact_lines, summary_lines, derived_count, number_line}
-pub use Rattle.sas_requests.specs.TraceOut.{EndsAsPlan, TraceOut}
+pub use Rattle.sas_requests.specs.TraceOut.{EndsAsPlan, EndsInLine, SendsLast, TraceOut}
 pub use Rattle.sas_requests.specs.Why.{is_reason, without_reasons, OutOfRead, OutWhy, WithReasons, IsSameAnswer, SameAnswer}
 pub use Rattle.sas_requests.specs.declared.Request.{Request}
 pub use Rattle.sas_requests.specs.declared.Request.TheVariants.{Show, Print, Steps, Check, Plan, Mutex}

@@ -32,5 +32,6 @@ mod JudgeLaws
 mod LastBytes
 pub mod PlanLines
 mod PlansHeadlines
+pub mod TracedPlans
 mod InMemory
 mod Imports

@@ -28,4 +28,4 @@ trace_ends b c traced (inr (p, reads, layered, (read, reads_plan, out))) =
     let (plain, its, ends) = plan_ends p read traced out in (plain, inr (p, reads, layered, (read, reads_plan, its)), ends)
 
 pub ends_as_plan : EndsAsPlan
-ends_as_plan b c traced out = let (plain, its, ends) = trace_ends b c traced out in (plain, its, text ends.front, ends.whole, ends.status)
+ends_as_plan b c traced out = let (plain, its, ends) = trace_ends b c traced out in (plain, its, ends.front, ends.whole, ends.status)

@@ -29,7 +29,7 @@ ghost use Rattle.sas_requests.specs.Headline.{Headline};
 ghost use Rattle.sas_requests.specs.Invariants.{Invariants};
 ghost use Rattle.sas_requests.specs.EndsRequest.{EndsRequest};
 ghost use Rattle.sas_requests.specs.Why.{OutWhy};
-ghost use Rattle.sas_requests.specs.TraceOut.{TraceOut};
+ghost use Rattle.sas_requests.specs.TraceOut.{SendsLast, TraceOut};
 ghost use Rattle.sas_answers.specs.Ending.{Answers, Ends, EndsCounting, Output};
 
 pub use answers::answer;
@@ -163,6 +163,11 @@ pub fn trace<T: Read, P: Read, W: Write>(
         (EndsRequest T.remaining P.remaining (λ b c. EndsCounting (TraceOut b c))
         Request.Plan task.old task.new plan.old plan.new)
         out.old out.new result }
+    // The last line is `plan valid` exactly if the plan solves the task at the printed cost.
+    ensures headline { IfOk result (λ status. (b c before : List ℕ)
+        → T.remaining task.old.device ≡ Some b → P.remaining plan.old.device ≡ Some c
+        → W.contents out.old.device ≡ Some before
+        → Headline b c (SendsLast (W.contents out.old.device) (W.contents out.new.device)) status) }
 {
     answer(alloc, Question::Trace, task, plan, out)
 }

@@ -47,7 +47,7 @@ pub fn report_plans<S: PlanInputs, W: Write>(
     } else {
         Status::No
     };
-    judge_ended(Answer { text, status }.write(out))
+    judge_ended(Answer { text, status }.write_lines(out))
 }
 
 /// Adds a line for each plan, and returns how many are valid, and the best of these.

@@ -1,5 +1,5 @@
 // Executions of plans.
-ghost use Rattle.std.specs.Prelude.{◌≡◌, ◌<◌, ℕ, [], length, All, IfOk, IsFalse, None, slice_index_or};
+ghost use Rattle.std.specs.Prelude.{◌↔◌, ◌≡◌, ◌<◌, ℕ, [], length, All, IfOk, IsFalse, None, slice_index_or};
 ghost use Rattle.sas_core.specs.Variables.{IsState};
 ghost use Rattle.sas_names.specs.Nameless.{nameless_steps};
 ghost use Rattle.sas_run.specs.Running.{IsLaterIfAny};
@@ -212,7 +212,7 @@ impl<'t, 'p, E: Settle<T> + Drop, T: Grounded, P: Stepwise> Execution<'t, 'p, E,
 
 /// Returns whether one of the operators has a next one in the list.
 fn have_next(operators: &[u32], nexts: &[Option<u32>]) -> bool
-    ensures { IsFalse result → All (λ (operator : ℕ).
+    ensures { IsFalse result ↔ All (λ (operator : ℕ).
         slice_index_or nexts.now operator None ≡ None) operators.now }
 {
     operators

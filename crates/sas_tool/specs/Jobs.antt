@@ -57,6 +57,20 @@ IsSource word (Some Input) = word ≡ Some (codes "-")
 IsSource word (Some (File name)) =
     (word ≡ Some (string_bytes name)) × (string_bytes name ≢ codes "-")
 
+-- the job is over the task and the plan that these words name; the labels of many plans aren't among
+-- them
+abbrev pub HasSources : Option (List ℕ) → Option (List ℕ) → Job → Type 0
+HasSources task_word plan_word (Files question task plan) =
+    IsSource task_word task × IsSource plan_word plan
+HasSources task_word plan_word (Plans task labels) = IsSource task_word task
+
+-- the question is about this request: for its reasons, too, if the value of the flag is `true`
+abbrev pub AsksByFlag : Request → Option (List ℕ) → Question → Type 0
+AsksByFlag r flag question =
+    (flag ≡ Some (codes "true") → question ≡ Explanation r)
+    × (flag ≡ Some (codes "false") → question ≡ Answer r)
+    × (flag ≡ None → question ≡ Answer r)
+
 -- a task and a plan aren't both standard input
 abbrev pub NamesInputOnce : Job → Type 0
 NamesInputOnce (Files question task plan) = task ≡ Some Input → plan ≡ Some Input → ⊥

@@ -1,9 +1,9 @@
 // The arguments of the command line.
-ghost use Rattle.std.specs.Prelude.{◌≡◌, [], codes, IfOk};
+ghost use Rattle.std.specs.Prelude.{◌≡◌, [], None, codes, IfOk};
 ghost use Rattle.std.specs.Option.{option_map_or};
-ghost use Rattle.clap.specs.Words.{first_value, found_of, matched_of, raw_values};
+ghost use Rattle.clap.specs.Words.{first_value, found_of, matched_of, one_text, raw_values};
 ghost use Rattle.sas_tool.specs.Jobs.{IsRequested, NamesInputOnce, name_of, question_name, request_name};
-ghost use Rattle.sas_tool.specs.Jobs.{HasLabels, IsSource, source_name};
+ghost use Rattle.sas_tool.specs.Jobs.{AsksByFlag, HasLabels, HasSources, IsSource, source_name};
 ghost use Rattle.sas_tool.specs.Labels.{bytes_of_labels};
 
 use crate::{Question, Request};
@@ -66,6 +66,8 @@ pub enum Job {
 pub enum WordsFault {
     /// The arguments are invalid, or request help; the error has the text for the user.
     Refused(Error),
+    /// The one argument requests the version; the error has the text for the user.
+    Version(Error),
     /// Standard input is named twice.
     InputTwice,
     /// Memory was refused.
@@ -84,7 +86,7 @@ pub fn command(alloc: Global, words: Vec<String>) -> Result<Job, WordsFault>
 {
     match grammar(alloc)?.try_get_matches_from(words.as_slice()) {
         Ok(matches) => job_of(alloc, &matches)?.with_one_input(),
-        Err(error) => Err(words_fault(error)),
+        Err(error) => Err(words_fault(error, words.as_slice())),
     }
 }
 
@@ -290,7 +292,8 @@ fn job_named(alloc: Global, name: &str, matches: &ArgMatches<'_>) -> Result<Job,
 
 /// Returns the question for the answer to the request, with or without reasons, by its flag.
 fn by_flag(request: Request, matches: &ArgMatches<'_>) -> Question
-    ensures { question_name result ≡ request_name request }
+    ensures name { question_name result ≡ request_name request }
+    ensures flag { AsksByFlag request (one_text (found_of matches.now) (codes "why")) result }
 {
     if matches.get_flag(WHY) {
         Question::Explanation(request)
@@ -305,7 +308,9 @@ fn job_over_files(
     question: Question,
     matches: &ArgMatches<'_>,
 ) -> Result<Job, AllocError>
-    ensures { IfOk result (λ job. name_of job ≡ question_name question) }
+    ensures name { IfOk result (λ job. name_of job ≡ question_name question) }
+    ensures sources { IfOk result (HasSources (first_value (found_of matches.now) (codes "TASK"))
+        (first_value (found_of matches.now) (codes "PLAN"))) }
 {
     let task = named(alloc, matches, "TASK")?;
     let plan = named(alloc, matches, "PLAN")?;
@@ -318,7 +323,8 @@ fn job_over_files(
 
 /// Returns the job over a task and many plans.
 fn job_over_many(alloc: Global, matches: &ArgMatches<'_>) -> Result<Job, AllocError>
-    ensures named { IfOk result (λ job. name_of job ≡ codes "plans") }
+    ensures name { IfOk result (λ job. name_of job ≡ codes "plans") }
+    ensures task { IfOk result (HasSources (first_value (found_of matches.now) (codes "TASK")) None) }
     ensures labels { IfOk result (HasLabels
         (option_map_or raw_values (matched_of (found_of matches.now) (codes "PLAN")) [])) }
 {
@@ -352,9 +358,16 @@ fn named(alloc: Global, matches: &ArgMatches<'_>, id: &str) -> Result<Option<Sou
     }
 }
 
-fn words_fault(error: Error) -> WordsFault {
+/// Returns why the words are no job, if the parser returned this error.
+fn words_fault(error: Error, words: &[String]) -> WordsFault {
     match error.kind() {
         ErrorKind::OutOfMemory => WordsFault::Memory,
+        ErrorKind::DisplayVersion if request_version(words) => WordsFault::Version(error),
         _ => WordsFault::Refused(error),
     }
+}
+
+/// Returns whether the words request the version, and nothing else.
+fn request_version(words: &[String]) -> bool {
+    words.len() == 2 && matches!(words[1].as_str(), "--version" | "-V")
 }

@@ -10,6 +10,7 @@ use crate::plan_files::{PlanFiles, are_label_texts, name_input_twice};
 use crate::streams::replace_closed;
 use crate::until_end::UntilEnd;
 use crate::{Question, Status, ToolFault, explain, judge, run, trace};
+use clap::Error;
 use sas_answers::show_name;
 use sas_lines::{OpenInput, Watched};
 use sas_requests::{InputFault, JudgeFault};
@@ -272,7 +273,7 @@ fn stop_at<R: Eprint>(rt: &R, fault: InputFault, labels: &[String], number: usiz
 }
 
 /// Returns the job of the arguments, or the exit status if they have none.
-fn job_of_arguments<R: AllocGlobal + Env + Eprint>(rt: &R) -> Result<Job, ExitCode> {
+fn job_of_arguments<R: AllocGlobal + Env + Print + Eprint>(rt: &R) -> Result<Job, ExitCode> {
     let arguments = match env::args(rt) {
         Ok(arguments) => arguments,
         Err(error) => return Err(not_text(rt, error.kind())),
@@ -286,8 +287,17 @@ fn job_of_arguments<R: AllocGlobal + Env + Eprint>(rt: &R) -> Result<Job, ExitCo
             let _ = rt.eprint(error);
             Err(ExitCode::from(INVALID_ARGUMENTS))
         }
+        Err(WordsFault::Version(version)) => Err(print_version(rt, version)),
         Err(WordsFault::InputTwice) => Err(stop(rt, INVALID_ARGUMENTS, INPUT_TWICE)),
         Err(WordsFault::Memory) => Err(stop(rt, FAULT, OUT_OF_MEMORY)),
+    }
+}
+
+/// Prints the version, and returns the exit status.
+fn print_version<R: Print + Eprint>(rt: &R, version: Error) -> ExitCode {
+    match rt.print(version) {
+        Ok(()) => ExitCode::from(YES),
+        Err(_) => stop(rt, FAULT, WRITE_FAILED),
     }
 }
 

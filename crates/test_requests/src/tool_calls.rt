@@ -28,6 +28,7 @@ pub fn say_job(rt: &HostRuntime, bytes: &[u8]) -> Option<()> {
 fn why(fault: &WordsFault) -> &'static str {
     match fault {
         WordsFault::Refused(_) => "refused",
+        WordsFault::Version(_) => "version",
         WordsFault::InputTwice => "input twice",
         WordsFault::Memory => "out of memory",
     }

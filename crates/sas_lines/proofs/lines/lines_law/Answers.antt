@@ -1,6 +1,5 @@
-use Rattle.sas_lines.proofs.EndedLines.{ended_lines}
-use Rattle.sas_lines.proofs.Splitting.{unfinished-plain_all}
+use Rattle.sas_lines.proofs.EndedLines.{are_lines, no_others}
 use Rattle.sas_lines.proofs.lines.lines_law.Goals as goal
 
 pub returns : goal.returns
-returns c = λ bytes. (ended_lines bytes, unfinished-plain_all bytes)
+returns c = record { lines = are_lines; one_way = no_others }

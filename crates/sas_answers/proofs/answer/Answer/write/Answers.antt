@@ -1,14 +1,15 @@
-use Rattle.sas_answers.proofs.Imports.{inl, refl}
+use Rattle.sas_answers.proofs.Imports.{inl, refl, ◌∙◌, err_from_is_err_and}
 use Rattle.sas_answers.proofs.answer.Answer.write.Goals as goal
 
-pub returns-in-Ok-clause-writes : goal.returns-in-Ok-clause-writes
-returns-in-Ok-clause-writes g c = record {
-  ends = (_, refl, refl, rw c.as_slice.ensures.value at c.in-Ok.ensures.ok);
+pub returns-clause-writes : goal.returns-clause-writes
+returns-clause-writes g c = record {
+  ends = (_, refl, refl, rw c.as_slice.ensures.value at c.in_ok-write_out.ensures.ok);
   nothing = tt;
-  writes = (λ e. absurd e, λ t. let apart = c.in-Ok.ensures.note.1 t in absurd cc);
+  writes = (λ e. absurd e, λ t. let apart = c.in_ok-write_out.ensures.note.1 t in absurd cc);
 }
 
-pub returns-in-Err-clause-writes : goal.returns-in-Err-clause-writes
-returns-in-Err-clause-writes g c =
-    let short = rw c.as_slice.ensures.value at c.in-Err.ensures.short in
-    record { ends = (_, refl, short.0, short.1); nothing = inl tt; writes = (λ _. c.in-Err.ensures.note.0 refl, λ _. tt) }
+pub returns-in_err-write_out-clause-writes : goal.returns-in_err-write_out-clause-writes
+returns-in_err-write_out-clause-writes g c =
+    let short = rw c.as_slice.ensures.value at c.in_err-write_out.ensures.short in
+    let fault = err_from_is_err_and c.from_residual.result c.from_residual.ensures.1 in
+    rw (fault.1, fault.2) (record { ends = (_, refl, short.0, short.1); nothing = inl tt; writes = (λ _. c.in_err-write_out.ensures.note.0 refl, λ _. tt) })

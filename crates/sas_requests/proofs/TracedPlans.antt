@@ -1,5 +1,10 @@
 -- Behind a trace stands, as its last line, whether the plan solves the task.
-use Rattle.sas_c.proofs.Imports.{◌≡◌, ℕ, List, [], ◌∷◌, ◌++◌, codes, decimal, refl, sym, ap, ◌∙◌, inl, inr, Some, same_from_push, lines, text, lines-append, lines-one, unfinished-text, plain, Output, VerdictAnswer, valid_line, Headline, Out, Plan, plain_refusal, reports_valid, headline_of, plain_refuses, TraceOut, trace_ends, IsLine, valid_plain, verdict_line, task_refused, EndsInLine}
+use Rattle.sas_requests.proofs.Imports.{◌≡◌, ℕ, List, [], ◌∷◌, ◌++◌, codes, decimal, refl, sym, ap, subst, ◌∙◌, inl, inr, Option, Some, Result, Ok, Err, IfOk, Appends, same_from_push, lines, text, lines-append, lines-one, unfinished-text, plain, Status, ToolFault, Output, EndsCounting, VerdictAnswer, valid_line, Headline, Out, AreInputs, plain_refusal, TraceOut, EndsInLine, SendsLast}
+use Rattle.sas_requests.specs.declared.Request.TheVariants.{Plan}
+use Rattle.sas_requests.proofs.Headlines.{headline_of, reports_valid, sent_same}
+use Rattle.sas_requests.proofs.PlanLines.{IsLine, valid_plain, verdict_line, task_refused}
+use Rattle.sas_requests.proofs.PlanOutputs.{plain_refuses}
+use Rattle.sas_requests.proofs.TraceLaws.{trace_ends}
 
 -- ---- the last line of a text
 
@@ -42,3 +47,25 @@ traced_headline b c traced out =
       );
       yes = reported.yes;
     }
+
+-- ---- what was written of it
+
+module _ (task plan old new : Option (List ℕ)) where
+  -- the last line that was sent of a trace
+  sends_headline : (b c before : List ℕ) (o : Output) → old ≡ Some before → TraceOut b c (Some o) → Appends old new o.text → Headline b c (SendsLast old new) o.status
+  sends_headline b c before o known out sent =
+      let traced = traced_headline b c o out in
+      record {
+        line = λ steps cost. (
+          λ last. (traced.line steps cost).0 (subst (λ (x : List ℕ). EndsInLine x (valid_line steps cost)) (sent_same old new before last.0 o.text known last.1 sent) last.2),
+          λ solves. (o.text, sent, (traced.line steps cost).1 solves),
+        );
+        yes = traced.yes;
+      }
+
+  pub last_line_sent : (r : Result Status ToolFault) → ((b c : List ℕ) → AreInputs Plan task plan b c → EndsCounting (TraceOut b c) (Appends old new) r)
+      → IfOk r (λ status. (b c before : List ℕ) → task ≡ Some b → plan ≡ Some c → old ≡ Some before → Headline b c (SendsLast old new) status)
+  last_line_sent (Ok status) ends = λ b c before known_task known_plan known.
+      let (o, out, same, sent) = ends b c (λ _. known_task, λ _. known_plan) in
+      subst (λ (s : Status). Headline b c (SendsLast old new) s) (sym same) (sends_headline b c before o known out sent)
+  last_line_sent (Err why) ends = tt
