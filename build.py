@@ -6,8 +6,8 @@
 
 CRATE is a program, as sas, or a static library, as sas_c. PROCESSORS is how many to use; all, if left out. A check takes one to four GB.
 PLATFORM is x86_64-linux, if left out, or aarch64-linux. For another platform only CRATE is proved again, and nothing is linked: the object
-file of a program, or the archive of a library, stands in out/PLATFORM/. Beside it is kept what packing asks of the toolchain: a note of what
-the crate was built with, and for the native platform the toolchain's C code.
+file of a program, or the archive of a library, stands in out/PLATFORM/. Beside it is kept what packing asks of the toolchain: a note of
+what the crate was built with, and for a program on the native platform the toolchain's C code.
 
 Each crate is proved once those that it uses are proved: first the crate with the longest chain of others above it. It gets half of the
 processors that are idle, the next one half of the rest, and the last one what is left. What is written of a library, into out/libraries/,

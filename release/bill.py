@@ -28,7 +28,8 @@ def c_library(compiler):
 
 def library(name, about, toolchain):
     """Returns a library of the toolchain, with the Rust crates that it is made after."""
-    after = [{"type": "library", "name": it, "version": version, "purl": f"pkg:cargo/{it}@{version}"} for it, version in about["after"].items()]
+    crates = about["after"].items()
+    after = [{"type": "library", "name": it, "version": version, "purl": f"pkg:cargo/{it}@{version}"} for it, version in crates]
     if not after:
         return component("library", name, toolchain, "a library of the toolchain, which has its version")
     text = "a library of the toolchain, rewritten in Rattle after the Rust crate of this version"
