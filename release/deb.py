@@ -105,9 +105,14 @@ def install(platform, root, place):
 
 def fit(root, about, moment, strip):
     """Makes what is below a folder fit for Debian: what dpkg notes itself is left out, the completion for zsh stands with those of other
-    packages, pages are compressed, the library has no names for debuggers, and there are the licence and the changes."""
+    packages, the link to the library is as short as can be, pages are compressed, the library has no names for debuggers, and there are
+    the licence and the changes."""
     os.remove(f"{root}/{DOCUMENTS}/INSTALLED")
     os.rename(f"{root}/usr/share/zsh/site-functions", f"{root}/{ZSH}")
+    package = os.path.realpath(f"{root}/usr/{PYTHON}/sas")
+    to = os.path.relpath(os.path.realpath(f"{package}/libsas.so"), package)
+    os.remove(f"{package}/libsas.so")
+    os.symlink(to, f"{package}/libsas.so")
     for page in glob.glob(f"{root}/usr/share/man/man1/*.1"):
         write(f"{page}.gz", gzip.compress(dist.bytes_of(page), mtime=0))
         os.remove(page)
