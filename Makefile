@@ -2,8 +2,9 @@
 # make test   the whole gate: every proof from nothing, the edits that must fail, and the cases over the programs that the
 #             gate built; the last line is 'N passed, M failed', and the exit status is 0 exactly if M is 0
 # make lib    proves what the library needs and builds it, with $CC or cc, into library/out/; docs/LIBRARY.md says what is there
-# make install    installs what was built, below PREFIX (/usr/local), libraries in its folder LIBDIR (lib), with NAME (sas) for the
-#                 program, and DESTDIR in front; proves nothing. make uninstall removes it; docs/INSTALL.md says which files these are
+# make install    installs what was built, below PREFIX (/usr/local), with DESTDIR in front: libraries in its folder LIBDIR (lib), the
+#                 package of Python in PYTHONDIR, and the program as NAME (sas); proves nothing. make uninstall removes it;
+#                 docs/INSTALL.md says which files these are
 # make dist   packs what was built into sas-VERSION-PLATFORM.tar.gz, with a program that needs no other file; docs/INSTALL.md
 # make deb    packs what was built into sas_VERSION_amd64.deb, a package of Debian
 # make bench  measures ./sas over inputs of a fiftieth of the size, in a minute; docs/SPEED.md says how to measure in full
@@ -22,9 +23,10 @@ JOBS ?= $(shell nproc)
 
 PREFIX = /usr/local
 LIBDIR = lib
+PYTHONDIR =
 NAME = sas
 PLATFORM = x86_64-linux
-PLACE = "PREFIX=$(PREFIX)" "LIBDIR=$(LIBDIR)" "NAME=$(NAME)" "DESTDIR=$(DESTDIR)"
+PLACE = "PREFIX=$(PREFIX)" "LIBDIR=$(LIBDIR)" "PYTHONDIR=$(PYTHONDIR)" "NAME=$(NAME)" "DESTDIR=$(DESTDIR)"
 
 program:
 	@python3 build.py sas $(JOBS)

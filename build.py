@@ -6,7 +6,8 @@
 
 CRATE is a program, as sas, or a static library, as sas_c. PROCESSORS is how many to use; all, if left out. A check takes one to four GB.
 PLATFORM is x86_64-linux, if left out, or aarch64-linux. For another platform only CRATE is proved again, and nothing is linked: the object
-file of a program, or the archive of a library, stands in out/PLATFORM/.
+file of a program, or the archive of a library, stands in out/PLATFORM/. Beside it is kept what packing asks of the toolchain: a note of
+what the crate was built with, and for a program on the native platform the toolchain's C code.
 
 Each crate is proved once those that it uses are proved: first the crate with the longest chain of others above it. It gets half of the
 processors that are idle, the next one half of the rest, and the last one what is left. What is written of a library, into out/libraries/,
@@ -20,7 +21,9 @@ import concurrent.futures
 import functools
 import glob
 import hashlib
+import json
 import os
+import re
 import shlex
 import shutil
 import subprocess
@@ -31,7 +34,6 @@ from collections import namedtuple
 TOP = os.path.dirname(os.path.abspath(__file__))
 CRATES = f"{TOP}/crates"
 LIBRARIES = f"{TOP}/out/libraries"
-KIT = os.path.dirname(os.path.dirname(os.path.realpath(shutil.which("rt") or sys.exit("there is no `rt`, of the toolchain, on the PATH"))))
 # the most processors that a check can use
 MOST = 4
 # what a platform is called by the toolchain, and the C compiler and the `ar` that build for it
@@ -41,7 +43,18 @@ PLATFORMS = {
     "aarch64-linux": Platform("aarch64-unknown-linux-gnu", "aarch64-linux-gnu-gcc", "aarch64-linux-gnu-ar"),
 }
 NATIVE = "x86_64-linux"
+# what the toolchain has in C for a program on the native platform
+KIT_ARCHIVES = ("libos_c.a", "liblibc_c.a")
+# a Rust crate and its version, as the page of a library that is made after it names them
+RUST_CRATE = re.compile(r"`?([\w-]+)`? (\d+\.\d+\.\d+)")
 BEGAN = time.monotonic()
+
+
+@functools.cache
+def kit():
+    """Returns the folder of the toolchain. Ends where its command isn't there."""
+    command = shutil.which("rt") or sys.exit("there is no `rt`, of the toolchain, on the PATH")
+    return os.path.dirname(os.path.dirname(os.path.realpath(command)))
 
 
 def known(platform):
@@ -95,7 +108,7 @@ def files_of(crate):
 @functools.cache
 def sum_of(crate):
     """Returns a sum of all that a crate is made of, the toolchain and the crates below among them. It is the same in a copied clone."""
-    with open(f"{KIT}/KIT-ID", "rb") as file:
+    with open(f"{kit()}/KIT-ID", "rb") as file:
         made = hashlib.sha256(repr([file.read(), USED[crate], *map(sum_of, below(crate))]).encode())
     for path in files_of(crate):
         with open(path, "rb") as file:
@@ -113,11 +126,23 @@ def path_of(crate, platform):
     return f"{folder}/{crate}.o" if is_program(crate) else f"{folder}/lib{crate}.a"
 
 
+def note_of(crate, platform):
+    """Returns where it is noted of what a program or a static library was built for a platform."""
+    return f"{path_of(crate, platform)}.json"
+
+
+def archives(crate):
+    """Returns where the toolchain's C code for a program on the native platform is kept."""
+    return [f"{CRATES}/{crate}/out/{it}" for it in KIT_ARCHIVES]
+
+
 def is_built(crate, platform):
-    """Returns whether a program or a static library was built for a platform, and no file that it is made of is younger."""
+    """Returns whether a program or a static library was built for a platform, with all that is kept beside it, and no file that it is made
+    of is younger."""
     made = path_of(crate, platform)
+    kept = [made, note_of(crate, platform), *(archives(crate) if is_program(crate) and platform == NATIVE else [])]
     sources = [f"{TOP}/crates.txt", *(path for it in with_all_below(crate) for path in files_of(it))]
-    return os.path.isfile(made) and os.path.getmtime(made) >= max(map(os.path.getmtime, sources))
+    return all(map(os.path.isfile, kept)) and os.path.getmtime(made) >= max(map(os.path.getmtime, sources))
 
 
 def is_proved(crate):
@@ -132,9 +157,9 @@ def is_proved(crate):
 def run(crate, verb, folders, *more):
     """Has the prover check or build a crate over the libraries in these folders, and returns how it ended, with what it printed."""
     root = "main" if is_program(crate) else "lib"
-    words = [f"{KIT}/bin/rattle", verb, "--crate-name", crate, f"src/{root}.rt", "--links", f"{crate}="]
-    words += ["--antt-project", f"{KIT}/rattle/logic/antt-project.json", "--logic-built", f"{KIT}/logic_built"]
-    folders = [*folders, f"{KIT}/rlibs"]
+    words = [f"{kit()}/bin/rattle", verb, "--crate-name", crate, f"src/{root}.rt", "--links", f"{crate}="]
+    words += ["--antt-project", f"{kit()}/rattle/logic/antt-project.json", "--logic-built", f"{kit()}/logic_built"]
+    folders = [*folders, f"{kit()}/rlibs"]
     for it in dict.fromkeys(["std", *USED[crate]]):
         words += ["--extern", f"{it}=" + next(f"{at}/{it}.rlib" for at in folders if os.path.isdir(f"{at}/{it}.rlib"))]
     return ran([*words, *(word for at in folders for word in ("-L", f"dependency={at}")), *more], crate)
@@ -156,25 +181,54 @@ def build(crate, folders, jobs, platform=NATIVE):
     """Proves a program or a static library over the libraries in these folders, and builds it. Returns how that ended."""
     made = path_of(crate, platform)
     os.makedirs(os.path.dirname(made), exist_ok=True)
-    toolchain = ["--target", PLATFORMS[platform].target, "--toolchain", f"{KIT}/toolchain"]
+    toolchain = ["--target", PLATFORMS[platform].target, "--toolchain", f"{kit()}/toolchain"]
     kind = [] if is_program(crate) else ["--crate-type", "staticlib"]
     ended = run(crate, "build", folders, "--jobs", str(jobs), *toolchain, "--backend", "llvm", "-o", made, *kind)
-    if ended.returncode or not is_program(crate) or platform != NATIVE:
+    if ended.returncode:
         return ended
-    linked = ran([f"{KIT}/bin/rattle-link", *toolchain, "-o", f"out/{crate}", made, *archives()], crate)
+    keep(crate, platform)
+    if not is_program(crate) or platform != NATIVE:
+        return ended
+    linked = ran([f"{kit()}/bin/rattle-link", *toolchain, "-o", f"out/{crate}", made, *archives(crate)], crate)
     linked.stdout = ended.stdout + linked.stdout
     return linked
+
+
+def keep(crate, platform):
+    """Keeps beside what was built what packing asks of the toolchain, so that it can be packed where that isn't there."""
+    with open(f"{kit()}/KIT-ID", encoding="utf-8") as file:
+        about = {"toolchain": file.readline().strip(), "libraries": libraries_below(crate)}
+    with open(note_of(crate, platform), "w", encoding="utf-8") as file:
+        json.dump(about, file, indent=1)
+    if is_program(crate) and platform == NATIVE:
+        for it in KIT_ARCHIVES:
+            shutil.copy(f"{kit()}/c/{it}", f"{CRATES}/{crate}/out/{it}")
+
+
+def libraries_below(crate):
+    """Returns the libraries of the toolchain that a crate stands on: for each the Rust crates that it is made after, and what it uses."""
+    names, found = ["std", *(it for own in with_all_below(crate) for it in USED[own] if it not in USED)], {}
+    for name in names:
+        if name not in found:
+            with open(f"{kit()}/rlibs/{name}.rlib/format", encoding="utf-8") as file:
+                found[name] = {"after": rust_crates(name), "uses": re.findall(r"^dep (\w+)$", file.read(), re.MULTILINE)}
+            names += found[name]["uses"]
+    return dict(sorted(found.items()))
+
+
+def rust_crates(library):
+    """Returns the Rust crates that a library of the toolchain is made after, each with its version. A library of its own has no page."""
+    page = f"{kit()}/rattle/{library}/README.md"
+    if not os.path.isfile(page):
+        return {}
+    with open(page, encoding="utf-8") as file:
+        return dict(RUST_CRATE.findall(file.read()))
 
 
 def proved_below(crate):
     """Returns the folders of the libraries below a crate, where they are proved as they stand: what this script left, or else `rt ci`."""
     is_here = all(map(is_proved, with_all_below(crate)[1:]))
     return [LIBRARIES] if is_here else glob.glob(f"{CRATES}/*/out/rlib")
-
-
-def archives():
-    """Returns what the toolchain has in C for a program on the native platform."""
-    return [f"{KIT}/c/libos_c.a", f"{KIT}/c/liblibc_c.a"]
 
 
 class Build:
@@ -226,6 +280,7 @@ def main():
         ended = run(sys.argv[1], "check", [LIBRARIES], "--incremental", "out/incremental", *sys.argv[3:])
         print(ended.stdout, end="")
         sys.exit(ended.returncode)
+    kit()
     crate, processors = sys.argv[1], int(sys.argv[2]) if sys.argv[2:] else os.cpu_count()
     platform = known(sys.argv[3]) if sys.argv[3:] else NATIVE
     os.makedirs(LIBRARIES, exist_ok=True)

@@ -21,10 +21,11 @@ import tempfile
 
 import report
 from pages import is_there, link_cases
-from release import INSTALLED, LIBRARY, NOTES, REPORT, bytes_of, differs, ended, files_below, pack
-from texts import TOP
+from release import BILL, INSTALLED, LIBRARY, NOTES, PYTHON, REPORT, bill_tests, bytes_of, differs, ended, files_below, mark_tests
+from release import named_files, pack_twice, python_tests
+from texts import TOP, text_of
 
-LIBRARIES = "lib/x86_64-linux-gnu"
+LIBRARIES, PACKAGES = "lib/x86_64-linux-gnu", "lib/python3/dist-packages"
 DOCUMENTS = "usr/share/doc/sas"
 # what the package has beside what install.sh installs
 ADDED = {f"{DOCUMENTS}/changelog.gz", f"{DOCUMENTS}/copyright"}
@@ -42,10 +43,13 @@ KEPT = {"package-name-doesnt-match-sonames", "link-to-shared-library-in-wrong-pa
 
 
 def wanted():
-    """Returns the files of the package: those of the folders that install.sh names, with a compressed page, and all documents."""
-    names = {it.format("sas") for it in INSTALLED | REPORT} | {it.format(LIBRARIES) for it in LIBRARY}
+    """Returns the files of the package: those of the folders that install.sh names, with a compressed page, and all documents. The
+    completion for zsh stands where that looks for those of other packages."""
+    names = {it.format("sas") for it in INSTALLED | REPORT}
+    names |= {it.format(LIBRARIES) for it in LIBRARY} | {it.format(PACKAGES) for it in PYTHON}
     pages = {f"usr/share/man/man1/{it}.1.gz" for it in ("sas", "sas-report")}
-    return {f"usr/{it}" for it in names if not it.startswith("share/man")} | pages | ADDED
+    names = {it.replace("zsh/site-functions", "zsh/vendor-completions") for it in names if not it.startswith("share/man")}
+    return {f"usr/{it}" for it in names} | pages | ADDED
 
 
 def entries_of(path):
@@ -55,10 +59,10 @@ def entries_of(path):
 
 
 def packing_tests(place, sas):
-    """Yields how a package is packed. They could show one that is never the same twice, that lacks a file, has one that is dpkg's to write,
-    that isn't root's, or is called otherwise than its version."""
-    path, again = (pack("deb.py", os.path.join(place, it)) for it in ("first", "second"))
-    yield "the same bytes twice", differs(bytes_of(path) == bytes_of(again), True)
+    """Yields how a package is packed. They could show one that is never the same twice, that asks for the toolchain, lacks a file, has one
+    that is dpkg's to write, that isn't root's, or is called otherwise than its version."""
+    path, difference = pack_twice("deb.py", place)
+    yield "the same bytes twice", difference
     version = ended(sas, "--version")[2].decode().split()[-1]
     yield "the name", differs(os.path.basename(path), f"sas_{version}_amd64.deb")
     fields = ended("dpkg-deb", "-f", path, "Package", "Version", "Architecture")[1].decode()
@@ -96,6 +100,8 @@ def system(place):
         file.write(C_LIBRARY.format(version))
     open(f"{root}/var/lib/dpkg/info/libc6.list", "w", encoding="utf-8").close()
     options = [f"Dir={root}", f"Dir::State::status={root}/var/lib/dpkg/status", f"DPkg::Options::=--root={root}"]
+    # the system has no shell for the scripts of a package
+    options += ["DPkg::Options::=--force-script-chrootless"]
     options += ["APT::Sandbox::User=root", "Dir::Bin::methods=/usr/lib/apt/methods", "Dir::Bin::dpkg=/usr/bin/dpkg"]
     return root, ["apt-get", "-qq", "-y", *(word for it in options for word in ("-o", it))]
 
@@ -113,7 +119,10 @@ def install_tests(place, sas):
     yield "dpkg --verify", differs(ended("dpkg", f"--root={root}", "--verify", "sas"), (0, b"", b""))
     words = ["plan", "examples/fuses.sas", "examples/fuses.plan"]
     yield "the program", differs(ended(f"{root}/usr/bin/sas", *words, cwd=f"{root}/{DOCUMENTS}"), ended(sas, *words))
-    yield from ((it, wrong) for it, wrong in link_cases(f"{root}/{DOCUMENTS}"))
+    for tests in (link_cases, named_files, mark_tests):
+        yield from tests(f"{root}/{DOCUMENTS}")
+    yield from bill_tests(text_of(f"{root}/{DOCUMENTS}/{BILL}"), False)
+    yield from python_tests("python3", {"PYTHONPATH": f"{root}/usr/{PACKAGES}"}, f"{root}/usr/{PACKAGES}")
     with gzip.open(f"{root}/usr/share/man/man1/sas.1.gz") as page:
         yield "the manual page", [] if b"\n.Pa /usr/share/doc/sas .\n" in page.read() else ["names another folder"]
     yield from library_tests(root, place)

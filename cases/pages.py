@@ -5,9 +5,10 @@
 
 Each request and each flag that `sas --help` names stands in README.md, in the manual page and in each completion, and none stands there
 that it doesn't name. Each line that the program may print on standard error stands in docs/GUIDE.md and in the manual page. The version
-is one: that of the program, of the first entry of CHANGELOG.md, of the packages of the library and of the manual page. Links of documents
-lead to files. The function that docs/ARCHITECTURE.md shows is that of its crate. The completions are tried in bash and in fish and
-read by zsh, and the manual page by mandoc, where these are there; what isn't there is named in a line that begins with `without`.
+is one: that of the program, of the first entry of CHANGELOG.md, of the packages of the library, of CITATION.cff and of the manual page.
+Links of documents lead to files. The function that docs/ARCHITECTURE.md shows is that of its crate. The completions are tried in bash and
+in fish and read by zsh, and the manual page by mandoc, where these are there; what isn't there is named in a line that begins with
+`without`.
 
 No proof reads these files. A request that no page names, or a page of another version, would be found here alone.
 """
@@ -141,6 +142,7 @@ def version_cases(sas):
         ("library/sasConfigVersion.cmake", r'^set\(PACKAGE_VERSION "(.*)"\)$'),
         ("library/python/sas/__init__.py", r'^__version__ = "(.*)"$'),
         ("library/rust/Cargo.toml", r'^version = "(.*)"$'),
+        ("CITATION.cff", r"^version: (.*)$"),
         (PAGE, r"^This page is that of version (.*)\.$"),
     ):
         found = re.search(pattern, text_of(os.path.join(TOP, file)), re.MULTILINE)

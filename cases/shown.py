@@ -34,7 +34,7 @@ def documents(top=TOP):
     """Returns the documents of the repository, or of a release in a folder, and the manual page. Installed documents have none beside
     them."""
     pages = [PAGE] if os.path.isdir(os.path.join(top, "man")) else []
-    return ["README.md", *sorted(glob.glob("docs/*.md", root_dir=top)), "examples/README.md", *pages]
+    return ["README.md", "SECURITY.md", *sorted(glob.glob("docs/*.md", root_dir=top)), "examples/README.md", *pages]
 
 
 def lines_of(document, top):

@@ -8,7 +8,7 @@ FOLDER and PLATFORM are those of dist.py, which packs the release. The program i
 the system, as Debian wants it. The package depends on the version of that library which the program and libsas.so ask for.
 
 `dpkg-deb`, `readelf` and `strip` have to be there. The same files at the same commit, with the same compilers and the same `dpkg-deb`,
-give the same bytes.
+give the same bytes, whatever the umask.
 """
 import glob
 import gzip
@@ -24,6 +24,7 @@ import tempfile
 from collections import namedtuple
 from email.utils import formatdate
 
+import bill
 import dist
 from dist import proving
 
@@ -34,6 +35,8 @@ DEBIANS = {
     "aarch64-linux": Debian("arm64", "lib/aarch64-linux-gnu", "aarch64-linux-gnu-strip"),
 }
 DOCUMENTS = "usr/share/doc/sas"
+# where Debian has packages of Python, and completions for zsh that aren't zsh's own
+PYTHON, ZSH = "lib/python3/dist-packages", "usr/share/zsh/vendor-completions"
 CONTROL = """\
 Package: sas
 Version: {version}
@@ -49,11 +52,17 @@ Description: proved validator of task files and plans of Fast Downward
  files output.sas and sas_plan of the Fast Downward planning system. Each
  verdict that it prints is right, which is proved for all inputs.
  .
- The package also has the library libsas for C and C++.
+ The package also has the library libsas for C, C++ and Python.
 """
 # the loader's cache is renewed, and packages that are linked with the library depend on this one
 TRIGGERS = "activate-noawait ldconfig\n"
 LIBRARIES = "libsas 1 sas (>= {version})\n"
+# what Python writes beside the files of a package isn't known to dpkg
+BEFORE_REMOVAL = """\
+#!/bin/sh
+set -e
+rm -rf "$DPKG_ROOT/usr/lib/python3/dist-packages/sas/__pycache__" "$DPKG_ROOT/usr/share/sas/report/__pycache__"
+"""
 COPYRIGHT = """\
 sas, a proved validator of task files and plans of Fast Downward
 
@@ -68,11 +77,11 @@ sas ({version}) unstable; urgency=medium
 """
 
 
-def write(path, held):
+def write(path, held, mode=0o644):
     """Writes a text or bytes into a file that anyone may read."""
     with open(path, "wb") as file:
         file.write(held.encode() if isinstance(held, str) else held)
-    os.chmod(path, 0o644)
+    os.chmod(path, mode)
 
 
 def files_below(folder):
@@ -86,17 +95,24 @@ def install(platform, root, place):
     with tarfile.open(fileobj=io.BytesIO(held)) as tar:
         tar.extractall(place)
     release = os.path.join(place, top)
-    write(f"{release}/sas", dist.linked(platform, place, "-fPIE", "-pie", "-Wl,-z,relro,-z,now"))
-    os.chmod(f"{release}/sas", 0o755)
-    words = ["PREFIX=/usr", f"LIBDIR={DEBIANS[platform].libraries}", f"DESTDIR={root}"]
+    write(f"{release}/sas", dist.linked(platform, place, "-fPIE", "-pie", "-Wl,-z,relro,-z,now"), 0o755)
+    version = dist.version_of()
+    write(f"{release}/{bill.NAME}", bill.written(version, dist.built_with(platform), dist.commit_of()[1]))
+    words = ["PREFIX=/usr", f"LIBDIR={DEBIANS[platform].libraries}", f"PYTHONDIR={PYTHON}", f"DESTDIR={root}"]
     dist.run(f"{release}/install.sh", "install", *words, stdout=subprocess.DEVNULL)
-    return dist.version_of()
+    return version
 
 
 def fit(root, about, moment, strip):
-    """Makes what is below a folder fit for Debian: what dpkg notes itself is left out, pages are compressed, the library has no names for
-    debuggers, and there are the licence and the changes."""
+    """Makes what is below a folder fit for Debian: what dpkg notes itself is left out, the completion for zsh stands with those of other
+    packages, the link to the library is as short as can be, pages are compressed, the library has no names for debuggers, and there are
+    the licence and the changes."""
     os.remove(f"{root}/{DOCUMENTS}/INSTALLED")
+    os.rename(f"{root}/usr/share/zsh/site-functions", f"{root}/{ZSH}")
+    package = os.path.realpath(f"{root}/usr/{PYTHON}/sas")
+    to = os.path.relpath(os.path.realpath(f"{package}/libsas.so"), package)
+    os.remove(f"{package}/libsas.so")
+    os.symlink(to, f"{package}/libsas.so")
     for page in glob.glob(f"{root}/usr/share/man/man1/*.1"):
         write(f"{page}.gz", gzip.compress(dist.bytes_of(page), mtime=0))
         os.remove(page)
@@ -129,6 +145,7 @@ def control(root, about):
     write(f"{root}/DEBIAN/md5sums", "".join(sums))
     write(f"{root}/DEBIAN/triggers", TRIGGERS)
     write(f"{root}/DEBIAN/shlibs", LIBRARIES.format(**about))
+    write(f"{root}/DEBIAN/prerm", BEFORE_REMOVAL, 0o755)
 
 
 def packed(root, moment, path):
@@ -145,11 +162,12 @@ def main(to=dist.TOP, platform=proving.NATIVE):
     debian = DEBIANS[proving.known(platform)]
     if not shutil.which("dpkg-deb"):
         sys.exit("not packed: dpkg-deb isn't there")
+    os.umask(0o022)
     moment = dist.commit_of()[1]
     maintainer = dist.printed("git", "log", "-1", "--format=%an <%ae>") or "unknown <unknown@localhost>"
     with tempfile.TemporaryDirectory() as place:
         root = os.path.join(place, "root")
-        os.mkdir(root, 0o755)
+        os.mkdir(root)
         about = {"version": install(platform, root, place), "architecture": debian.architecture, "maintainer": maintainer}
         about["c_library"] = c_library(root)
         fit(root, about, moment, debian.strip)

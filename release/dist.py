@@ -7,17 +7,19 @@ manual page, completions, documents and examples. Prints its place and its SHA-2
 FOLDER is where it is put, the top of the repository where none is named. PLATFORM is x86_64-linux, if left out, or aarch64-linux. The
 files stand in a release where they stand in the repository, and the library in library/out/. The program is linked from the object of the
 crate `sas`; where there is none yet for the platform, or a file of a crate is younger, build.py proves the crate and what it stands on.
-library/build.py does so of the library. What the program asks of C beside the C library is in two archives of the toolchain, or for
-another platform in process.c and library/sas_memory.c. The C compiler is $CC or cc, or aarch64-linux-gnu-gcc.
+library/build.py does so of the library. What is built is packed without the toolchain, of which the build keeps what is wanted: a note of
+it, and two archives of C code, in place of which another platform has process.c and library/sas_memory.c. The C compiler is $CC or cc, or
+aarch64-linux-gnu-gcc.
 
 The same files at the same commit, with the same compilers, give the same bytes: each file has the time of the commit, or that of
 SOURCE_DATE_EPOCH, and names are sorted. PROVED says with which toolchain and at which commit all was proved, and how `make test` ended
-if it ended at this commit.
+if it ended at this commit. sas.cdx.json is the bill of materials (bill.py).
 """
 import glob
 import gzip
 import hashlib
 import io
+import json
 import os
 import re
 import subprocess
@@ -27,6 +29,7 @@ import tempfile
 
 TOP = os.path.dirname(os.path.dirname(os.path.abspath(__file__)))
 sys.path.insert(0, TOP)
+import bill
 import build as proving  # the file at the top
 
 PROGRAM = "sas"
@@ -42,6 +45,8 @@ PACKED = (
     "install.sh",
     "README.md",
     "CHANGELOG.md",
+    "SECURITY.md",
+    "CITATION.cff",
     "man/*.1",
     "completions/*",
     "docs/*.md",
@@ -81,10 +86,15 @@ def linked(platform, folder, *words):
     """Returns the program, linked with these words of the C compiler; statically, if none is given."""
     if not proving.is_built(PROGRAM, platform):
         run(sys.executable, f"{TOP}/build.py", PROGRAM, str(os.cpu_count()), platform, stdout=subprocess.DEVNULL)
-    others = proving.archives() if platform == proving.NATIVE else ["-O2", *(f"{TOP}/{it}" for it in IN_C)]
+    others = proving.archives(PROGRAM) if platform == proving.NATIVE else ["-O2", *(f"{TOP}/{it}" for it in IN_C)]
     words = [*(words or ["-static"]), "-s", "-Wl,--build-id=none", proving.path_of(PROGRAM, platform), *others]
     run(*proving.compiler_for(platform), *words, "-o", f"{folder}/sas")
     return bytes_of(f"{folder}/sas")
+
+
+def built_with(platform):
+    """Returns what the program was built with: the toolchain, and the libraries of it."""
+    return json.loads(bytes_of(proving.note_of(PROGRAM, platform)))
 
 
 def bytes_of(path):
@@ -116,13 +126,13 @@ def gate_of(commit):
 
 
 def proved(version, commit, platform):
-    """Returns what PROVED says."""
+    """Returns what PROVED says of what was built."""
     compiler = printed(*proving.compiler_for(platform), "--version").splitlines()[0]
     return f"""\
 sas {version} for {platform}
 
 commit     {commit}
-toolchain  {printed("rt", "version")}
+toolchain  {built_with(platform)["toolchain"]}
 target     {proving.PLATFORMS[platform].target}
 gate       {gate_of(commit)}
 linker     {compiler}
@@ -177,6 +187,7 @@ def release(platform):
     with tempfile.TemporaryDirectory() as folder:
         files["sas"] = linked(platform, folder)
     files["PROVED"] = proved(version, commit, platform).encode()
+    files[bill.NAME] = bill.written(version, built_with(platform), time, bill.c_library(proving.compiler_for(platform)))
     top = f"sas-{version}-{platform}"
     return top, packed(top, time, files, links)
 
