@@ -965,6 +965,53 @@ def range_tests(_, library, folder):
             yield f"ranges.cpp, {compiler} {standard}", wrong or ([] if said == [valid] * count + [unknown, *[none] * 3] else [f"{said}"])
 
 
+# programs that make each call with a limit of 1000 bytes, and print what is thrown or returned, or the status where nothing is
+LIMITED_CPP = """
+#include <sas.hpp>
+#include <iostream>
+#ifdef __cpp_exceptions
+#define TELL(CALL) try { std::cout << (CALL).text; } catch (const std::exception &it) { std::cout << it.what() << '\\n'; }
+#else
+#define TELL(CALL) std::cout << int((CALL).status) << '\\n';
+#endif
+int main() {
+    sas::Task task;
+    const sas::Limit limit{1000};
+    TELL(sas::plan_why("", "", limit)) TELL(sas::trace("", "", limit)) TELL(sas::check_why("", limit)) TELL(sas::mutex("", limit))
+    TELL(sas::mutex_why("", limit)) TELL(sas::show("", limit)) TELL(sas::print("", limit)) TELL(sas::steps("", limit))
+    TELL(task.plan_why("", limit)) TELL(task.trace("", limit))
+}
+"""
+LIMITED_RS = """
+fn tell(answer: Result<sas::Answer, sas::Error>) { println!("{}", answer.unwrap_err()); }
+fn main() {
+    let it = sas::max_answer_bytes(1000);
+    tell(it.plan_why(b"", b"")); tell(it.trace(b"", b"")); tell(it.check_why(b"")); tell(it.mutex(b""));
+    tell(it.mutex_why(b"")); tell(it.show(b"")); tell(it.print(b"")); tell(it.steps(b""));
+}
+"""
+
+
+def limit_tests(_, library, folder):
+    """Yields the calls with a limit, over a library whose answers have 2^40 bytes. They could show a room over the limit, and one for an
+    answer that nobody gets."""
+    stub, path = stub_library(library, folder), os.path.join(folder, "limited")
+    for source, text in (("limited.cpp", LIMITED_CPP), ("limited.rs", LIMITED_RS)):
+        with open(os.path.join(folder, source), "w", encoding="utf-8") as file:
+            file.write(text)
+    said, cpp = f"sas: answer too long: {1 << 40} bytes\n", ["-std=c++17", *C_WARNINGS, "-I", library.folder, f"{folder}/limited.cpp"]
+    for compiler, words, expected in (
+        ("g++", [*cpp, f"{stub}/libsas.a"], said * 10),
+        ("g++", ["-fno-exceptions", *cpp, f"{stub}/libsas.a"], "5\n" * 10),
+        ("rustc", ["--edition", "2021", "-D", "warnings", f"{folder}/limited.rs"], said * 8),
+    ):
+        if compilers(compiler):
+            words = [*words, *crate(stub, folder)] if compiler == "rustc" else words
+            wrong = failed(compiler, *words, "-o", path)
+            ran = wrong or ended(path, env={**os.environ, "STUB": str(ROOM_TOO_SHORT)})
+            yield f"limits, {compiler} {words[0]}", wrong or ([] if ran.stdout.decode() == expected else [f"{ran}"])
+
+
 NO_EXCEPTIONS = """
 #include "sas.hpp"
 #include <cstdio>
@@ -1128,6 +1175,7 @@ TESTS = (
     number_tests,
     dialect_tests,
     range_tests,
+    limit_tests,
     no_exception_tests,
     refused_code_tests,
     builder_tests,

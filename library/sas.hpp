@@ -57,7 +57,7 @@ struct Refused : std::runtime_error {
 };
 
 // The most bytes that an answer may have. Calls whose answers may be long take it last: `sas::trace(task, plan, sas::Limit{1 << 20})`. If an
-// answer is longer, no memory is taken for it, and the call throws sas::AnswerTooLong. Without a Limit there is none.
+// answer is longer, the call throws sas::AnswerTooLong and takes no room for it. Inside the library the text takes memory in any case.
 struct Limit {
     std::size_t max_answer_bytes = std::string::npos;
 };

@@ -153,8 +153,8 @@ pub fn steps(plan: &[u8]) -> Result<Answer, Error> {
     NO_LIMIT.steps(plan)
 }
 
-/// Limits the size of answers: `sas::max_answer_bytes(1 << 20).trace(task, plan)` answers as [`trace`], but if the answer has more bytes, it
-/// takes no memory for it and returns [`Error::AnswerTooLong`].
+/// Limits the size of answers: `sas::max_answer_bytes(1 << 20).trace(task, plan)` answers as [`trace`]. If the answer has more bytes, it
+/// returns [`Error::AnswerTooLong`], and takes no room for it. Inside the library the text takes memory in any case.
 pub const fn max_answer_bytes(most: usize) -> Limited {
     Limited { most }
 }
