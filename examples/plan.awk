@@ -37,15 +37,15 @@ function add_operator(name, cost,    key) {
     if (name in costs) return
     costs[name] = cost
     key = folded(name)
-    is_ambiguous[key] = (key in names)
-    if (!(key in names)) names[key] = name
+    if (key in names) is_ambiguous[key] = 1
+    else names[key] = name
 }
 
 # Reads the metric and the operators of a task.
-function read_task(file,    text, before, name, count) {
+function read_task(file,    text, before, name, number) {
     while ((getline text < file) > 0) {
         sub(/\r$/, "", text)
-        if (++count == 5) metric = text
+        if (++number == 5) metric = text
         if (before == "begin_operator") name = text
         if (text == "end_operator") add_operator(name, before)
         before = text
@@ -82,7 +82,7 @@ function check_number(label) {
 # Adds a step of this name.
 function add_step(name,    key) {
     key = folded(name)
-    if (!(name in costs) && is_ambiguous[key]) refuse_line("several operators have this name, but for case and spaces")
+    if (!(name in costs) && key in is_ambiguous) refuse_line("several operators have this name, but for case and spaces")
     if (!(name in costs)) name = (key in names) ? names[key] : key
     steps[++count] = name
     sum += (metric == 0 ? 1 : (name in costs) ? costs[name] : 0)
