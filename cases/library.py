@@ -925,7 +925,7 @@ DIALECTS = (
      "sas::Task task; const std::uint16_t it[] = {1}; return task.plan_operators(it, 0) ? 1 : 0;", "sas::Operators"),
     ("a limit", "-std=c++17", 'return sas::check_why("", {9999}) || sas::print("", sas::Limit{9999}) ? 1 : 0;', None),
     ("a limit by its name", "-std=c++20", 'return sas::check_why("", {.max_answer_bytes = 9999}) ? 1 : 0;', None),
-    ("a length that would be a limit", "-std=c++17", "const std::string it; return sas::steps(it.data(), it.size()) ? 1 : 0;", "sas::Limit"),
+    ("a length for a limit", "-std=c++17", "const std::string it; return sas::steps(it.data(), it.size()) ? 1 : 0;", "sas::Limit"),
     ("the reason of a temporary", "-std=c++17", 'const auto it = sas::plan("", "").reason(); return it == "line 1: end" ? 0 : 1;', None),
     ("steps of a temporary", "-std=c++17",
      'for (auto &it : sas::trace("", "").trace_steps()) return int(it.op); return 0;', "use of deleted function"),
@@ -953,8 +953,8 @@ def dialect_tests(_, library, folder):
 
 
 def range_tests(_, library, folder):
-    """Yields plans by the numbers of their operators, in C++, in ranges of each kind. They could show a range that has to be copied first, and
-    numbers that are read as others."""
+    """Yields plans by the numbers of their operators, in C++, in ranges of each kind. They could show a range that has to be copied first,
+    and numbers that are read as others."""
     path, valid = os.path.join(folder, "ranges"), "plan valid: 4 steps, cost 4"
     none, unknown = "plan invalid: goal fact 0 not reached", "plan invalid: step 4: no operator of that number"
     for compiler, standard, count in (("g++", "-std=c++17", 13), ("g++", "-std=c++20", 17), ("clang++", "-std=c++17", 13)):
@@ -1046,10 +1046,12 @@ REFUSED_CODE = (
     ("a task that is copied", f"{HOLD} let other = held.clone(); drop(other);", "E0599"),
     ("a task that is used after it was dropped", f'{HOLD} drop(held); let _ = held.plan(b"");', "E0382"),
     ("an answer that isn't used", f"{CHECK}.unwrap();", UNUSED),
+    ("an answer that isn't used, after ?", f"let judge = || {{ {CHECK}?; Ok::<(), sas::Error>(()) }}; judge().unwrap();", UNUSED),
     ("an answer that isn't used, of a held task", f"{HOLD} held.plan_operators(&[], 0).unwrap();", UNUSED),
     ("an answer that isn't used, with a limit", f'{HOLD} held.max_answer_bytes(9).trace(b"").unwrap();', UNUSED),
     ("a limit without a call", "sas::max_answer_bytes(9);", UNUSED.replace("Answer", "Limited")),
-    ("no other verdict", f"use sas::Verdict::*; match {CHECK}.unwrap().verdict() {{ Valid | Invalid | Refused | Yes | No => {{}} }}", "E0004"),
+    ("no other verdict",
+     f"use sas::Verdict::*; match {CHECK}.unwrap().verdict() {{ Valid | Invalid | Refused | Yes | No => {{}} }}", "E0004"),
     ("no other file", f"use sas::File::*; match {CHECK}.unwrap().refused_file().unwrap() {{ Task | Plan => {{}} }}", "E0004"),
     ("no other error",
      f"use sas::Error::*; match {CHECK}.unwrap_err() {{ OutOfMemory | InputTooLong | AnswerTooLong {{ .. }} => {{}} }}", "E0004"),

@@ -6,9 +6,11 @@
 # parentheses may be missing after a number, and if the task has an operator of that name. A line may have several steps, and all steps may
 # be one list, `((go a b) (go b c))`. Comments from `;` on, empty lines and a byte order mark are dropped.
 #
-# All else is refused, and so are times that fall and steps that aren't numbered one after another: nothing is printed, standard error names
-# the line, and the exit status is 1. A plan that was cut off is refused if its last line has no end, a bracket isn't closed, or no step is
-# left. A cut between two lines can't be seen, since other planners don't mark the end of a plan.
+# All else is refused: nothing is printed, standard error names the line, and the exit status is 1. Numbers as in `step 0: ` and `1. ` have
+# to follow each other, from 0 or 1. Others are times, and may not fall.
+#
+# A plan that was cut off is refused if its last line has no end, a bracket isn't closed, or no step is left. A cut between two lines can't
+# be seen, since other planners don't mark the end of a plan.
 #
 # PDDL doesn't distinguish upper and lower case, so a step gets the name that the task has, also `go ` with its space for `(go)`. A name
 # that the task doesn't have is kept in lower case; `sas plan` names the step.
