@@ -198,8 +198,8 @@ def text_cases():
 
 
 def cut_cases():
-    """Yields the texts of FORMS, cut off at each byte, each with the plan of the steps that are left, or nothing where it has to be refused:
-    where the last line has no end, in a list, and where no step is left."""
+    """Yields the texts of FORMS, cut off at each byte, each with the plan of the steps that are left, or nothing where it has to be
+    refused: where the last line has no end, in a list, and where no step is left."""
     for name, text in FORMS.items():
         for front in (text[:length] for length in range(len(text))):
             words = " ".join(front.lower().split())

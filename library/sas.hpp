@@ -56,8 +56,8 @@ struct Refused : std::runtime_error {
     explicit Refused(Answer it) : std::runtime_error(it.text.substr(0, it.text.find('\n'))), answer(std::move(it)) {}
 };
 
-// The most bytes that an answer may have. Calls whose answers may be long take it last: `sas::trace(task, plan, sas::Limit{1 << 20})`. If an
-// answer is longer, the call throws sas::AnswerTooLong and takes no room for it. Inside the library the text takes memory in any case.
+// The most bytes that an answer may have. Calls whose answers may be long take it last: `sas::trace(task, plan, sas::Limit{1 << 20})`. If
+// an answer is longer, the call throws sas::AnswerTooLong and takes no room for it. Inside the library the text takes memory in any case.
 struct Limit {
     std::size_t max_answer_bytes = std::string::npos;
 };
