@@ -853,20 +853,32 @@ def built_wrapper(language, library, folder):
     return path
 
 
+def long_answers(folder):
+    """Writes a wide task and a plan whose reasons and trace are longer than the rooms that wrappers begin with, and returns their paths."""
+    width, paths = 500, [os.path.join(folder, "wide.sas"), os.path.join(folder, "wide.plan")]
+    steps = [*(f"next {place}" for place in range(width)), *["turn", "back"] * 20]
+    for path, text in zip(paths, (text_of(wide_task(width)), plan_text(steps, 1))):
+        with open(path, "w", encoding="latin-1") as file:
+            file.write(text)
+    return paths
+
+
 def wrapper_tests(_, library, folder):
-    """Yields all calls of the wrappers in C++ and Rust, over a task that is layered and one that isn't. They could show a call that
-    answers for another request or exchanges its inputs, and a task that is freed twice, or never."""
+    """Yields all calls of the wrappers in C++ and Rust, over a task that is layered and one that isn't, and with long answers. They could
+    show a call that answers for another request or exchanges its inputs, a limit that is off by one, and a task that is freed twice, or
+    never."""
+    pairs = [[os.path.join(TOP, f"{name}.sas"), os.path.join(TOP, f"{FUSES}.plan")] for name in (DOORWAY, LAMPS)]
     for language, compiler in (("cpp", "g++"), ("rs", "rustc")):
         path = built_wrapper(language, library.folder, folder) if compilers(compiler) else None
-        for name in (DOORWAY, LAMPS) if path else ():
-            files = [os.path.join(TOP, f"{name}.sas"), os.path.join(TOP, f"{FUSES}.plan")]
+        for files in [*pairs, long_answers(folder)] if path else ():
+            name = os.path.basename(files[0])
             expected = 0, lines_of_wrappers(library.sas, *map(read, files))[language], b""
             ran = ended(path, *files)
             got = ran.returncode, ran.stdout, ran.stderr
-            yield f"library.{language}, {name}", [] if got == expected else [f"{got}, not {expected}"]
+            yield f"library.{language}, {name}", [] if got == expected else [f"{got}, not {expected}"[:5000]]
             if compilers("valgrind"):
                 ran = watched(path, *files)
-                yield f"valgrind library.{language}, {name}", [] if ran.returncode == 0 and not ran.stderr else [f"{ran}"]
+                yield f"valgrind library.{language}, {name}", [] if ran.returncode == 0 and not ran.stderr else [f"{ran}"[:5000]]
 
 
 def watched(*command):
