@@ -1,5 +1,6 @@
 // library TASK PLAN: makes each call of sas.hpp, for library.py. Of each answer it prints the call's name, 0 or 1 as the status of
-// `sas`, its steps and its cost, or 0 where there are none, and the text; or the name and which exception was thrown.
+// `sas`, its steps and its cost, or 0 where there are none, and the text; or the name and which exception was thrown. A call that takes a
+// limit gets that of its answer's size, after lower ones, which have to be refused.
 #include "sas.hpp"
 #include <fstream>
 #include <iostream>
@@ -32,11 +33,36 @@ template <class Call> static void tell(const char *name, Call call) {
     }
 }
 
+// makes a call whose answer is longer than the limit
+template <class Call> static void refuse(Call call, std::size_t limit, std::size_t size) {
+    try {
+        const sas::Answer answer = call(sas::Limit{limit});
+    } catch (const sas::AnswerTooLong &fault) {
+        if (fault.size == size && fault.what() == "sas: answer too long: " + std::to_string(size) + " bytes") {
+            return;
+        }
+    }
+    throw std::logic_error("another answer over the limit");
+}
+
+// makes a call without a limit, and with limits
+template <class Call> static void tell_limited(const char *name, Call call) {
+    tell(name, [&] {
+        const std::size_t size = call(sas::Limit{}).text.size();
+        for (const std::size_t limit : {std::size_t(0), size / 2, size - 1}) {
+            if (limit < size) {
+                refuse(call, limit, size);
+            }
+        }
+        return call(sas::Limit{size});
+    });
+}
+
 // the calls about a plan of a task, in turn
 static void tell_held(const char *name, sas::Task &task, const std::string &plan) {
     tell(name, [&] { return task.plan(plan); });
-    tell("held plan_why", [&] { return task.plan_why(plan); });
-    tell("held trace", [&] { return task.trace(plan); });
+    tell_limited("held plan_why", [&](sas::Limit limit) { return task.plan_why(plan, limit); });
+    tell_limited("held trace", [&](sas::Limit limit) { return task.trace(plan, limit); });
     const std::vector<std::uint32_t> numbers = {0};
     tell("held operators", [&] { return task.plan_operators(numbers, 1); });
 }
@@ -44,15 +70,15 @@ static void tell_held(const char *name, sas::Task &task, const std::string &plan
 int main(int, char **words) {
     const std::string task = read_file(words[1]), plan = read_file(words[2]);
     tell("plan", [&] { return sas::plan(task, plan); });
-    tell("plan_why", [&] { return sas::plan_why(task, plan); });
-    tell("trace", [&] { return sas::trace(task, plan); });
+    tell_limited("plan_why", [&](sas::Limit limit) { return sas::plan_why(task, plan, limit); });
+    tell_limited("trace", [&](sas::Limit limit) { return sas::trace(task, plan, limit); });
     tell("check", [&] { return sas::check(task); });
-    tell("check_why", [&] { return sas::check_why(task); });
-    tell("mutex", [&] { return sas::mutex(task); });
-    tell("mutex_why", [&] { return sas::mutex_why(task); });
-    tell("show", [&] { return sas::show(task); });
-    tell("print", [&] { return sas::print(task); });
-    tell("steps", [&] { return sas::steps(plan); });
+    tell_limited("check_why", [&](sas::Limit limit) { return sas::check_why(task, limit); });
+    tell_limited("mutex", [&](sas::Limit limit) { return sas::mutex(task, limit); });
+    tell_limited("mutex_why", [&](sas::Limit limit) { return sas::mutex_why(task, limit); });
+    tell_limited("show", [&](sas::Limit limit) { return sas::show(task, limit); });
+    tell_limited("print", [&](sas::Limit limit) { return sas::print(task, limit); });
+    tell_limited("steps", [&](sas::Limit limit) { return sas::steps(plan, limit); });
     tell("empty", [&] { return sas::plan(std::string_view(), std::string_view()); });
 
     try {

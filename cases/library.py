@@ -60,7 +60,7 @@ UNDEFINED = {"malloc", "realloc", "free", "memcpy", "memmove", "memset"}
 C_WARNINGS = ("-Wall", "-Wextra", "-pedantic", "-Werror")
 SOURCES = {
     "c": ("library/examples/held.c", "library/sas_memory.c", "library/sas_version.c", "cases/library_stub.c"),
-    "cpp": ("library/examples/held.cpp", "cases/library.cpp", "cases/planner.cpp"),
+    "cpp": ("library/examples/held.cpp", "cases/library.cpp", "cases/planner.cpp", "cases/ranges.cpp"),
 }
 LANGUAGES_OF_C = (("c", "-std=c99", ("gcc", "clang")), ("cpp", "-std=c++17", ("g++", "clang++")))
 # a task that a program whose room is fixed would cut off
@@ -853,20 +853,32 @@ def built_wrapper(language, library, folder):
     return path
 
 
+def long_answers(folder):
+    """Writes a wide task and a plan whose reasons and trace are longer than the rooms that wrappers begin with, and returns their paths."""
+    width, paths = 500, [os.path.join(folder, "wide.sas"), os.path.join(folder, "wide.plan")]
+    steps = [*(f"next {place}" for place in range(width)), *["turn", "back"] * 20]
+    for path, text in zip(paths, (text_of(wide_task(width)), plan_text(steps, 1))):
+        with open(path, "w", encoding="latin-1") as file:
+            file.write(text)
+    return paths
+
+
 def wrapper_tests(_, library, folder):
-    """Yields all calls of the wrappers in C++ and Rust, over a task that is layered and one that isn't. They could show a call that
-    answers for another request or exchanges its inputs, and a task that is freed twice, or never."""
+    """Yields all calls of the wrappers in C++ and Rust, over a task that is layered and one that isn't, and with long answers. They could
+    show a call that answers for another request or exchanges its inputs, a limit that is off by one, and a task that is freed twice, or
+    never."""
+    pairs = [[os.path.join(TOP, f"{name}.sas"), os.path.join(TOP, f"{FUSES}.plan")] for name in (DOORWAY, LAMPS)]
     for language, compiler in (("cpp", "g++"), ("rs", "rustc")):
         path = built_wrapper(language, library.folder, folder) if compilers(compiler) else None
-        for name in (DOORWAY, LAMPS) if path else ():
-            files = [os.path.join(TOP, f"{name}.sas"), os.path.join(TOP, f"{FUSES}.plan")]
+        for files in [*pairs, long_answers(folder)] if path else ():
+            name = os.path.basename(files[0])
             expected = 0, lines_of_wrappers(library.sas, *map(read, files))[language], b""
             ran = ended(path, *files)
             got = ran.returncode, ran.stdout, ran.stderr
-            yield f"library.{language}, {name}", [] if got == expected else [f"{got}, not {expected}"]
+            yield f"library.{language}, {name}", [] if got == expected else [f"{got}, not {expected}"[:5000]]
             if compilers("valgrind"):
                 ran = watched(path, *files)
-                yield f"valgrind library.{language}, {name}", [] if ran.returncode == 0 and not ran.stderr else [f"{ran}"]
+                yield f"valgrind library.{language}, {name}", [] if ran.returncode == 0 and not ran.stderr else [f"{ran}"[:5000]]
 
 
 def watched(*command):
@@ -913,21 +925,19 @@ def number_tests(_, library, folder):
         yield f"Python, number {number}", [] if set(came) == {exception} else [f"{came}"]
 
 
-# calls with operators of several types and with none, none of which is made
-OPERATORS = "auto judge = [](auto &it, auto &other, int made) { sas::Task task; return made && task.plan_operators(it, 1)"
-OPERATORS += " && task.plan_operators(other, 1) && task.plan_operators({0, 1}, 2) && task.plan_operators({}, 0); };"
 # code in C++ and how it is compiled, each with a part of the compiler's message if it is refused
 DIALECTS = (
     ("bytes", "-std=c++17", "std::vector<std::byte> it; std::vector<unsigned char> other; return sas::plan(it, other) ? 1 : 0;", None),
     ("a pointer", "-std=c++17", "sas::Task task; return task.read({nullptr, 0}) ? 1 : 0;", None),
     ("spans", "-std=c++20", "std::span<const std::byte> it; std::span<char> other; return sas::plan(it, other) ? 1 : 0;", None),
     ("numbers", "-std=c++17", "std::vector<int> it; return sas::check(it) ? 1 : 0;", "could not convert"),
-    ("operators", "-std=c++17",
-     f"{OPERATORS} std::vector<std::uint32_t> it; std::uint32_t other[] = {{1}}; return judge(it, other, 0);", None),
-    ("spans of operators", "-std=c++20",
-     f"{OPERATORS} std::span<const std::uint32_t> it; std::array<std::uint32_t, 2> other{{}}; return judge(it, other, 0);", None),
-    ("operators that are signed", "-std=c++17",
-     "sas::Task task; std::vector<int> it; return task.plan_operators(it, 0) ? 1 : 0;", "sas::Operators"),
+    ("operators of 64 bits", "-std=c++17",
+     "sas::Task task; std::vector<std::size_t> it; return task.plan_operators(it, 0) ? 1 : 0;", "sas::Operators"),
+    ("operators of 16 bits", "-std=c++17",
+     "sas::Task task; const std::uint16_t it[] = {1}; return task.plan_operators(it, 0) ? 1 : 0;", "sas::Operators"),
+    ("a limit", "-std=c++17", 'return sas::check_why("", {9999}) || sas::print("", sas::Limit{9999}) ? 1 : 0;', None),
+    ("a limit by its name", "-std=c++20", 'return sas::check_why("", {.max_answer_bytes = 9999}) ? 1 : 0;', None),
+    ("a length for a limit", "-std=c++17", "const std::string it; return sas::steps(it.data(), it.size()) ? 1 : 0;", "sas::Limit"),
     ("the reason of a temporary", "-std=c++17", 'const auto it = sas::plan("", "").reason(); return it == "line 1: end" ? 0 : 1;', None),
     ("steps of a temporary", "-std=c++17",
      'for (auto &it : sas::trace("", "").trace_steps()) return int(it.op); return 0;', "use of deleted function"),
@@ -952,6 +962,66 @@ def dialect_tests(_, library, folder):
             yield f"C++, {name}", wrong or failed(f"{path}.out")
         else:
             yield f"C++, {name}, refused", [] if wrong and refusal in wrong[0] else [f"{wrong}"]
+
+
+def range_tests(_, library, folder):
+    """Yields plans by the numbers of their operators, in C++, in ranges of each kind. They could show a range that has to be copied first,
+    and numbers that are read as others."""
+    path, valid = os.path.join(folder, "ranges"), "plan valid: 4 steps, cost 4"
+    none, unknown = "plan invalid: goal fact 0 not reached", "plan invalid: step 4: no operator of that number"
+    for compiler, standard, count in (("g++", "-std=c++17", 13), ("g++", "-std=c++20", 17), ("clang++", "-std=c++17", 13)):
+        if compilers(compiler):
+            words = [standard, *C_WARNINGS, "-I", library.folder, os.path.join(TOP, "cases/ranges.cpp"), f"{library.folder}/libsas.a"]
+            wrong = failed(compiler, *words, "-o", path)
+            said = [] if wrong else ended(path, os.path.join(TOP, f"{FUSES}.sas")).stdout.decode().splitlines()
+            yield f"ranges.cpp, {compiler} {standard}", wrong or ([] if said == [valid] * count + [unknown, *[none] * 3] else [f"{said}"])
+
+
+# programs that make each call with a limit of 1000 bytes, and print what is thrown or returned, or the status where nothing is
+LIMITED_CPP = """
+#include <sas.hpp>
+#include <iostream>
+#ifdef __cpp_exceptions
+#define TELL(CALL) try { std::cout << (CALL).text; } catch (const std::exception &it) { std::cout << it.what() << '\\n'; }
+#else
+#define TELL(CALL) std::cout << int((CALL).status) << '\\n';
+#endif
+int main() {
+    sas::Task task;
+    const sas::Limit limit{1000};
+    TELL(sas::plan_why("", "", limit)) TELL(sas::trace("", "", limit)) TELL(sas::check_why("", limit)) TELL(sas::mutex("", limit))
+    TELL(sas::mutex_why("", limit)) TELL(sas::show("", limit)) TELL(sas::print("", limit)) TELL(sas::steps("", limit))
+    TELL(task.plan_why("", limit)) TELL(task.trace("", limit))
+}
+"""
+LIMITED_RS = """
+fn tell(answer: Result<sas::Answer, sas::Error>) { println!("{}", answer.unwrap_err()); }
+fn main() {
+    let it = sas::max_answer_bytes(1000);
+    tell(it.plan_why(b"", b"")); tell(it.trace(b"", b"")); tell(it.check_why(b"")); tell(it.mutex(b""));
+    tell(it.mutex_why(b"")); tell(it.show(b"")); tell(it.print(b"")); tell(it.steps(b""));
+}
+"""
+
+
+def limit_tests(_, library, folder):
+    """Yields the calls with a limit, over a library whose answers have 2^40 bytes. They could show a room over the limit, and one for an
+    answer that nobody gets."""
+    stub, path = stub_library(library, folder), os.path.join(folder, "limited")
+    for source, text in (("limited.cpp", LIMITED_CPP), ("limited.rs", LIMITED_RS)):
+        with open(os.path.join(folder, source), "w", encoding="utf-8") as file:
+            file.write(text)
+    said, cpp = f"sas: answer too long: {1 << 40} bytes\n", ["-std=c++17", *C_WARNINGS, "-I", library.folder, f"{folder}/limited.cpp"]
+    for compiler, words, expected in (
+        ("g++", [*cpp, f"{stub}/libsas.a"], said * 10),
+        ("g++", ["-fno-exceptions", *cpp, f"{stub}/libsas.a"], "5\n" * 10),
+        ("rustc", ["--edition", "2021", "-D", "warnings", f"{folder}/limited.rs"], said * 8),
+    ):
+        if compilers(compiler):
+            words = [*words, *crate(stub, folder)] if compiler == "rustc" else words
+            wrong = failed(compiler, *words, "-o", path)
+            ran = wrong or ended(path, env={**os.environ, "STUB": str(ROOM_TOO_SHORT)})
+            yield f"limits, {compiler} {words[0]}", wrong or ([] if ran.stdout.decode() == expected else [f"{ran}"])
 
 
 NO_EXCEPTIONS = """
@@ -980,23 +1050,43 @@ def no_exception_tests(_, library, folder):
             yield f"C++ without exceptions, number {number}", [] if said == f"{status} {verdict} {status} 0\n" else [said]
 
 
+HOLD, CHECK = 'let mut held = sas::Task::read(b"").unwrap();', 'sas::check(b"")'
+UNUSED = "unused `Answer` that must be used"
+# code in Rust that is refused, each with the code of the error, or what the compiler says of it
+REFUSED_CODE = (
+    ("a task that two threads share", "fn shared<T: Sync>() {} shared::<sas::Task>();", "E0277"),
+    ("a task that is copied", f"{HOLD} let other = held.clone(); drop(other);", "E0599"),
+    ("a task that is used after it was dropped", f'{HOLD} drop(held); let _ = held.plan(b"");', "E0382"),
+    ("an answer that isn't used", f"{CHECK}.unwrap();", UNUSED),
+    ("an answer that isn't used, after ?", f"let judge = || {{ {CHECK}?; Ok::<(), sas::Error>(()) }}; judge().unwrap();", UNUSED),
+    ("an answer that isn't used, of a held task", f"{HOLD} held.plan_operators(&[], 0).unwrap();", UNUSED),
+    ("an answer that isn't used, with a limit", f'{HOLD} held.max_answer_bytes(9).trace(b"").unwrap();', UNUSED),
+    ("a limit without a call", "sas::max_answer_bytes(9);", UNUSED.replace("Answer", "Limited")),
+    ("no other verdict",
+     f"use sas::Verdict::*; match {CHECK}.unwrap().verdict() {{ Valid | Invalid | Refused | Yes | No => {{}} }}", "E0004"),
+    ("no other file", f"use sas::File::*; match {CHECK}.unwrap().refused_file().unwrap() {{ Task | Plan => {{}} }}", "E0004"),
+    ("no other error",
+     f"use sas::Error::*; match {CHECK}.unwrap_err() {{ OutOfMemory | InputTooLong | AnswerTooLong {{ .. }} => {{}} }}", "E0004"),
+    ("no other error of a task",
+     'use sas::ReadError::*; match sas::Task::read(b"").unwrap_err() { Refused(_) | Failed(_) => {} }', "E0004"),
+    ("an answer that is dropped on purpose", f"let _ = {CHECK};", None),
+    ("other verdicts", f"if let Ok(it) = {CHECK} {{ match it.verdict() {{ sas::Verdict::Yes => {{}} _ => {{}} }} }}", None),
+)
+
+
 def refused_code_tests(_, library, folder):
-    """Yields code in Rust that a compiler has to refuse. They could show a task that two threads may use at once, or two that free
-    the same one."""
+    """Yields code in Rust that a compiler has to refuse, and code that it takes without a warning. They could show a task that two threads
+    may use at once, or two that free the same one, an answer that is lost unseen, and code that a later version would break."""
     if not compilers("rustc"):
         return
-    held, words = "let mut held = sas::Task::read(b\"\").unwrap();", crate(library.folder, folder)
-    for name, code, error in (
-        ("shared by two threads", "fn shared<T: Sync>() {} shared::<sas::Task>();", "E0277"),
-        ("copied", f"{held} let other = held.clone(); drop(other);", "E0599"),
-        ("used after it was dropped", f"{held} drop(held); let _ = held.plan(b\"\");", "E0382"),
-    ):
-        path = os.path.join(folder, "refused.rs")
+    words, path = crate(library.folder, folder), os.path.join(folder, "refused.rs")
+    for name, code, error in REFUSED_CODE:
         with open(path, "w", encoding="utf-8") as file:
             file.write(f"fn main() {{ {code} }}\n")
-        ran = ended("rustc", "--edition", "2021", *words, path, "-o", f"{path}.out")
-        found = re.findall(r"^error\[(E\d+)\]", ran.stderr.decode(), re.MULTILINE)
-        yield f"Rust, a task that is {name}", [] if found == [error] else [f"{found}, {ran.stderr.decode()[:300]}"]
+        ran = ended("rustc", "--edition", "2021", "-D", "warnings", *words, path, "-o", f"{path}.out")
+        found = [code or said for code, said in re.findall(r"^error(?:\[(E\d+)\])?: (.*)$", ran.stderr.decode(), re.MULTILINE)]
+        found = [it for it in found if not it.startswith("aborting")]
+        yield f"Rust, {name}", [] if found == ([error] if error else []) else [f"{found}, {ran.stderr.decode()[:300]}"]
 
 
 def builder_tests(_, __, ___):
@@ -1098,6 +1188,8 @@ TESTS = (
     wrapper_tests,
     number_tests,
     dialect_tests,
+    range_tests,
+    limit_tests,
     no_exception_tests,
     refused_code_tests,
     builder_tests,

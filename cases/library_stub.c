@@ -1,28 +1,30 @@
 /* Stands in for the library, for library.py: each of its calls returns the number that STUB says, and no answer. So a wrapper shows
-   what it makes of a number that the library returns too seldom. */
+   what it makes of a number that the library returns too seldom. At SAS_ROOM_TOO_SHORT the answer has 2^40 bytes, and a room of more than
+   1000 bytes is one that the library has no memory for. */
 #include "sas.h"
 #include <stdlib.h>
 
-static enum sas_number number(size_t *size) {
-    *size = 0;
-    return (enum sas_number)atoi(getenv("STUB"));
+static enum sas_number number(size_t room_length, size_t *size) {
+    const enum sas_number it = (enum sas_number)atoi(getenv("STUB"));
+    *size = it == SAS_ROOM_TOO_SHORT ? (size_t)1 << 40 : 0;
+    return it == SAS_ROOM_TOO_SHORT && room_length > 1000 ? SAS_OUT_OF_MEMORY : it;
 }
 
 #define OVER_ONE(NAME) \
     enum sas_number NAME(const uint8_t *file, size_t file_length, uint8_t *room, size_t room_length, size_t *size) { \
-        (void)file, (void)file_length, (void)room, (void)room_length; \
-        return number(size); \
+        (void)file, (void)file_length, (void)room; \
+        return number(room_length, size); \
     }
 #define OVER_TWO(NAME) \
     enum sas_number NAME(const uint8_t *task, size_t task_length, const uint8_t *plan, size_t plan_length, \
                   uint8_t *room, size_t room_length, size_t *size) { \
-        (void)task, (void)task_length, (void)plan, (void)plan_length, (void)room, (void)room_length; \
-        return number(size); \
+        (void)task, (void)task_length, (void)plan, (void)plan_length, (void)room; \
+        return number(room_length, size); \
     }
 #define OVER_HELD(NAME) \
     enum sas_number NAME(sas_task *held, const uint8_t *file, size_t file_length, uint8_t *room, size_t room_length, size_t *size) { \
-        (void)held, (void)file, (void)file_length, (void)room, (void)room_length; \
-        return number(size); \
+        (void)held, (void)file, (void)file_length, (void)room; \
+        return number(room_length, size); \
     }
 
 OVER_TWO(sas_plan)
@@ -42,8 +44,8 @@ OVER_HELD(sas_task_trace)
 
 enum sas_number sas_task_plan_operators(sas_task *held, const uint32_t *operators, size_t count, uint64_t cost,
                                         uint8_t *room, size_t room_length, size_t *size) {
-    (void)held, (void)operators, (void)count, (void)cost, (void)room, (void)room_length;
-    return number(size);
+    (void)held, (void)operators, (void)count, (void)cost, (void)room;
+    return number(room_length, size);
 }
 
 const char *sas_version(void) {

@@ -13,6 +13,7 @@
 #include "sas.h"
 #include "sas_answers.hpp"
 
+#include <algorithm>
 #include <cstddef>
 #include <cstdint>
 #include <initializer_list>
@@ -36,6 +37,13 @@ struct InputTooLong : std::length_error {
     InputTooLong() : std::length_error("sas: input too long") {}
 };
 
+// An answer has more bytes than its limit.
+struct AnswerTooLong : std::length_error {
+    std::size_t size; // how many it has
+
+    explicit AnswerTooLong(std::size_t it) : std::length_error("sas: answer too long: " + std::to_string(it) + " bytes"), size(it) {}
+};
+
 // A plan was given to a sas::Task that holds no task.
 struct NoTask : std::logic_error {
     NoTask() : std::logic_error("sas: no task is held") {}
@@ -48,9 +56,15 @@ struct Refused : std::runtime_error {
     explicit Refused(Answer it) : std::runtime_error(it.text.substr(0, it.text.find('\n'))), answer(std::move(it)) {}
 };
 
+// The most bytes that an answer may have. Calls whose answers may be long take it last: `sas::trace(task, plan, sas::Limit{1 << 20})`. If
+// an answer is longer, the call throws sas::AnswerTooLong and takes no room for it. Inside the library the text takes memory in any case.
+struct Limit {
+    std::size_t max_answer_bytes = std::string::npos;
+};
+
 namespace detail {
 
-// The type of the items of a container or a span.
+// The type of the items of a container, a span or an array.
 template <class T> using item = std::decay_t<decltype(*std::data(std::declval<const T &>()))>;
 
 template <class T>
@@ -59,6 +73,12 @@ inline constexpr bool is_byte = sizeof(T) == 1 && (std::is_integral_v<T> || std:
 // Whether a type is a container or a span of bytes.
 template <class T, class = void> inline constexpr bool has_bytes = false;
 template <class T> inline constexpr bool has_bytes<T, std::void_t<item<T>>> = !std::is_array_v<T> && is_byte<item<T>>;
+
+// Whether a type is a container, a span or an array of 32-bit integers.
+template <class T, class = void> inline constexpr bool has_numbers = false;
+template <class T>
+inline constexpr bool has_numbers<T, std::void_t<item<T>>> =
+    std::is_same_v<item<T>, std::uint32_t> || std::is_same_v<item<T>, std::int32_t>;
 
 } // namespace detail
 
@@ -81,13 +101,14 @@ private:
     std::size_t length_;
 };
 
-// Numbers of operators: of a container, a span or an array of std::uint32_t, or a list in braces. The caller keeps them.
+// Numbers of operators: any contiguous range of 32-bit integers, such as a container, a span or an array, or a list in braces. A negative
+// number is that of no operator. The caller keeps them.
 class Operators {
 public:
     Operators(const std::uint32_t *at, std::size_t count) noexcept : at_(at), count_(count) {}
     Operators(std::initializer_list<std::uint32_t> it) noexcept : Operators(std::data(it), it.size()) {}
-    template <class Container, std::enable_if_t<std::is_same_v<detail::item<Container>, std::uint32_t>, int> = 0>
-    Operators(const Container &it) noexcept : Operators(std::data(it), std::size(it)) {}
+    template <class Range, std::enable_if_t<detail::has_numbers<Range>, int> = 0>
+    Operators(const Range &it) noexcept : Operators(reinterpret_cast<const std::uint32_t *>(std::data(it)), std::size(it)) {}
 
     // Where the numbers begin, which isn't null.
     [[nodiscard]] const std::uint32_t *data() const noexcept { return count_ == 0 ? &none : at_; }
@@ -104,10 +125,12 @@ namespace detail {
 // the room that most answers fit in
 constexpr std::size_t usual_room = 65536;
 
-// Returns the status of a number without an answer, or throws its exception.
-inline Status failure(sas_number number) {
+// Returns the status of a number without an answer, or throws its exception. `size` is that of an answer over its limit.
+inline Status failure(sas_number number, [[maybe_unused]] std::size_t size) {
 #ifdef __cpp_exceptions
     switch (number) {
+    case SAS_ROOM_TOO_SHORT:
+        throw AnswerTooLong(size);
     case SAS_OUT_OF_MEMORY:
         throw std::bad_alloc();
     case SAS_INPUT_TOO_LONG:
@@ -116,36 +139,39 @@ inline Status failure(sas_number number) {
         throw NoTask();
     }
 #else
-    return number == SAS_OUT_OF_MEMORY ? Status::out_of_memory
-           : number == SAS_INPUT_TOO_LONG ? Status::input_too_long : Status::no_task;
+    return number == SAS_ROOM_TOO_SHORT   ? Status::answer_too_long
+           : number == SAS_OUT_OF_MEMORY  ? Status::out_of_memory
+           : number == SAS_INPUT_TOO_LONG ? Status::input_too_long
+                                          : Status::no_task;
 #endif
 }
 
-// Returns the answer of a call. The call gets a room of so many bytes. If the answer is longer, it is repeated with a room that fits.
-template <class Call> Answer answer(std::size_t room, Call call) {
+// Returns the answer of a call. The call gets a room of so many bytes, at most those of the limit. If the answer is longer, the call is
+// repeated with a room that fits, unless that is over the limit.
+template <class Call> Answer answer(std::size_t room, Limit limit, Call call) {
     std::string text;
-    std::size_t size = room;
+    std::size_t size = std::min(room, limit.max_answer_bytes);
     sas_number number = SAS_ROOM_TOO_SHORT;
-    while (number == SAS_ROOM_TOO_SHORT) {
+    while (number == SAS_ROOM_TOO_SHORT && size <= limit.max_answer_bytes) {
         text.assign(size, '\0');
         number = call(reinterpret_cast<std::uint8_t *>(text.data()), text.size(), &size);
     }
     if (number > SAS_NO) {
-        return {failure(number), {}};
+        return {failure(number, size), {}};
     }
     text.resize(size);
     text.shrink_to_fit();
     return {number == SAS_YES ? Status::yes : Status::no, std::move(text)};
 }
 
-inline Answer of_one(decltype(sas_check) *request, Bytes file, std::size_t room) {
-    return answer(room, [=](std::uint8_t *at, std::size_t length, std::size_t *size) {
+inline Answer of_one(decltype(sas_check) *request, Bytes file, std::size_t room, Limit limit = {}) {
+    return answer(room, limit, [=](std::uint8_t *at, std::size_t length, std::size_t *size) {
         return request(file.data(), file.size(), at, length, size);
     });
 }
 
-inline Answer of_both(decltype(sas_plan) *request, Bytes task, Bytes plan, std::size_t room) {
-    return answer(room, [=](std::uint8_t *at, std::size_t length, std::size_t *size) {
+inline Answer of_both(decltype(sas_plan) *request, Bytes task, Bytes plan, std::size_t room, Limit limit = {}) {
+    return answer(room, limit, [=](std::uint8_t *at, std::size_t length, std::size_t *size) {
         return request(task.data(), task.size(), plan.data(), plan.size(), at, length, size);
     });
 }
@@ -156,17 +182,21 @@ inline Answer of_both(decltype(sas_plan) *request, Bytes task, Bytes plan, std::
 inline std::string_view version() noexcept { return sas_version(); }
 
 inline Answer plan(Bytes task, Bytes plan) { return detail::of_both(sas_plan, task, plan, SAS_LINE_ROOM); }
-inline Answer plan_why(Bytes task, Bytes plan) { return detail::of_both(sas_plan_why, task, plan, detail::usual_room); }
-inline Answer trace(Bytes task, Bytes plan) {
-    return detail::of_both(sas_trace, task, plan, detail::usual_room + 10 * plan.size() + task.size() / 8);
+inline Answer plan_why(Bytes task, Bytes plan, Limit limit = {}) {
+    return detail::of_both(sas_plan_why, task, plan, detail::usual_room, limit);
+}
+inline Answer trace(Bytes task, Bytes plan, Limit limit = {}) {
+    return detail::of_both(sas_trace, task, plan, detail::usual_room + 10 * plan.size() + task.size() / 8, limit);
 }
 inline Answer check(Bytes task) { return detail::of_one(sas_check, task, SAS_LINE_ROOM); }
-inline Answer check_why(Bytes task) { return detail::of_one(sas_check_why, task, detail::usual_room); }
-inline Answer mutex(Bytes task) { return detail::of_one(sas_mutex, task, detail::usual_room + task.size()); }
-inline Answer mutex_why(Bytes task) { return detail::of_one(sas_mutex_why, task, detail::usual_room + task.size()); }
-inline Answer show(Bytes task) { return detail::of_one(sas_show, task, detail::usual_room + task.size()); }
-inline Answer print(Bytes task) { return detail::of_one(sas_print, task, SAS_LINE_ROOM + task.size()); }
-inline Answer steps(Bytes plan) { return detail::of_one(sas_steps, plan, SAS_LINE_ROOM + plan.size()); }
+inline Answer check_why(Bytes task, Limit limit = {}) { return detail::of_one(sas_check_why, task, detail::usual_room, limit); }
+inline Answer mutex(Bytes task, Limit limit = {}) { return detail::of_one(sas_mutex, task, detail::usual_room + task.size(), limit); }
+inline Answer mutex_why(Bytes task, Limit limit = {}) {
+    return detail::of_one(sas_mutex_why, task, detail::usual_room + task.size(), limit);
+}
+inline Answer show(Bytes task, Limit limit = {}) { return detail::of_one(sas_show, task, detail::usual_room + task.size(), limit); }
+inline Answer print(Bytes task, Limit limit = {}) { return detail::of_one(sas_print, task, SAS_LINE_ROOM + task.size(), limit); }
+inline Answer steps(Bytes plan, Limit limit = {}) { return detail::of_one(sas_steps, plan, SAS_LINE_ROOM + plan.size(), limit); }
 
 // A task that is read once, for many plans.
 class Task {
@@ -201,7 +231,7 @@ public:
 
     // Reads a task in place of the one that was held, and answers as `sas::check`. If the answer is yes, the task is held, else none is.
     Answer read(Bytes task) {
-        return detail::answer(SAS_LINE_ROOM, [&](std::uint8_t *at, std::size_t length, std::size_t *size) {
+        return detail::answer(SAS_LINE_ROOM, {}, [&](std::uint8_t *at, std::size_t length, std::size_t *size) {
             return sas_task_read(&held_, task.data(), task.size(), at, length, size);
         });
     }
@@ -212,20 +242,22 @@ public:
 
     // Whether the steps that are these operators solve the task at this cost: answers as `sas::plan`, but no name is looked up.
     Answer plan_operators(Operators operators, std::uint64_t cost) {
-        return detail::answer(SAS_LINE_ROOM, [&](std::uint8_t *at, std::size_t length, std::size_t *size) {
+        return detail::answer(SAS_LINE_ROOM, {}, [&](std::uint8_t *at, std::size_t length, std::size_t *size) {
             return sas_task_plan_operators(&held_, operators.data(), operators.size(), cost, at, length, size);
         });
     }
 
     // The same with the reasons for a no: answers as `sas::plan_why`.
-    Answer plan_why(Bytes plan) { return of_plan(sas_task_plan_why, plan, detail::usual_room); }
+    Answer plan_why(Bytes plan, Limit limit = {}) { return of_plan(sas_task_plan_why, plan, detail::usual_room, limit); }
 
     // The same after what each step changes: answers as `sas::trace`.
-    Answer trace(Bytes plan) { return of_plan(sas_task_trace, plan, detail::usual_room + 10 * plan.size()); }
+    Answer trace(Bytes plan, Limit limit = {}) {
+        return of_plan(sas_task_trace, plan, detail::usual_room + 10 * plan.size(), limit);
+    }
 
 private:
-    Answer of_plan(decltype(sas_task_plan) *request, Bytes plan, std::size_t room) {
-        return detail::answer(room, [&](std::uint8_t *at, std::size_t length, std::size_t *size) {
+    Answer of_plan(decltype(sas_task_plan) *request, Bytes plan, std::size_t room, Limit limit = {}) {
+        return detail::answer(room, limit, [&](std::uint8_t *at, std::size_t length, std::size_t *size) {
             return request(&held_, plan.data(), plan.size(), at, length, size);
         });
     }

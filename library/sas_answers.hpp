@@ -27,7 +27,7 @@ inline namespace without_exceptions {
 #endif
 
 // Yes or no. Without exceptions, also why there is no answer.
-enum class Status { yes, no, out_of_memory, input_too_long, no_task };
+enum class Status { yes, no, out_of_memory, input_too_long, no_task, answer_too_long };
 
 // What an answer says: of a plan valid, invalid or refused; of other requests yes, no or refused. Without exceptions there may be no
 // answer.

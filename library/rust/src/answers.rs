@@ -9,6 +9,7 @@ use std::str::{self, FromStr};
 
 /// What `sas` prints, and whether its exit status is 0. All else is read from the text.
 #[derive(Clone, PartialEq, Eq, Hash)]
+#[must_use = "the answer may be no"]
 pub struct Answer {
     /// Whether the answer is yes, or the text was printed.
     pub is_yes: bool,

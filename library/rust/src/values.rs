@@ -7,6 +7,7 @@ use std::ops::Deref;
 
 /// What an answer says: of a plan valid, invalid or refused; of other requests yes, no or refused.
 #[derive(Clone, Copy, Debug, PartialEq, Eq, Hash)]
+#[non_exhaustive]
 #[allow(missing_docs)]
 pub enum Verdict {
     Valid,
@@ -18,6 +19,7 @@ pub enum Verdict {
 
 /// A file that is refused.
 #[derive(Clone, Copy, Debug, PartialEq, Eq, Hash)]
+#[non_exhaustive]
 #[allow(missing_docs)]
 pub enum File {
     Task,

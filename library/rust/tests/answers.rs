@@ -82,6 +82,21 @@ fn a_held_task_gives_reasons_and_traces() {
 }
 
 #[test]
+fn an_answer_over_its_limit_is_an_error() {
+    let mut held = sas::Task::read(FUSES).unwrap();
+    let trace = held.trace(FUSES_PLAN).unwrap();
+    let size = trace.text.len();
+    assert_eq!(held.max_answer_bytes(size).trace(FUSES_PLAN), Ok(trace));
+    let error = held.max_answer_bytes(size - 1).trace(FUSES_PLAN).unwrap_err();
+    assert_eq!(error, sas::Error::AnswerTooLong { size });
+    assert_eq!(error.to_string(), format!("sas: answer too long: {size} bytes"));
+    assert_eq!(sas::max_answer_bytes(0).print(FUSES), Err(sas::Error::AnswerTooLong { size: FUSES.len() }));
+    // an answer without a byte is never too long
+    let no_groups = include_bytes!("../../../examples/elevator.sas");
+    assert_eq!(sas::max_answer_bytes(0).mutex(no_groups).unwrap().text, b"");
+}
+
+#[test]
 fn the_version_is_that_of_the_crate() {
     assert_eq!(sas::version(), env!("CARGO_PKG_VERSION"));
 }
