@@ -4,11 +4,12 @@
 `rt ci` proves and builds everything and tries each edit that must fail. What an earlier run on this machine proved of the same files is
 kept. Then docs/READING.md is held against the definitions, docs/PROMISES.md against contracts and edits, pages and completions against the
 program, the commands that documents show are run, those for clusters with GNU parallel and Slurm too, each allocation is refused in turn,
-the calls of the crates are made, the program is run, with closed streams too, the library is built and called, its answers are read as
-values, it is used from Python and by way of CMake, pkg-config, cargo and pip, a release and a package of Debian are packed and tried,
-reports are opened in browsers, and release and package are made for 64-bit ARM, for which two crates are proved once more, and run under
-an emulator. The last line is 'N passed, M failed' of all together, and the exit status is 0 exactly if M is 0. A command that doesn't end
-as its own last line says counts as one failure. gate.log keeps the last line for releases, with the commit and the toolchain.
+the calls of the crates are made, the program is run, with closed streams too, its memory is measured, the library is built and called, its
+answers are read as values, it is used from Python and by way of CMake, pkg-config, cargo and pip, a release and a package of Debian are
+packed and tried, reports are opened in browsers, and release and package are made for 64-bit ARM, for which two crates are proved once
+more, and run under an emulator. The last line is 'N passed, M failed' of all together, and the exit status is 0 exactly if M is 0. A
+command that doesn't end as its own last line says counts as one failure. gate.log keeps the last line for releases, with the commit and the
+toolchain.
 """
 import functools
 import glob
@@ -48,6 +49,7 @@ CASES = [
         ["cases/pages.py", "sas"],
         ["cases/shown.py", "sas"],
         ["cases/cluster.py", "sas"],
+        ["cases/footprint.py", "sas"],
         ["cases/patterns.py"],
         ["cases/report_pages.py", "sas"],
         ["cases/arm.py", "sas"],
