@@ -100,7 +100,7 @@ def steps(count):
 
 
 def input_of(plan=Part(), **parts):
-    """Returns the input with these parts of a task, and with the steps of this plan. It has a group, or `mutex` would have nothing to do."""
+    """Returns the input with these parts of a task, and the steps of this plan. It has a group, or `mutex` would have nothing to do."""
     held = {"variables": variables(1), "groups": groups(1, 1), "goal": Part(), "operators": Part(), "rules": Part(), **parts}
     counted = {name: b"%d\n%s" % (part.count, part.text) for name, part in held.items()}
     values = b"0\n" * held["variables"].count

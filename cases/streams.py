@@ -153,7 +153,8 @@ def shared_faults(program, times, length):
         found = lines_of_pipe(program, folder, times, labels)
     known = set(expected)
     others = [line for line in found if line not in known]
-    return [] if sorted(found) == sorted(expected) else [f"of {len(found)} lines {len(others)} are mixed, such as {[it[-99:] for it in others[:1]]}"]
+    shown = [line[-99:] for line in others[:1]]
+    return [] if sorted(found) == sorted(expected) else [f"of {len(found)} lines {len(others)} are mixed, such as {shown}"]
 
 
 def main():
