@@ -1,5 +1,6 @@
 #!/usr/bin/env python3
-"""Runs what docs/GUIDE.md shows for clusters, by `xargs`, GNU parallel and Slurm, and compares what each leaves in the folders of runs.
+"""Runs what docs/GUIDE.md shows for thousands of plans, and for clusters, by `xargs`, GNU parallel and Slurm, and compares what each
+leaves in the folders of runs.
 
     python3 cases/cluster.py SAS
 
@@ -40,6 +41,11 @@ ADDED = {
     "it's \"$HOME\"\\n": {"sas_plan": "fuses-short"},
     "no task": {"sas_plan": "fuses"},
 }
+# names of valid plans that a shell, `sas` or `grep` may take for something else, the pattern of these names, and one that `sas` refuses
+HARD = ("7 plans, 7 valid", "3 plans, 0 valid, best cost 1: x", " sas_plan", "-p", "0 plans, 9 valid\t")
+HARD_NAMES, REFUSED = r"[\ 0-9-]*", "9 plans, 9 valid\n9 plans, 9 valid"
+# how runs under `xargs` end, one after another, with the status that `xargs` then has, and how many of them are started
+ENDS = (("0 0", 0, 2), ("0 1 0", 123, 3), ("2 0", 123, 2), ("0 3", 123, 2), ("0 killed 0", 125, 2), ("1 killed 0", 123, 2))
 # the plans of the first of these in their order; the first and the last cost the same
 IN_ORDER = ("sas_plan.2", "sas_plan.3 *", "sas_plan.10")
 # all runs, each with the status that is left there
@@ -81,6 +87,7 @@ class Guide:
         start = lines.index(TITLE)
         end = next(at for at in range(start + 1, len(lines)) if lines[at].startswith("## "))
         before, self.commands = (commands_in(it, GUIDE) for it in (lines[:start], lines[start:end]))
+        self.before = [it["command"] for it in before]
         self.whole, self.text = "\n".join(lines), "\n".join(lines[start:end])
         self.place, self.env = place, {**environment(), "LC_ALL": "C", "HOME": place}
         shutil.copytree(os.path.join(TOP, "examples"), os.path.join(place, "examples"))
@@ -170,6 +177,23 @@ def xargs_tests(guide):
     said = guide.run(guide.command("grep")).splitlines()
     named = {line.partition("/verdicts:")[0] for line in said}
     yield "runs with a no", differs(named, {f"runs/{run}" for run, it in STATUSES.items() if it == "1"})
+
+
+def thousands_tests(guide):
+    """Yields what the recipe for thousands of plans counts, and how its `xargs` ends. They could show a plan that is taken for the line
+    at the end of a run, a run that isn't missed, and a status that the guide explains wrongly."""
+    recipe = next(it for it in guide.before if "sas_plan.* | sort" in it)
+    count = r"^(\d+) plans, (\d+) valid"
+    for added, missed in ((HARD, 0), ([REFUSED], 2)):
+        for name in added:
+            shutil.copy(os.path.join(guide.place, "examples/fuses.plan"), os.path.join(guide.place, name))
+        lines = re.findall(count, guide.run(recipe.replace("sas_plan.*", HARD_NAMES)), re.MULTILINE)
+        wanted = [len(HARD) + bool(missed) - missed] * 2
+        yield f"thousands of plans, {missed} missed", differs([sum(map(int, it)) for it in zip(*lines)], wanted)
+    for ends, status, started_runs in ENDS:
+        run = 'echo run; test "$0" = killed && kill -9 $$; exit "$0"'
+        lines = guide.run(f"printf '%s\\0' {ends} | xargs -0 -n 1 sh -c '{run}'; echo $?").splitlines()
+        yield f"xargs, runs that end with {ends}", differs(lines, ["run"] * started_runs + [f"{status}"])
 
 
 def state(folder):
@@ -349,7 +373,7 @@ def main(sas):
     os.environ["PATH"] += ":/usr/sbin:/sbin"
     with tempfile.TemporaryDirectory() as place:
         guide = Guide(place, os.path.abspath(sas))
-        found = [*xargs_tests(guide)]
+        found = [*thousands_tests(guide), *xargs_tests(guide)]
         expected = guide.left()
         found += [*script_tests(guide), *status_tests(guide)]
         found += [*parallel_tests(guide, expected), *slurm_tests(guide, expected)]

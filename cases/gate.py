@@ -2,14 +2,13 @@
 """Runs every check of the repository: the gate of the toolchain, then the cases over what it built.
 
 `rt ci` proves and builds everything and tries each edit that must fail. What an earlier run on this machine proved of the same files is
-kept. Then docs/READING.md is held against the definitions, docs/PROMISES.md against contracts and edits, pages and completions against the
-program, the commands that documents show are run, those for clusters with GNU parallel and Slurm too, plans of other planners are
-converted, each allocation is refused in turn, the calls of the crates are made, the program is run, with closed streams too, the library
-is built and called, its answers are read as values, it is used from Python and by way of CMake, pkg-config, cargo and pip, a release and a
-package of Debian are packed and tried, reports are opened in browsers, and release and package are made for 64-bit ARM, for which two
-crates are proved once more, and run under an emulator. The last line is 'N passed, M failed' of all together, and the exit status is 0
-exactly if M is 0. A command that doesn't end as its own last line says counts as one failure. gate.log keeps the last line for releases,
-with the commit and the toolchain.
+kept. An edit that doesn't apply or compile shows nothing: `rt ci` passes it, and here it is a failure. The lines of all edits that weren't
+refused stand once more at the end; cases/edits.py shows that they are noticed. Then the lists of CASES run side by side: documents against
+definitions, contracts, edits and the program, and what the crates' calls, the program, the library, its wrappers, packages and reports do.
+The first lines of each script say what it tries. For 64-bit ARM two crates are proved once more.
+
+The last line is 'N passed, M failed' of all together, and the exit status is 0 exactly if M is 0. A command that doesn't end as its own
+last line says counts as one failure. gate.log keeps the last line for releases, with the commit and the toolchain.
 """
 import functools
 import glob
@@ -49,6 +48,7 @@ CASES = [
         ["cases/pages.py", "sas"],
         ["cases/shown.py", "sas"],
         ["cases/cluster.py", "sas"],
+        ["cases/footprint.py", "sas"],
         ["cases/patterns.py"],
         ["cases/plan_awk.py"],
         ["cases/report_pages.py", "sas"],

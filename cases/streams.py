@@ -1,5 +1,6 @@
 #!/usr/bin/env python3
-"""Runs the program with its standard streams open and closed, and compares how it ends and which files it opens.
+"""Runs the program with its standard streams open and closed, and compares how it ends and which files it opens. Then runs several that
+write into one pipe, and compares the lines.
 
     python3 cases/streams.py SAS
 
@@ -10,15 +11,20 @@ Each request is made with each set of closed streams, and there three times: wit
 unreadable. This could show a program that opens a file though no stream is closed; one that opens `/` in place of a closed stream,
 which answers about the wrong file if `/` can't be read; and one that goes on if a stream can't be replaced, which may do so, too.
 
+A pipe takes a write whole if it has at most 4,096 bytes (POSIX, PIPE_BUF). So `plans` has to write whole lines, in pieces of at most so
+many bytes. Otherwise a line of one run is cut into that of another. That could show a program that writes larger pieces, or cuts a line.
+
 The library that notes the files is made of opened.c, with $CC or cc. Each case that fails has a line, and the last line is
 'N passed, M failed'. The exit status is 0 where none failed.
 """
 import itertools
 import os
 import shlex
+import shutil
 import subprocess
 import sys
 import tempfile
+import time
 from collections import namedtuple
 from concurrent.futures import ThreadPoolExecutor
 
@@ -30,6 +36,11 @@ NULL = "/dev/null"
 UNREADABLE = ("", "/", NULL)
 TASK, PLAN, NO_GROUPS, NOWHERE = "examples/fuses.sas", "examples/fuses.plan", "cases/tasks/minimal.sas", "examples/none"
 LAYERED, VALID, BEST = "task layered\n", "plan valid: 4 steps, cost 4\n", "1 plans, 1 valid, best cost 4"
+
+# how many runs write into one pipe, what a pipe takes whole, and how long they have until it is read, in seconds
+WRITERS, WHOLE, FILLING = 10, 4096, 0.5
+# how often each of these names its plan, and how many bytes the longest line has: with 249, 17 of the others have one more than WHOLE
+SHARED = ((2000, 249), (100, WHOLE - 1), (100, WHOLE))
 
 # the exit status, standard output and standard error
 End = namedtuple("End", "status output error", defaults=("",))
@@ -107,6 +118,45 @@ def faults(program, library, case):
     return [] if found == expected else [f"{found}, not {expected}"]
 
 
+def last_line(times, label):
+    """Returns the last line about a valid plan that is named so often by this label."""
+    return f"{times} plans, {times} valid, best cost 4: {label}\n"
+
+
+def labels_of(times, length):
+    """Returns a path for each run, which names a file in its folder. The last line about it has this length."""
+    room = length - len(last_line(times, ""))
+    return ["./" * ((room - 1) // 2) + letter * (2 - room % 2) for letter in "abcdefghijklmnop"[:WRITERS]]
+
+
+def lines_of_pipe(program, folder, times, labels):
+    """Returns the lines of runs that write into one pipe. It is full before it is read, so that all wait for their turn."""
+    source, sink = os.pipe()
+    words = [program, "plans", os.path.join(TOP, TASK)]
+    runs = [subprocess.Popen([*words, *[label] * times], cwd=folder, stdout=sink) for label in labels]
+    os.close(sink)
+    time.sleep(FILLING)
+    with open(source, "rb") as pipe:
+        lines = pipe.read().decode().splitlines(keepends=True)
+    for run in runs:
+        run.wait(SECONDS)
+    return lines
+
+
+def shared_faults(program, times, length):
+    """Returns what is wrong with the lines of runs that write into one pipe, of which the longest has this length."""
+    labels = labels_of(times, length)
+    expected = [line for it in labels for line in [f"{it}: {VALID}"] * times + [last_line(times, it)]]
+    with tempfile.TemporaryDirectory() as folder:
+        for label in labels:
+            shutil.copy(os.path.join(TOP, PLAN), os.path.join(folder, label))
+        found = lines_of_pipe(program, folder, times, labels)
+    known = set(expected)
+    others = [line for line in found if line not in known]
+    shown = [line[-99:] for line in others[:1]]
+    return [] if sorted(found) == sorted(expected) else [f"of {len(found)} lines {len(others)} are mixed, such as {shown}"]
+
+
 def main():
     if len(sys.argv) != 2:
         sys.exit(__doc__)
@@ -116,7 +166,8 @@ def main():
         command = shlex.split(os.environ.get("CC") or "cc")
         subprocess.run([*command, "-O1", "-shared", "-fPIC", "-o", library, os.path.join(CASES, "opened.c")], check=True)
         wrong = list(pool.map(lambda case: faults(program, library, case), cases))
-    report.end(cases, wrong)
+    shared = [{"name": f"{WRITERS} runs of plans into one pipe, lines of up to {length} bytes"} for _, length in SHARED]
+    report.end(cases + shared, wrong + [shared_faults(program, *it) for it in SHARED])
 
 
 main()
