@@ -2,7 +2,7 @@
 """Runs every check of the repository: the gate of the toolchain, then the cases over what it built.
 
 `rt ci` proves and builds everything and tries each edit that must fail. What an earlier run on this machine proved of the same files is
-kept. Then docs/READING.md is held against the definitions, docs/PROMISES.md against contracts and edits, pages and completions against the
+kept. An edit that it can't try shows nothing of a promise: `rt ci` passes it, and here it is a failure. Then docs/READING.md is held against the definitions, docs/PROMISES.md against contracts and edits, pages and completions against the
 program, the commands that documents show are run, those for clusters with GNU parallel and Slurm too, each allocation is refused in turn,
 the calls of the crates are made, the program is run, with closed streams too, the library is built and called, its answers are read as
 values, it is used from Python and by way of CMake, pkg-config, cargo and pip, a release and a package of Debian are packed and tried,
@@ -10,7 +10,6 @@ reports are opened in browsers, and release and package are made for 64-bit ARM,
 an emulator. The last line is 'N passed, M failed' of all together, and the exit status is 0 exactly if M is 0. A command that doesn't end
 as its own last line says counts as one failure. gate.log keeps the last line for releases, with the commit and the toolchain.
 """
-import functools
 import glob
 import os
 import re
@@ -54,11 +53,12 @@ CASES = [
     ],
 ]
 RECORD = "gate.log"
+# a line of `rt ci` about an edit that the prover didn't refuse. `rt ci` counts each as a failure but for a bad edit
+WRONG_EDIT = re.compile(r"rt: \S.*?: (BAD EDIT|NOT TRIED|NOT REFUSED): ")
 
 
-def counts(command, lines=None):
-    """Runs a command, shows what it prints, or adds it to the lines, and gives how many checks of it passed and failed."""
-    show = functools.partial(print, flush=True) if lines is None else lines.append
+def counts(command, show):
+    """Runs a command, shows each line that it prints, and gives how many checks of it passed and failed."""
     last, began = "", time.monotonic()
     with subprocess.Popen(command, stdout=subprocess.PIPE, encoding="utf-8", errors="replace") as process:
         for line in process.stdout:
@@ -71,12 +71,25 @@ def counts(command, lines=None):
     return passed, failed if agrees else failed + 1
 
 
+def counts_of_proofs(words=("rt", "ci")):
+    """Runs `rt ci`. Gives its counts, where a bad edit is a failure too, and the lines of all edits that weren't refused."""
+    lines = []
+
+    def show(line):
+        print(line, flush=True)
+        lines.append(line)
+
+    passed, failed = counts(words, show)
+    wrong = [found for found in map(WRONG_EDIT.match, lines) if found]
+    return passed, failed + sum(found[1] == "BAD EDIT" for found in wrong), [found.string for found in wrong]
+
+
 def counts_of(commands):
     """Runs the cases of a list in order, shows what each prints once it has ended, and gives the counts of each."""
     found = []
     for command in commands:
         lines = []
-        found.append(counts([sys.executable, *command], lines))
+        found.append(counts([sys.executable, *command], lines.append))
         print("\n".join(lines), flush=True)
     return found
 
@@ -103,7 +116,8 @@ def main():
     # what an earlier run left of the library has a link, and `rt ci` takes none
     for folder in glob.glob("library/out*"):
         shutil.rmtree(folder)
-    parts = [counts(["rt", "ci"])]
+    *proofs, wrong_edits = counts_of_proofs()
+    parts = [proofs]
     if os.path.isfile("crates/sas/out/sas"):
         shutil.copy("crates/sas/out/sas", "sas")
     # a release is linked from the object, and of a program that an earlier run proved `rt ci` leaves none
@@ -119,7 +133,7 @@ def main():
     if commit() == began_at:
         with open(RECORD, "w", encoding="utf-8") as file:
             file.write(f"{began_at}\n{printed('rt', 'version')}\n{last}\n")
-    print(last)
+    print("\n".join([*wrong_edits, last]))
     sys.exit(1 if failed else 0)
 
 
