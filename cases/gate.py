@@ -2,8 +2,10 @@
 """Runs every check of the repository: the gate of the toolchain, then the cases over what it built.
 
 `rt ci` proves and builds everything and tries each edit that must fail. What an earlier run on this machine proved of the same files is
-kept. An edit that it can't try shows nothing of a promise: `rt ci` passes it, and here it is a failure. Then docs/READING.md is held against the definitions, docs/PROMISES.md against contracts and edits, pages and completions against the
-program, the commands that documents show are run, those for clusters with GNU parallel and Slurm too, each allocation is refused in turn,
+kept. An edit that doesn't apply or compile shows nothing: `rt ci` passes it, and here it is a failure. The lines of all edits that weren't
+refused stand once more at the end; cases/edits.py shows that they are noticed. Then docs/READING.md is held against the definitions,
+docs/PROMISES.md against contracts and edits, pages and completions against the program, the commands that documents show are run, those
+for clusters with GNU parallel and Slurm too, each allocation is refused in turn,
 the calls of the crates are made, the program is run, with closed streams too, the library is built and called, its answers are read as
 values, it is used from Python and by way of CMake, pkg-config, cargo and pip, a release and a package of Debian are packed and tried,
 reports are opened in browsers, and release and package are made for 64-bit ARM, for which two crates are proved once more, and run under
@@ -20,7 +22,7 @@ import time
 from concurrent.futures import ThreadPoolExecutor
 
 TOP = os.path.dirname(os.path.dirname(os.path.abspath(__file__)))
-sys.path.insert(0, TOP)
+sys.path.insert(1, TOP)
 import build as proving  # the file at the top
 
 PROGRAMS = [f"crates/{name}/out/{name}" for name in ("test_core", "test_files", "test_verdicts", "test_requests")]
@@ -42,6 +44,7 @@ CASES = [
         ["cases/debian.py", "sas"],
     ],
     [
+        ["cases/edits.py"],
         ["cases/reading.py"],
         ["cases/promises.py"],
         ["cases/pages.py", "sas"],
