@@ -3,6 +3,7 @@
 
     python3 build.py CRATE [PROCESSORS [PLATFORM]]
     python3 build.py CRATE --check [FLAG ..]
+    python3 build.py CRATE --edit EDIT [FLAG ..]
 
 CRATE is a program, as sas, or a static library, as sas_c. PROCESSORS is how many to use; all, if left out. A check takes one to four GB.
 PLATFORM is x86_64-linux, if left out, or aarch64-linux. For another platform only CRATE is proved again, and nothing is linked: the object
@@ -16,6 +17,8 @@ the top load for minutes. A crate whose files and crates below are those of the 
 
 --check proves any crate over what the last run left of those below, and keeps its work in the crate's out/incremental, so that the next
 check is short. Flags are those of `rattle check`, such as `--only FUNCTION`, `--allow-holes` or `--jobs 1`.
+
+--edit tries an edit that must fail, as `must-fail/X.edit`, on a copy, in the same way. It says what refuses it (edits.py).
 """
 import concurrent.futures
 import functools
@@ -154,22 +157,22 @@ def is_proved(crate):
         return file.read() == sum_of(crate)
 
 
-def run(crate, verb, folders, *more):
-    """Has the prover check or build a crate over the libraries in these folders, and returns how it ended, with what it printed."""
+def run(crate, verb, folders, *more, copy=None):
+    """Has the prover check or build a crate, or its copy, over the libraries in these folders. Returns how it ended, with what it printed."""
     root = "main" if is_program(crate) else "lib"
     words = [f"{kit()}/bin/rattle", verb, "--crate-name", crate, f"src/{root}.rt", "--links", f"{crate}="]
     words += ["--antt-project", f"{kit()}/rattle/logic/antt-project.json", "--logic-built", f"{kit()}/logic_built"]
     folders = [*folders, f"{kit()}/rlibs"]
     for it in dict.fromkeys(["std", *USED[crate]]):
         words += ["--extern", f"{it}=" + next(f"{at}/{it}.rlib" for at in folders if os.path.isdir(f"{at}/{it}.rlib"))]
-    return ran([*words, *(word for at in folders for word in ("-L", f"dependency={at}")), *more], crate)
+    return ran([*words, *(word for at in folders for word in ("-L", f"dependency={at}")), *more], crate, copy)
 
 
-def ran(command, crate):
-    """Runs a command in a crate's folder, and returns how it ended, with what it printed."""
+def ran(command, crate, copy=None):
+    """Runs a command in a crate's folder, or in a copy of it, and returns how it ended, with what it printed."""
     os.makedirs(f"{CRATES}/{crate}/out", exist_ok=True)
     streams = {"stdout": subprocess.PIPE, "stderr": subprocess.STDOUT, "encoding": "utf-8", "errors": "replace"}
-    return subprocess.run(command, check=False, cwd=f"{CRATES}/{crate}", stdin=subprocess.DEVNULL, **streams)
+    return subprocess.run(command, check=False, cwd=copy or f"{CRATES}/{crate}", stdin=subprocess.DEVNULL, **streams)
 
 
 def prove(crate, jobs):
@@ -280,6 +283,11 @@ def main():
         ended = run(sys.argv[1], "check", [LIBRARIES], "--incremental", "out/incremental", *sys.argv[3:])
         print(ended.stdout, end="")
         sys.exit(ended.returncode)
+    if sys.argv[2:3] == ["--edit"]:
+        # it takes this file as a module
+        import edits
+
+        sys.exit(edits.try_edit(sys.argv[1], *sys.argv[3:]))
     kit()
     crate, processors = sys.argv[1], int(sys.argv[2]) if sys.argv[2:] else os.cpu_count()
     platform = known(sys.argv[3]) if sys.argv[3:] else NATIVE

@@ -4,8 +4,8 @@
     python3 cases/arm.py SAS
 
 SAS is the program for this machine. The one for ARM has to give its answers: to one of fifty of the cases of run.py, and to all that are
-large or about devices, but for those that limit memory or the stack, which would limit the emulator. `run.py SAS EMULATOR` runs all others,
-too. The library has to give them to the example in C, and keeps what is its own where memory is refused.
+large or about devices, but for those that limit memory or the stack, which would limit the emulator. `run.py SAS --under
+EMULATOR` runs all others, too. The library has to give them to the example in C, and keeps what is its own where memory is refused.
 
 aarch64-linux-gnu-gcc and its C library build, and qemu-aarch64-static runs. Where the first isn't there, nothing is tried, and where the
 second isn't, nothing is run; a line that begins with `skipped` says so. Two crates are proved again, in two to three minutes each, and what
@@ -119,8 +119,8 @@ def driver_tests(released, place):
 def emulated_tests(released, sas, place):
     """Yields all that is run under the emulator."""
     run.SECONDS = SECONDS
-    cases, wrong = run.judged(os.path.join(released, "sas"), [EMULATOR], ONE_OF)
-    yield from ((f"{EMULATOR}: {it['name']}", found) for it, found in zip(cases, wrong, strict=True))
+    judged = run.judged(os.path.join(released, "sas"), [EMULATOR], one_of=ONE_OF)
+    yield from ((f"{EMULATOR}: {case['name']}", found) for case, found in judged)
     yield from example_tests(released, sas, place)
     yield from driver_tests(released, place)
 

@@ -1,10 +1,10 @@
 #!/usr/bin/env python3
 """Runs calls of the libraries over the programs that make them.
 
-    python3 cases/calls.py PROGRAM ..
+    python3 cases/calls.py PROGRAM .. [WORD ..]
 
 The programs are those that the crates `test_core`, `test_files`, `test_verdicts` and `test_requests` are built to, and have
-their names. Only the calls of the programs given are made.
+their names. Only the calls of the programs given are made, and of these, where words are given, only those whose names contain one.
 
 calls.json: for each program what its calls print, in groups of the same call.
 
@@ -414,11 +414,14 @@ def faults(programs, batch):
 def main():
     if len(sys.argv) < 2:
         sys.exit(__doc__)
-    programs = {os.path.basename(path): os.path.abspath(path) for path in sys.argv[1:]}
-    calls = sorted((call for call in cases() if call["program"] in programs), key=lambda call: call["program"])
+    paths = list(filter(os.path.isfile, sys.argv[1:]))
+    programs = {os.path.basename(path): os.path.abspath(path) for path in paths}
+    words = [word for word in sys.argv[1:] if word not in paths]
+    calls = report.chosen((call for call in cases() if call["program"] in programs), words)
+    calls = sorted(calls, key=lambda call: call["program"])
     with ThreadPoolExecutor(os.cpu_count()) as pool:
-        wrong = list(itertools.chain.from_iterable(pool.map(lambda batch: faults(programs, batch), batches(calls))))
-    report.end(calls, wrong)
+        wrong = pool.map(lambda batch: faults(programs, batch), batches(calls))
+        report.end(calls, itertools.chain.from_iterable(wrong))
 
 
 if __name__ == "__main__":

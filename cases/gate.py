@@ -10,7 +10,6 @@ The first lines of each script say what it tries. For 64-bit ARM two crates are 
 The last line is 'N passed, M failed' of all together, and the exit status is 0 exactly if M is 0. A command that doesn't end as its own
 last line says counts as one failure. gate.log keeps the last line for releases, with the commit and the toolchain.
 """
-import functools
 import glob
 import os
 import re
@@ -21,7 +20,7 @@ import time
 from concurrent.futures import ThreadPoolExecutor
 
 TOP = os.path.dirname(os.path.dirname(os.path.abspath(__file__)))
-sys.path.insert(0, TOP)
+sys.path.insert(1, TOP)
 import build as proving  # the file at the top
 
 PROGRAMS = [f"crates/{name}/out/{name}" for name in ("test_core", "test_files", "test_verdicts", "test_requests")]
@@ -43,6 +42,7 @@ CASES = [
         ["cases/debian.py", "sas"],
     ],
     [
+        ["cases/edits.py"],
         ["cases/reading.py"],
         ["cases/promises.py"],
         ["cases/pages.py", "sas"],
@@ -56,11 +56,12 @@ CASES = [
     ],
 ]
 RECORD = "gate.log"
+# a line of `rt ci` about an edit that the prover didn't refuse. `rt ci` counts each as a failure but for a bad edit
+WRONG_EDIT = re.compile(r"rt: \S.*?: (BAD EDIT|NOT TRIED|NOT REFUSED): ")
 
 
-def counts(command, lines=None):
-    """Runs a command, shows what it prints, or adds it to the lines, and gives how many checks of it passed and failed."""
-    show = functools.partial(print, flush=True) if lines is None else lines.append
+def counts(command, show):
+    """Runs a command, shows each line that it prints, and gives how many checks of it passed and failed."""
     last, began = "", time.monotonic()
     with subprocess.Popen(command, stdout=subprocess.PIPE, encoding="utf-8", errors="replace") as process:
         for line in process.stdout:
@@ -73,12 +74,25 @@ def counts(command, lines=None):
     return passed, failed if agrees else failed + 1
 
 
+def counts_of_proofs(words=("rt", "ci")):
+    """Runs `rt ci`. Gives its counts, where a bad edit is a failure too, and the lines of all edits that weren't refused."""
+    lines = []
+
+    def show(line):
+        print(line, flush=True)
+        lines.append(line)
+
+    passed, failed = counts(words, show)
+    wrong = [found for found in map(WRONG_EDIT.match, lines) if found]
+    return passed, failed + sum(found[1] == "BAD EDIT" for found in wrong), [found.string for found in wrong]
+
+
 def counts_of(commands):
     """Runs the cases of a list in order, shows what each prints once it has ended, and gives the counts of each."""
     found = []
     for command in commands:
         lines = []
-        found.append(counts([sys.executable, *command], lines))
+        found.append(counts([sys.executable, *command], lines.append))
         print("\n".join(lines), flush=True)
     return found
 
@@ -105,7 +119,8 @@ def main():
     # what an earlier run left of the library has a link, and `rt ci` takes none
     for folder in glob.glob("library/out*"):
         shutil.rmtree(folder)
-    parts = [counts(["rt", "ci"])]
+    *proofs, wrong_edits = counts_of_proofs()
+    parts = [proofs]
     if os.path.isfile("crates/sas/out/sas"):
         shutil.copy("crates/sas/out/sas", "sas")
     # a release is linked from the object, and of a program that an earlier run proved `rt ci` leaves none
@@ -123,7 +138,7 @@ def main():
     if commit() == began_at:
         with open(RECORD, "w", encoding="utf-8") as file:
             file.write(f"{began_at}\n{printed('rt', 'version')}\n{last}\n")
-    print(last)
+    print("\n".join([*wrong_edits, last]))
     sys.exit(1 if failed else 0)
 
 

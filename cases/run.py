@@ -1,10 +1,11 @@
 #!/usr/bin/env python3
 """Runs the command-line cases over an executable.
 
-    python3 cases/run.py ./sas [EMULATOR]
+    python3 cases/run.py ./sas [WORD ..] [--under EMULATOR]
 
-EMULATOR is what runs the program where the machine can't, such as qemu-aarch64-static. A case that limits memory or the stack would limit
-the emulator, so it is left out there. All others take about an hour of processor time there.
+Where words are given, only the cases whose names contain one of them are run. EMULATOR is what runs the program where the machine can't,
+such as qemu-aarch64-static. A case that limits memory or the stack would limit the emulator, so it is left out there. All others take
+about an hour of processor time there.
 
 tasks.json: task files, and what is printed of each, as it stands and with CR LF at the end of each line. `print` prints
 it as it stands, and does so with CR LF at the end of one line alone. Cut off after any byte it ends early, on its last
@@ -65,14 +66,17 @@ program.json: words and devices, by these names.
     status       the exit status
     error        standard error, exactly; null: some text about the words, no line of the program's own; left out: nothing
 
-texts.py defines what a text is. A case without `files` runs at the top of the repository. Each case that fails has a line,
-and the last line is 'N passed, M failed'. The exit status is 0 where none failed.
+texts.py defines what a text is. A case without `files` runs at the top of the repository. A case is run as soon as it is made, and each
+that fails has a line once those before it have ended. The last line is 'N passed, M failed'. The exit status is 0 where none failed.
 """
+import argparse
+import itertools
 import os
 import subprocess
 import sys
 import tempfile
 import threading
+from collections import deque
 from concurrent.futures import ThreadPoolExecutor
 
 import report
@@ -413,28 +417,53 @@ def faults(program, case, folder):
         return [f"no end within {SECONDS} seconds"]
 
 
-def cases_in(folder, one_of=1):
-    """Returns all cases, those that take longest first, or one of so many of those that are made by the thousand. Plan files are written
-    into the folder."""
+def made_cases(folder):
+    """Yields the cases that are made by the thousand. Plan files are written into the folder."""
     files = [*whole_cases(), *line_cases(), *plan_cases(folder), *group_cases()]
-    plans = [*verdict_cases(), *why_cases(), *trace_cases(), *plans_cases()]
-    reasons = [*reason_cases(), *layer_cases(), *refusal_cases()]
-    made = [*files, *map(with_why, files), *cut_cases(), *plans, *family_cases(), *reasons]
-    large = [*nets_cases(), *idle_cases(), *lengthy_cases(), *plenty_cases(), *crowded_cases(), *large_cases()]
-    return [*large, *made[::one_of], *table("program.json")]
+    yield from files
+    yield from map(with_why, files)
+    yield from cut_cases()
+    for made in (verdict_cases, why_cases, trace_cases, plans_cases, family_cases, reason_cases, layer_cases, refusal_cases):
+        yield from made()
 
 
-def judged(program, emulator=(), one_of=1):
-    """Runs the program on the cases, or under an emulator on one of so many of them. Returns them, and what is wrong with each."""
-    with tempfile.TemporaryDirectory() as plans, tempfile.TemporaryDirectory() as folder:
-        cases = [it for it in cases_in(plans, one_of) if not emulator or not any(name in it for name in UNEMULATED)]
-        with ThreadPoolExecutor(os.cpu_count()) as pool:
-            return cases, list(pool.map(lambda case: faults([*emulator, program], case, folder), cases))
+def cases_in(folder, one_of=1):
+    """Yields all cases, or one of so many of those that are made by the thousand. Those that take long to make come last: others run
+    meanwhile."""
+    yield from table("program.json")
+    yield from itertools.islice(made_cases(folder), 0, None, one_of)
+    for large in (large_cases, nets_cases, idle_cases, plenty_cases, crowded_cases, lengthy_cases):
+        yield from large()
 
 
-def main(sas, *emulator):
-    report.end(*judged(os.path.abspath(sas), emulator))
+def judged(program, emulator=(), words=(), one_of=1):
+    """Runs the program on the cases with one of these words, or under an emulator on one of so many of all. Yields each case in order,
+    with what is wrong with it."""
+    waiting = deque()
+    with tempfile.TemporaryDirectory() as plans, tempfile.TemporaryDirectory() as folder, ThreadPoolExecutor(os.cpu_count()) as pool:
+        for case in report.chosen(cases_in(plans, one_of), words):
+            if not emulator or not any(name in case for name in UNEMULATED):
+                waiting.append((case, pool.submit(faults, [*emulator, program], case, folder)))
+            while waiting and waiting[0][1].done():
+                done, found = waiting.popleft()
+                yield done, found.result()
+        for case, found in waiting:
+            yield case, found.result()
+
+
+def read_words():
+    words = argparse.ArgumentParser(description=__doc__, formatter_class=argparse.RawDescriptionHelpFormatter)
+    words.add_argument("sas")
+    words.add_argument("words", nargs="*", metavar="WORD")
+    words.add_argument("--under", metavar="EMULATOR")
+    return words.parse_args()
+
+
+def main():
+    given = read_words()
+    cases, wrong = itertools.tee(judged(os.path.abspath(given.sas), [given.under] if given.under else [], given.words))
+    report.end((case for case, _ in cases), (found for _, found in wrong))
 
 
 if __name__ == "__main__":
-    main(*sys.argv[1:])
+    main()
