@@ -21,8 +21,8 @@ import importlib
 import importlib.util
 from typing import Sequence
 
-from ._program import INVALID_ARGUMENTS, REQUESTS, run
-from ._streams import write_error
+from ._program import REQUESTS, run
+from ._streams import INVALID_ARGUMENTS, write_error
 
 
 def main(words: Sequence[str]) -> int:
