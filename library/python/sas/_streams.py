@@ -66,8 +66,9 @@ def end_without_answer(kind: Type[BaseException], fault: BaseException, trace: O
 
 
 def end_import(kind: Type[BaseException], fault: BaseException, trace: Optional[types.TracebackType]) -> None:
-    """Does so where this package can't be imported. Any other exception has the traceback that it always has."""
+    """Does so where `python -m` can't import this package. Any other exception has the traceback that it always has."""
     left = trace
-    while left and (left.tb_frame.f_globals.get("__name__"), left.tb_frame.f_code.co_name) != (__package__, "<module>"):
+    while left and str(left.tb_frame.f_globals.get("__name__")).startswith(("runpy", "importlib.", "_frozen_importlib")):
         left = left.tb_next
-    (end_without_answer if left else sys.__excepthook__)(kind, fault, trace)
+    is_own = left and left.tb_frame.f_globals.get("__name__") == __package__
+    (end_without_answer if is_own else sys.__excepthook__)(kind, fault, trace)

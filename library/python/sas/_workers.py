@@ -119,9 +119,9 @@ class Team(Generic[W, R]):
     def _results_of(self, number: int) -> Iterator[R]:
         """Yields the results of a work as they come."""
         while number in self._left:
+            yield from self._come.pop(number, ())
             for key, _ in self._busy.select():
                 self._collect(key.data)
-            yield from self._come.pop(number, ())
         yield from self._come.pop(number, ())
 
     def _processes(self) -> List[_Process]:
