@@ -317,25 +317,23 @@ def limit_tests(_, sas, folder):
         yield f"--max-bytes {word}", [] if tables(sas, *FUSES_FILES, f"--max-bytes={word}").returncode == 2 else ["it isn't refused"]
     for suffix, compress in COMPRESS.items():
         held = write(os.path.join(folder, f"gigabytes{suffix}"), compress(bytes(PART)) * (GIGABYTES * (1 << 30) // PART))
-        ran = limited(sas, "-m", "sas", "table", FUSES_FILES[0], held, "--max-bytes", str(PART))
+        ran = limited(sas, 150, "-m", "sas", "table", FUSES_FILES[0], held, "--max-bytes", str(PART))
         well = ran.stdout.endswith(b"plan: input too long\n") and os.path.getsize(held) < LARGEST_PACKED
         yield f"gigabytes in a file, {suffix}", [] if well else [f"{ran}, {os.path.getsize(held)}"]
 
 
 # how many gigabytes a packed file holds, how many bytes of these are packed together, and how long it may be
 GIGABYTES, PART, LARGEST_PACKED = 2, 1 << 24, 3_000_000
-# how many bytes of memory a process may have where what is refused is longer
-MOST_MEMORY = 150_000_000
 
 
-def limited(sas, *words):
-    """Runs Python with little memory."""
-    return ended("sh", "-c", f'ulimit -v {MOST_MEMORY // 1024}; exec "$@"', "", sys.executable, *words, env=environment(sas))
+def limited(sas, megabytes, *words):
+    """Runs Python with so much memory."""
+    return ended("sh", "-c", f'ulimit -v {megabytes}000; exec "$@"', "", sys.executable, *words, env=environment(sas))
 
 
 def answer_tests(_, sas, folder):
     """Yields the calls that take a limit of the answer's size. They could show an answer that is too long and isn't refused, one of just
-    the length that is, a wrong size, and memory that is taken for the text that is refused."""
+    the length that is, a wrong size, and a copy of the text that is refused. The library holds it once, in up to 360 MB."""
     task, plan = read(f"{FUSES}.sas"), b"(take f1)\n(take f2)\n; cost = 2 (unit cost)\n"
     held = sas.Task(task)
     calls = {it: partial(getattr(sas, it), task) for it in ("check_why", "mutex", "mutex_why", "show", "print_task")}
@@ -353,8 +351,8 @@ def answer_tests(_, sas, folder):
         yield f"max_answer_bytes=-1, {name}", [] if type(fault) is ValueError else [f"{fault!r}"]
     paths = [write(os.path.join(folder, name), file) for name, file in zip(("t.sas", "p"), turning_files(1000, 240, 700, 350))]
     for request in ("trace", "plan_why"):
-        ran, size = limited(sas, "-c", LIMITED_CALL, request, *paths), len(getattr(sas, request)(*map(read, paths)).text)
-        well = ran.stdout == b"%d %d\n" % (size, size) and size > MOST_MEMORY
+        ran, size = limited(sas, 420, "-c", LIMITED_CALL, request, *paths), len(getattr(sas, request)(*map(read, paths)).text)
+        well = ran.stdout == b"%d %d\n" % (size, size) and size > 170_000_000
         yield f"a large answer of a small task, {request}", [] if well else [f"{ran}, {size}"]
 
 

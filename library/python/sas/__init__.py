@@ -19,8 +19,8 @@ bytes are copied. `plan_files` and `Task.from_file` read files, also those of gz
 releases the interpreter's lock, and a Task makes one call after another.
 
 Each call raises MemoryError if it is out of memory, and InputTooLong if an input has more than 4,294,967,296 bytes. The reasons or the
-trace of a small task may have gigabytes. Calls whose answer may have more than one line take `max_answer_bytes`: if the text of the answer
-has more bytes, they raise AnswerTooLong, and take no memory for it.
+trace of a small task may have gigabytes. So calls whose answer may have more than one line take `max_answer_bytes`: if the text of the
+answer has more bytes, they raise AnswerTooLong. Then it isn't copied from the library, which holds it until the call returns.
 
 The library is libsas.so beside this package or in a folder above, else libsas.so.1 where the system's loader finds it. The environment
 variable LIBSAS can name another file.
