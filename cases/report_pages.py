@@ -238,7 +238,8 @@ def closed_streams(reports):
         for closed in itertools.chain.from_iterable(itertools.combinations("012", count) for count in range(4)):
             script = "".join(f"exec {it}>&-; " for it in closed) + 'exec "$0" "$@"'
             with open(task, "rb") as given:
-                ran = subprocess.run(["sh", "-c", script, *reports.command, *words], stdin=given, capture_output=True, check=False, timeout=60)
+                command = ["sh", "-c", script, *reports.command, *words]
+                ran = subprocess.run(command, stdin=given, capture_output=True, check=False, timeout=60)
             expected = 3 if set(needed) & set(closed) else status
             wrong += differs(f"{words}, closed: {closed}: status", ran.returncode, expected)
             is_line = ran.stderr.startswith(b"sas-report: ") and ran.stderr.count(b"\n") == 1
@@ -280,7 +281,8 @@ def limits(reports):
     endless = f'yes | "$@" - {paths[1]} -o {page} --max-bytes {1 << 24}', "sas-report: input too long: -\n"
     large = reports.files(*turning_files(4000, 10, 4000, 1))
     traced = sum(map(len, subprocess.Popen([reports.sas, "trace", *large], stdout=subprocess.PIPE).stdout))
-    too_large = f'"$@" {" ".join(large)} -o {page}', f"sas-report: the plan is too large to show: p.1: sas prints {traced} bytes about it\n"
+    said = f"sas-report: the plan is too large to show: p.1: sas prints {traced} bytes about it\n"
+    too_large = f'"$@" {" ".join(large)} -o {page}', said
     for script, said in (endless, too_large):
         limited = f"ulimit -v {MOST_MEMORY // 1024}; {script} --sas {reports.sas}"
         ran = subprocess.run(["sh", "-c", limited, "", *reports.command], capture_output=True, check=False, timeout=120)
@@ -734,6 +736,7 @@ def large_page(browser, reports):
     return wrong + ([] if 49900 < middle < 50100 else [f"the middle is step {middle}"])
 
 
+ALONE = (statuses, read_once, closed_streams, signals, limits, found_programs, with_library, large_report)
 IN_BROWSER = (states, hostile, keys, fields, pointer, several, edges, paper, large_page)
 
 
@@ -753,7 +756,7 @@ def main():
 
     with tempfile.TemporaryDirectory() as folder:
         reports = Reports(sas, command or [sys.executable, os.path.join(TOP, "report", "sas-report")], folder)
-        for test in (statuses, read_once, closed_streams, signals, limits, found_programs, with_library, large_report):
+        for test in ALONE:
             tried(test, reports)
         chosen, missing = answers(reports)
         chosen = [(task, plan, lines, *reports.page(task, plan)) for task, plan, lines in chosen]

@@ -16,7 +16,8 @@ from .task import text
 ABOUT = "Shows plans in a browser: writes one HTML file with what sas prints about them, and the plans as a picture."
 STATUSES = ("Exit status: 0 if every plan is valid; 1 if one isn't, or a file is refused; 2 for invalid arguments; "
             "3 if a file or a device fails, or sas can't be run. At 3 the report isn't written, or not in full.")
-LIMIT, SHOWN, PIECE = 4294967296, 1 << 28, 1 << 20  # bytes: of the longest input, of the longest answer that is shown, of what is read at once
+# bytes of the longest input, of the longest answer that a page is made of, and of what is read at once
+LIMIT, SHOWN, PIECE = 4294967296, 1 << 28, 1 << 20
 
 
 class NoAnswer(Exception):
@@ -28,8 +29,8 @@ class TooLarge(Exception):
 
 
 class Program:
-    """`sas`, run over copies of the files, so that all its answers are of the same bytes. A copy has no name, so none is left behind, however
-    this ends."""
+    """`sas`, run over copies of the files, so that all its answers are of the same bytes. A copy has no name, so none is left behind,
+    however this ends."""
 
     def __init__(self, path, task):
         self.path, self.task = path, copy(task)

@@ -121,7 +121,8 @@ def _arguments(words: Sequence[str]) -> argparse.Namespace:
     parser.add_argument("--why", action="store_true", help="add the reasons for a no")
     parser.add_argument("--json", action="store_true", help="print JSON lines, and not CSV")
     parser.add_argument("--jobs", type=_count, default=1, metavar="N", help="how many processes judge plans; each holds a task in memory")
-    parser.add_argument("--max-bytes", type=_size, default=LIMIT, metavar="N", help=f"how many bytes a file may have, decompressed ({LIMIT})")
+    most = f"how many bytes a file may have, decompressed ({LIMIT})"
+    parser.add_argument("--max-bytes", type=_size, default=LIMIT, metavar="N", help=most)
     parser.add_argument("files", nargs="+", metavar="TASK PLAN.. | FOLDER", help="a task and its plans, or folders")
     return parser.parse_args(words)
 
