@@ -29,6 +29,7 @@ import signal
 import subprocess
 import sys
 import tempfile
+import threading
 import time
 import types
 from functools import partial
@@ -661,7 +662,10 @@ def begun(sas, plans, jobs):
     words = [sys.executable, "-m", "sas", "table", "--jobs", jobs, FUSES_FILES[0], *plans]
     pipe = subprocess.PIPE
     process = subprocess.Popen(words, stdout=pipe, stderr=pipe, env=environment(sas), start_new_session=True)
+    late = threading.Timer(SECONDS, process.kill)
+    late.start()
     rows = [process.stdout.readline() for _ in range(WAITS + 1)]
+    late.cancel()
     assert rows[0].decode() == f"{COLUMNS}\n" and rows[-1].decode() == f"{FUSES_FILES[0]},{plans[WAITS - 1]},valid,,4,4,\n"
     deadline = time.monotonic() + SECONDS
     while len(children_of(process)) > 1 and time.monotonic() < deadline:
