@@ -171,6 +171,16 @@ def wide_cases():
                 yield over_input(f"{name}, {ends}", "steps", plan, plan_text(names, cost))
 
 
+def turning_files(width, length, steps, blocked):
+    """A small task, and a plan whose answers are large. So many variables have names of values of this length. So many steps turn them all,
+    each with a line in a trace. Of the last step's name there are so many operators, each with reasons for all variables."""
+    on = [(var, 1) for var in range(width)]
+    turns = [(name, [], [([], var, -1, value) for var in range(width)], 1) for name, value in (("on", 1), ("off", 0))]
+    names = [[word.ljust(length, "x") for word in ("no", "yes")]] * width
+    task = task_with([2] * width, names=names, operators=[*turns, *[("go", on, [], 1)] * blocked])
+    return text_of(task).encode(), plan_text([*["on", "off"] * (steps // 2), "go"], 0).encode()
+
+
 def shifts(length):
     """Yields by how many bytes a text of this length, which is shorter than a read, is shifted to be cut elsewhere each time."""
     for part in range(1, CUTS + 1):

@@ -6,9 +6,9 @@
 Each request and each flag that `sas --help` names stands in README.md, in the manual page and in each completion, and none stands there
 that it doesn't name. Each line that the program may print on standard error stands in docs/GUIDE.md and in the manual page. The version
 is one: that of the program, of the first entry of CHANGELOG.md, of the packages of the library, of CITATION.cff and of the manual page.
-Links of documents lead to files. The function that docs/ARCHITECTURE.md shows is that of its crate. The completions are tried in bash and
-in fish and read by zsh, and the manual page by mandoc, where these are there; what isn't there is named in a line that begins with
-`without`.
+Links of documents lead to files. The function that docs/ARCHITECTURE.md shows is that of its crate. The manual page of sas-report has the
+flags of its help. The completions are tried in bash and in fish and read by zsh, and the manual pages by mandoc, where these are there;
+what isn't there is named in a line that begins with `without`.
 
 No proof reads these files. A request that no page names, or a page of another version, would be found here alone.
 """
@@ -22,7 +22,7 @@ import report
 from shown import documents
 from texts import TOP, text_of
 
-PAGE, README, GUIDE = "man/sas.1", "README.md", "docs/GUIDE.md"
+PAGE, REPORT_PAGE, README, GUIDE = "man/sas.1", "man/sas-report.1", "README.md", "docs/GUIDE.md"
 CALLED, CALLER = "docs/ARCHITECTURE.md", "crates/test_verdicts/src/caller.rt"
 COMPLETIONS = {"bash": "completions/sas.bash", "zsh": "completions/_sas", "fish": "completions/sas.fish"}
 # what is typed after requests and flags, and what bash and fish offer for it
@@ -97,6 +97,21 @@ def page_cases(requests):
         yield f"{README}, {name or 'flags'}", [it for it in own if it not in readme] + ([] if f"sas {name}" in readme else [name])
 
 
+def report_cases():
+    """Yields the flags of sas-report: those of its help stand in its manual page."""
+    flags = set(re.findall(r"--[\w-]+", printed(sys.executable, os.path.join(TOP, "report", "sas-report"), "--help"))) - {"--help"}
+    named = {f"--{it}" for it in re.findall(r"^\.It Fl Fl ([\w-]+)", text_of(os.path.join(TOP, REPORT_PAGE)), re.MULTILINE)}
+    yield f"{REPORT_PAGE}, flags", sorted(flags ^ named) if flags else ["no help"]
+
+
+def mandoc_cases():
+    """Yields what mandoc says of the manual pages. It knows only those that are installed."""
+    for page in (PAGE, REPORT_PAGE) if is_there("mandoc") else ():
+        lines = printed("mandoc", "-Tlint", page).splitlines()
+        said = [(line, re.search(r"referenced manual not found: Xr (\S+) (\d)", line)) for line in lines]
+        yield f"mandoc {page}", [line for line, it in said if not it or not os.path.exists(f"{TOP}/man/{it[1]}.{it[2]}")]
+
+
 def diagnostic_cases():
     """Yields the lines on standard error, as the code has them."""
     code = text_of(f"{TOP}/crates/sas_tool/src/program.rt") + text_of(f"{TOP}/crates/sas_tool/src/plan_files.rt")
@@ -166,9 +181,8 @@ def code_cases():
 def main(sas):
     sas = os.path.abspath(sas)
     requests = requests_of(sas)
-    cases = [*page_cases(requests), *diagnostic_cases(), *completion_cases(requests), *version_cases(sas), *link_cases(), *code_cases()]
-    if is_there("mandoc"):
-        cases.append((f"mandoc {PAGE}", printed("mandoc", "-Tlint", PAGE).splitlines()))
+    cases = [*page_cases(requests), *report_cases(), *diagnostic_cases(), *completion_cases(requests), *version_cases(sas), *link_cases()]
+    cases += [*code_cases(), *mandoc_cases()]
     report.end([{"name": name} for name, _ in cases], [found for _, found in cases])
 
 

@@ -29,11 +29,14 @@ import signal
 import subprocess
 import sys
 import tempfile
+import threading
 import time
 import types
+from functools import partial
 
 import report
 import run
+from large import turning_files
 from library import FUSES, INPUT_TOO_LONG, LAMPS, OUT_OF_MEMORY, differs, ended, is_there, package_in, read, stub_library
 from shown import shown
 from texts import TOP, as_bytes, table
@@ -294,6 +297,78 @@ def file_tests(_, sas, folder):
         yield "many plans", [] if [it.text for it in answers] == [VALID, b"plan refused: line 1: end\n", VALID, VALID] else [f"{answers}"]
 
 
+def limit_tests(_, sas, folder):
+    """Yields files with limits of their size. They could show one that is too long and isn't refused, one of just the length that is, and
+    memory that is taken for all that a small file holds when it is decompressed."""
+    for task, plan in compressed_files(folder):
+        name, size = os.path.basename(task), len(read(FUSES_FILES[0]))
+        yield f"max_bytes, {name}", differs(sas.plan_files(task, plan, max_bytes=size), (True, VALID))
+        sas.Task.from_file(task, max_bytes=size).close()
+        for call in (lambda: sas.Task.from_file(task, max_bytes=size - 1), lambda: sas.plan_files(task, plan, max_bytes=0)):
+            fault = fault_of(call)
+            yield f"max_bytes, {name}, longer", [] if f"{fault!r}" == "InputTooLong('sas: input too long')" else [f"{fault!r}"]
+        ran = tables(sas, FUSES_FILES[0], task, plan, "--max-bytes", str(size - 1))
+        rows = ran.stdout.decode().splitlines()
+        yield f"--max-bytes, {name}", [] if rows[1].endswith("task: input too long") and ran.returncode == 3 else [f"{ran}"]
+    ran = tables(sas, FUSES_FILES[0], task, FUSES_FILES[1], "--max-bytes", str(size))
+    rows = [line.split(",", 2)[2] for line in ran.stdout.decode().splitlines()[1:]]
+    expected = ["refused,plan,,,line 1: keyword", "valid,,4,4,"]
+    yield "--max-bytes, just the length", [] if rows == expected else [f"{rows}"]
+    for word in ("", "x", "-1", "1e9"):
+        yield f"--max-bytes {word}", [] if tables(sas, *FUSES_FILES, f"--max-bytes={word}").returncode == 2 else ["it isn't refused"]
+    for suffix, compress in COMPRESS.items():
+        held = write(os.path.join(folder, f"gigabytes{suffix}"), compress(bytes(PART)) * (GIGABYTES * (1 << 30) // PART))
+        ran = limited(sas, 150, "-m", "sas", "table", FUSES_FILES[0], held, "--max-bytes", str(PART))
+        well = ran.stdout.endswith(b"plan: input too long\n") and os.path.getsize(held) < LARGEST_PACKED
+        yield f"gigabytes in a file, {suffix}", [] if well else [f"{ran}, {os.path.getsize(held)}"]
+
+
+# how many gigabytes a packed file holds, how many bytes of these are packed together, and how long it may be
+GIGABYTES, PART, LARGEST_PACKED = 2, 1 << 24, 3_000_000
+
+
+def limited(sas, megabytes, *words):
+    """Runs Python with so much memory."""
+    return ended("sh", "-c", f'ulimit -v {megabytes}000; exec "$@"', "", sys.executable, *words, env=environment(sas))
+
+
+def answer_tests(_, sas, folder):
+    """Yields the calls that take a limit of the answer's size. They could show an answer that is too long and isn't refused, one of just
+    the length that is, a wrong size, and a copy of the text that is refused. The library holds it once, in up to 360 MB."""
+    task, plan = read(f"{FUSES}.sas"), b"(take f1)\n(take f2)\n; cost = 2 (unit cost)\n"
+    held = sas.Task(task)
+    calls = {it: partial(getattr(sas, it), task) for it in ("check_why", "mutex", "mutex_why", "show", "print_task")}
+    calls.update({it: partial(getattr(sas, it), task, plan) for it in ("plan_why", "trace")})
+    calls.update({f"task.{it}": partial(getattr(held, it), plan) for it in ("plan_why", "trace")})
+    for name, call in {**calls, "steps": partial(sas.steps, plan)}.items():
+        answer, size = call(), len(call().text)
+        for most in (size, size + 1, None):
+            yield f"max_answer_bytes={most}, {name}", differs(call(max_answer_bytes=most), answer)
+        for most in (size - 1, 1, 0):
+            fault = fault_of(partial(call, max_answer_bytes=most))
+            well = repr(fault) == f"AnswerTooLong({size})" and str(fault) == f"sas: answer too long: {size} bytes" and fault.size == size
+            yield f"max_answer_bytes={most}, {name}", [] if well else [f"{fault!r}"]
+        fault = fault_of(partial(call, max_answer_bytes=-1))
+        yield f"max_answer_bytes=-1, {name}", [] if type(fault) is ValueError else [f"{fault!r}"]
+    paths = [write(os.path.join(folder, name), file) for name, file in zip(("t.sas", "p"), turning_files(1000, 240, 700, 350))]
+    for request in ("trace", "plan_why"):
+        ran, size = limited(sas, 420, "-c", LIMITED_CALL, request, *paths), len(getattr(sas, request)(*map(read, paths)).text)
+        well = ran.stdout == b"%d %d\n" % (size, size) and size > 170_000_000
+        yield f"a large answer of a small task, {request}", [] if well else [f"{ran}, {size}"]
+
+
+# prints how long an answer is that is refused, of a call and of a task that is held
+LIMITED_CALL = """
+import sas, sys
+def size_of(call, *files):
+    try:
+        call(*files, max_answer_bytes=1000)
+    except sas.AnswerTooLong as fault:
+        return fault.size
+task, plan = (open(path, "rb").read() for path in sys.argv[2:])
+print(size_of(getattr(sas, sys.argv[1]), task, plan), size_of(getattr(sas.Task(task), sys.argv[1]), plan))
+"""
+
 def fault_of(call):
     """Returns the exception that a call ends with."""
     try:
@@ -400,6 +475,7 @@ def make_runs(folder):
         "j": {"output.sas": None, "sas_plan.1": plan, "sas_plan.2": plan},
         "k": {"output.sas": fuses, "sas_plan": None},
         "l": {"planner.log": b""},
+        "m": {"output.sas": fuses, "sas_plan\n": plan, "sas_plan\r": plan, "sas_plan\r\n, \"quoted\"": plan},
     }
     for place, files in runs.items():
         os.makedirs(os.path.join(folder, place))
@@ -421,6 +497,7 @@ def make_runs(folder):
         ("h/i/output.sas", "h/i/sas_plan", *valid),
         *(("j/output.sas", f"j/sas_plan.{number}", *no_file[:4], no_file[4].format("task")) for number in (1, 2)),
         ("k/output.sas", "k/sas_plan", *no_file[:4], no_file[4].format("plan")),
+        *(("m/output.sas", f"m/sas_plan{end}", *valid) for end in ("\n", "\r", "\r\n, \"quoted\"")),
     ]
 
 
@@ -430,11 +507,11 @@ def table_tests(_, sas, folder):
     place = os.path.join(folder, "runs")
     expected = make_runs(place)
     ran = tables(sas, "runs", cwd=folder)
-    rows = [tuple(row) for row in csv.reader(io.StringIO(ran.stdout.decode()))]
+    rows = [tuple(row) for row in csv.reader(io.StringIO(ran.stdout.decode(), newline=""))]
     got = [(*(it.replace("runs/", "") for it in row[:2]), *row[2:6], re.sub("(?<= damaged).*", "", row[6])) for row in rows[1:]]
     yield "a table of folders", [f"{one}, not {other}" for one, other in itertools.zip_longest(got, expected) if one != other]
     yield "the names of columns", differs((True, ",".join(rows[0]).encode()), (True, COLUMNS.encode()))
-    said = b"15 rows of 10 tasks: 3 valid, 1 invalid, 4 refused, 7 without an answer\n"
+    said = b"18 rows of 11 tasks: 6 valid, 1 invalid, 4 refused, 7 without an answer\n"
     yield "the summary", [] if (ran.returncode, ran.stderr) == (3, said) else [f"{ran.returncode}, {ran.stderr}"]
     for words in (["--jobs", "2"], ["--jobs", "4"], ["--jobs=40"]):
         again = tables(sas, *words, "runs", cwd=folder)
@@ -458,7 +535,7 @@ def form_tests(sas, folder, rows):
     same = [tuple("" if value is None else str(value) for value in row.values()) for row in held] == rows[1:]
     yield "JSON lines", [] if same and tuple(held[0]) == rows[0] and held[1]["cost"] == 4 else [f"{held}"]
     ran = tables(sas, "--why", "runs", cwd=folder)
-    explained = list(csv.reader(io.StringIO(ran.stdout.decode())))
+    explained = list(csv.reader(io.StringIO(ran.stdout.decode(), newline="")))
     yield "reasons, the same rows", [] if [tuple(row[:-1]) for row in explained] == rows else [f"{explained}"]
     for *row, reasons in explained[1:]:
         expected = b""
@@ -491,6 +568,66 @@ def fault_tests(_, sas, folder):
             yield f"{words[0]}, {fault}", [] if (ran.returncode, ran.stderr) == (3, f"sas: {fault}\n".encode()) else [f"{ran}"]
 
 
+def crash_tests(_, sas, folder):
+    """Yields commands that can't go on, and folders deeper than calls may be nested. They could show a traceback, and status 1, which is
+    a no; and the exception of another program that ends as if it were one of these commands."""
+    package, without = os.path.dirname(os.path.dirname(sas.__file__)), {**environment(sas), "LIBSAS": "none"}
+    for words in (["plan", *FUSES_FILES], ["table", *FUSES_FILES], ["report", *FUSES_FILES], []):
+        ran = ended(sys.executable, "-m", "sas", *words, env=without)
+        yield f"no library, {words[:1]}", [] if is_line(ran, "sas: the library isn't found: none: ") else [f"{ran}"]
+    for name, code, said in (
+        ("another program", "import sas", "ImportError: sas: the library isn't found: none: "),
+        ("one that does without", "try:\n    import sas\nexcept ImportError:\n    raise KeyError(1) from None", "KeyError: 1"),
+    ):
+        os.mkdir(os.path.join(folder, name.partition(" ")[0]))
+        write(os.path.join(folder, name.partition(" ")[0], "__init__.py"), code.encode())
+        ran = ended(sys.executable, "-m", name.partition(" ")[0], env=without, cwd=folder)
+        last = ran.stderr.decode().splitlines()[-1]
+        yield f"no library, {name}", [] if ran.returncode == 1 and last.startswith(said) else [f"{ran}"]
+    for name, (code, said) in CRASHES.items():
+        ran = ended(sys.executable, "-c", f"{code}\n{BY_PATH}", package, "table", *FUSES_FILES, env=environment(sas))
+        yield f"a crash, {name}", [] if is_line(ran, f"sas: {said}\n") else [f"{ran}"]
+    yield from deep_tests(sas, folder)
+
+
+def is_line(ran, front):
+    """Whether a command ended without an answer, and with one line on standard error that begins so."""
+    return ran.returncode == 3 and ran.stderr.startswith(front.encode()) and ran.stderr.count(b"\n") == 1
+
+
+RAISE = "import errno, os, sas._table as it, sas._workers\ndef crash(*_): raise "
+# what goes wrong in a process, and the line about it
+CRASHES = {
+    "no files": (f"{RAISE}0\nimport resource; resource.setrlimit(resource.RLIMIT_NOFILE, (5, 5))", "Too many open files"),
+    "no processes": (
+        f"{RAISE}OSError(errno.EAGAIN, os.strerror(errno.EAGAIN))\nos.fork = crash",
+        "cannot start a process: Resource temporarily unavailable",
+    ),
+    "no memory": (f"{RAISE}MemoryError\nit._works = crash", "out of memory"),
+    "nested calls": (f"{RAISE}RecursionError('too deep')\nit._works = crash", "too deep"),
+    "two lines": (f"{RAISE}ValueError('one\\n  two')\nit._works = crash", "one two"),
+    "no words": (f"{RAISE}LookupError\nit._works = crash", "LookupError"),
+}
+# how many folders are in each other
+DEEP = 1500
+
+
+def deep_tests(sas, folder):
+    """Yields a table of a folder that is deep inside others."""
+    deep = os.path.join(folder, "deep")
+    os.mkdir(deep)
+    for _ in range(DEEP):
+        deep += "/d"
+        os.mkdir(deep)
+    for name, source in zip(("output.sas", "sas_plan"), FUSES_FILES):
+        write(os.path.join(deep, name), read(source))
+    ran = tables(sas, os.path.join(folder, "deep"))
+    row = f"{COLUMNS}\n{deep}/output.sas,{deep}/sas_plan,valid,,4,4,\n".encode()
+    yield "deep folders", differs((ran.returncode == 0, ran.stdout), (True, row))
+    # shutil goes less deep in some versions of Python
+    subprocess.run(["rm", "-r", os.path.join(folder, "deep")], check=True)
+
+
 def interrupt_tests(_, sas, folder):
     """Yields runs that are interrupted, lose a process, or have a reader that ends early, and one on a terminal. They could show a run
     that hangs or leaves processes behind, rows that are lost with others, a traceback, and progress among the rows."""
@@ -498,11 +635,13 @@ def interrupt_tests(_, sas, folder):
     for path in plans:
         write(path, read(f"{FUSES}.plan"))
     # it waits at this plan, which is a pipe that nobody writes
-    os.remove(plans[250])
-    os.mkfifo(plans[250])
+    os.remove(plans[WAITS])
+    os.mkfifo(plans[WAITS])
     for jobs in ("1", "3"):
         yield f"an interrupt, --jobs {jobs}", wrong_interrupted(sas, plans, jobs)
-    yield "a process that is killed", wrong_killed(sas, plans)
+        yield f"a process that is killed, --jobs {jobs}", wrong_killed(sas, plans, jobs)
+        for number in (signal.SIGKILL, signal.SIGTERM, signal.SIGHUP):
+            yield f"a command that is ended by {number}, --jobs {jobs}", wrong_ended(sas, plans, jobs, number)
     command = f"'{sys.executable}' -m sas table {FUSES_FILES[0]} {plans[0]} {plans[1]}"
     env = environment(sas)
     ran = ended("bash", "-c", f"{{ sleep 1; {command}; echo $? >&2; }} | true", env=env)
@@ -510,19 +649,26 @@ def interrupt_tests(_, sas, folder):
     if is_there("script"):
         ran = ended("script", "-qec", f"{command} > {folder}/table.csv", "/dev/null", env=env, stdin=subprocess.DEVNULL)
         last = b"2 rows of 1 tasks: 2 valid, 0 invalid, 0 refused, 0 without an answer\r\n"
-        well = b"2 of 2 plans" in ran.stdout and ran.stdout.endswith(last) and read(f"{folder}/table.csv").count(b"\n") == 3
+        well = b"1 of 2 plans" in ran.stdout and ran.stdout.endswith(last) and read(f"{folder}/table.csv").count(b"\n") == 3
         yield "progress on a terminal", [] if well else [f"{ran}"]
 
 
+# the plan at which a run waits
+WAITS = 250
+
+
 def begun(sas, plans, jobs):
-    """Begins a table of these plans, and returns the process once it waits at the one that is a pipe: it has printed 200 rows."""
+    """Begins a table of these plans, and returns the process once it waits at the one that is a pipe: it has printed the rows before it."""
     words = [sys.executable, "-m", "sas", "table", "--jobs", jobs, FUSES_FILES[0], *plans]
     pipe = subprocess.PIPE
     process = subprocess.Popen(words, stdout=pipe, stderr=pipe, env=environment(sas), start_new_session=True)
-    rows = [process.stdout.readline() for _ in range(201)]
-    assert rows[0].decode() == f"{COLUMNS}\n" and rows[-1].decode() == f"{FUSES_FILES[0]},{plans[199]},valid,,4,4,\n"
+    late = threading.Timer(SECONDS, process.kill)
+    late.start()
+    rows = [process.stdout.readline() for _ in range(WAITS + 1)]
+    late.cancel()
+    assert rows[0].decode() == f"{COLUMNS}\n" and rows[-1].decode() == f"{FUSES_FILES[0]},{plans[WAITS - 1]},valid,,4,4,\n"
     deadline = time.monotonic() + SECONDS
-    while len(children_of(process)) > (jobs != "1") and time.monotonic() < deadline:
+    while len(children_of(process)) > 1 and time.monotonic() < deadline:
         time.sleep(0.02)
     return process
 
@@ -536,7 +682,10 @@ def rest_of(process):
     """Returns how a run ends: its status, the rows that were left, standard error, and whether a process of it is left."""
     try:
         output, errors = process.communicate(timeout=SECONDS)
-        os.killpg(process.pid, 0)
+        deadline = time.monotonic() + SECONDS
+        while time.monotonic() < deadline:
+            os.killpg(process.pid, 0)
+            time.sleep(0.02)
         is_left = True
     except ProcessLookupError:
         is_left = False
@@ -550,21 +699,32 @@ def wrong_interrupted(sas, plans, jobs):
     process = begun(sas, plans, jobs)
     os.killpg(process.pid, signal.SIGINT)
     got = rest_of(process)
-    expected = 130, b"", b"interrupted: 200 rows of 1 tasks: 200 valid, 0 invalid, 0 refused, 0 without an answer\n", False
-    return [] if got == expected else [f"{got}"]
+    said = f"interrupted: {WAITS} rows of 1 tasks: {WAITS} valid, 0 invalid, 0 refused, 0 without an answer\n".encode()
+    return [] if got == (130, b"", said, False) else [f"{got}"]
 
 
-def wrong_killed(sas, plans):
-    """Returns what is wrong with a run of which a process is killed, as where memory is short."""
-    process = begun(sas, plans, "3")
+def wrong_killed(sas, plans, jobs):
+    """Returns what is wrong with a run of which a process is killed, as where memory is short. It judges 200 plans at a time."""
+    process = begun(sas, plans, jobs)
     for child in children_of(process):
         os.kill(child, signal.SIGKILL)
     status, output, errors, is_left = rest_of(process)
-    rows = [f"{plan},{NO_ANSWER},,,,the process ended by signal 9" for plan in plans[200:400]]
+    rows = [f"{plan},{NO_ANSWER},,,,the process ended by signal 9" for plan in plans[WAITS:400]]
     rows += [f"{plan},valid,,4,4," for plan in plans[400:]]
-    said = b"450 rows of 1 tasks: 250 valid, 0 invalid, 0 refused, 200 without an answer\n"
+    said = b"450 rows of 1 tasks: 300 valid, 0 invalid, 0 refused, 150 without an answer\n"
     expected = 3, "".join(f"{FUSES_FILES[0]},{row}\n" for row in rows).encode(), said, False
     return [] if (status, output, errors, is_left) == expected else [f"{status}, {errors}, {is_left}, {output[-300:]}"]
+
+
+def wrong_ended(sas, plans, jobs, number):
+    """Returns what is wrong with a run of which the command is ended by a signal: the rows that it judged are there, and no process is
+    left once the plan that it waits at can be read."""
+    process = begun(sas, plans, jobs)
+    process.send_signal(number)
+    process.wait(SECONDS)
+    os.close(os.open(plans[WAITS], os.O_WRONLY))
+    got = rest_of(process)
+    return [] if got == (-number, b"", b"", False) else [f"{got}"]
 
 
 REPORT = """
@@ -678,10 +838,13 @@ TESTS = (
     none_tests,
     number_tests,
     file_tests,
+    limit_tests,
+    answer_tests,
     stream_tests,
     command_tests,
     table_tests,
     fault_tests,
+    crash_tests,
     interrupt_tests,
     report_tests,
     type_tests,

@@ -24,6 +24,7 @@ import os
 import random
 import re
 import shutil
+import signal
 import subprocess
 import sys
 import tempfile
@@ -35,6 +36,7 @@ import report
 import why
 from axioms import text_of as task_text
 from browsers import Browser, Chromium, Firefox
+from large import turning_files
 from pages import is_there
 from steps import cost_of
 from texts import TOP, as_bytes, bytes_of_file, text_of, with_line
@@ -51,6 +53,8 @@ TASKS, STEPS, VARIABLES = 8, 3, 12
 # bounds for 100,000 steps over 5,000 variables, and what was measured: 2 s, 92 MB, 722 kB, 1 s and 0.07 s. The seconds are those of
 # processors, and times in a browser are the best of several, since other tests may run beside this one
 LARGE = {"seconds": 15, "megabytes": 200, "bytes": 1000000, "picture": 20, "key": 3}
+# how many bytes of memory a report of what is too long may have: a little more than a page is made of
+MOST_MEMORY = 450_000_000
 # plans of examples, by short names
 EXAMPLES = {"valid": ("fuses.sas", "fuses.plan"), "short": ("fuses.sas", "fuses-short.plan"), "elevator": ("elevator.sas", "elevator.plan")}
 HARM = "</script><script>document.title='harm'</script><img src=x onerror=\"document.title='harm'\">"
@@ -194,6 +198,7 @@ def statuses(reports):
         ([folder, plan, *sas], 3, folder),
         ([task, plan, "-o", os.path.join(gone, "r"), *sas], 3, gone), ([task, plan, "--sas", gone], 3, gone),
         ([task, plan, "-o", "/dev/full", *sas], 3, "No space"), ([task, plan, "--sas", "/bin/false"], 3, "/bin/false"), (["--help"], 0, ""),
+        ([task, plan, "--sas", "/bin/true"], 3, "sas-report: "),
     )
     wrong = []
     for words, status, message in expected:
@@ -220,6 +225,69 @@ def read_once(reports):
         threading.Thread(target=lambda pipe=pipe, data=data: open(pipe, "wb").write(data), daemon=True).start()
     found = reports.run(*pipes, "-o", "-", "--sas", reports.sas).stdout
     return wrong + differs("named pipes", b"<h1>plan valid: 4 steps, cost 4</h1>" in found, True)
+
+
+def closed_streams(reports):
+    """A stream that is closed at the start isn't replaced by a file. Where it is needed, there is no report."""
+    task, plan = reports.files(*example("valid"))
+    page, sas, wrong = os.path.join(os.path.dirname(task), "r.html"), ["--sas", reports.sas], []
+    for words, needed, status in (
+        ([task, plan, "-o", page, *sas], "", 0), ([task, plan, "-o", "-", *sas], "1", 0), (["-", plan, "-o", page, *sas], "0", 0),
+        ([task, "-", "-o", "-", *sas], "01", 1), (["--help"], "1", 0), (["--other"], "", 2), ([task, page + "none", *sas], "", 3),
+    ):
+        for closed in itertools.chain.from_iterable(itertools.combinations("012", count) for count in range(4)):
+            script = "".join(f"exec {it}>&-; " for it in closed) + 'exec "$0" "$@"'
+            with open(task, "rb") as given:
+                command = ["sh", "-c", script, *reports.command, *words]
+                ran = subprocess.run(command, stdin=given, capture_output=True, check=False, timeout=60)
+            expected = 3 if set(needed) & set(closed) else status
+            wrong += differs(f"{words}, closed: {closed}: status", ran.returncode, expected)
+            is_line = ran.stderr.startswith(b"sas-report: ") and ran.stderr.count(b"\n") == 1
+            wrong += [f"{words}, closed: {closed}: {ran.stderr}"] * (expected == 3 and "2" not in closed and not is_line)
+    return wrong
+
+
+WAITING = "#!/bin/sh\ncase $1 in --version) exec \"$SAS\" --version;; esac\ncat \"$3\" \"$4\" > seen\nkill -$SIGNAL $PPID\n"
+
+
+def signals(reports):
+    """A signal ends it, and leaves nothing in the temporary folder."""
+    task, plan = reports.files(*example("valid"))
+    folder, wrong = os.path.dirname(task), []
+    place, waiting = os.path.join(folder, "temporary"), os.path.join(folder, "waiting")
+    os.mkdir(place)
+    with open(waiting, "w", encoding="ascii") as file:
+        file.write(WAITING)
+    os.chmod(waiting, 0o755)
+    for name in ("TERM", "HUP", "INT", "KILL"):
+        env = {**os.environ, "TMPDIR": place, "SIGNAL": name, "SAS": reports.sas}
+        ran = reports.run(task, plan, "-o", "-", "--sas", waiting, env=env, cwd=folder)
+        wrong += differs(f"SIG{name}", ran.returncode, -getattr(signal, f"SIG{name}"))
+        wrong += differs(f"what SIG{name} leaves", os.listdir(place), [])
+        wrong += differs("what sas was given", bytes_of_file(os.path.join(folder, "seen")), b"".join(example("valid")))
+    return wrong
+
+
+def limits(reports):
+    """An input that is too long, and a plan that is too large to show, have a line that says so. They take little memory."""
+    task, plan = example("valid")
+    paths, wrong = reports.files(task, plan), []
+    page = os.path.join(os.path.dirname(paths[0]), "r.html")
+    for most, status, name in ((len(task), 0, ""), (len(task) - 1, 3, "t.sas"), (len(plan), 3, "t.sas"), (0, 3, "t.sas")):
+        ran = reports.run(*paths, "-o", page, "--max-bytes", str(most), "--sas", reports.sas)
+        said = f"sas-report: input too long: {paths[0]}\n" if name else ""
+        wrong += differs(f"--max-bytes {most}", (ran.returncode, ran.stderr.decode()), (status, said))
+    wrong += differs("--max-bytes x", reports.run(*paths, "--max-bytes", "x").returncode, 2)
+    endless = f'yes | "$@" - {paths[1]} -o {page} --max-bytes {1 << 24}', "sas-report: input too long: -\n"
+    large = reports.files(*turning_files(4000, 10, 4000, 1))
+    traced = sum(map(len, subprocess.Popen([reports.sas, "trace", *large], stdout=subprocess.PIPE).stdout))
+    said = f"sas-report: the plan is too large to show: p.1: sas prints {traced} bytes about it\n"
+    too_large = f'"$@" {" ".join(large)} -o {page}', said
+    for script, said in (endless, too_large):
+        limited = f"ulimit -v {MOST_MEMORY // 1024}; {script} --sas {reports.sas}"
+        ran = subprocess.run(["sh", "-c", limited, "", *reports.command], capture_output=True, check=False, timeout=120)
+        wrong += differs(script, (ran.returncode, ran.stderr.decode()), (3, said))
+    return wrong
 
 
 def found_programs(reports):
@@ -668,6 +736,7 @@ def large_page(browser, reports):
     return wrong + ([] if 49900 < middle < 50100 else [f"the middle is step {middle}"])
 
 
+ALONE = (statuses, read_once, closed_streams, signals, limits, found_programs, with_library, large_report)
 IN_BROWSER = (states, hostile, keys, fields, pointer, several, edges, paper, large_page)
 
 
@@ -687,7 +756,7 @@ def main():
 
     with tempfile.TemporaryDirectory() as folder:
         reports = Reports(sas, command or [sys.executable, os.path.join(TOP, "report", "sas-report")], folder)
-        for test in (statuses, read_once, found_programs, with_library, large_report):
+        for test in ALONE:
             tried(test, reports)
         chosen, missing = answers(reports)
         chosen = [(task, plan, lines, *reports.page(task, plan)) for task, plan, lines in chosen]

@@ -72,7 +72,8 @@ def encoded(data):
 
 
 def page(version, task_name, task_bytes, answers):
-    """Returns the page. Of each plan `answers` has its name, its bytes, and what `sas plan --why` and `sas trace` print."""
+    """Returns the page, and whether every plan is valid. Of each plan `answers` has its name, its bytes, and what `sas plan --why` and
+    `sas trace` print. They are taken one by one, as they may be large."""
     moves, names = Moves(), {}
     plans = [Plan(*answer, moves) for answer in answers]
     first = plans[0].answer[0]
@@ -92,4 +93,5 @@ def page(version, task_name, task_bytes, answers):
     digests = {word: encoded(hashlib.sha256(parts[word].encode()).digest()) for word in ("style", "script")}
     parts["policy"] = ("default-src 'none'; style-src 'sha256-%(style)s'; script-src 'sha256-%(script)s'; base-uri 'none'; "
                        "form-action 'none'; require-trusted-types-for 'script'; trusted-types 'none'" % digests)
-    return re.sub(r"\{\{(\w+)\}\}", lambda found: parts[found[1]], part("page.html"))
+    written = re.sub(r"\{\{(\w+)\}\}", lambda found: parts[found[1]], part("page.html"))
+    return written, all(kind(plan.answer[0]) == "valid" for plan in plans)

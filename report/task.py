@@ -104,7 +104,7 @@ class Moves:
     def steps(self, trace):
         """Returns the move of each step of a trace."""
         steps, initial, move = [], [], []
-        for line in trace.splitlines():
+        for line in lines(trace):
             if line.startswith(b"change "):
                 _, var, _, value, _ = line.split(b" ", 4)
                 move += int(var), int(value)

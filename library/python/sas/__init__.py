@@ -18,7 +18,9 @@ Tasks and plans are bytes, or objects that have bytes, such as a bytearray, a me
 bytes are copied. `plan_files` and `Task.from_file` read files, also those of gzip, bzip2 and xz. Threads may call at the same time: a call
 releases the interpreter's lock, and a Task makes one call after another.
 
-Each call raises MemoryError if it is out of memory, and InputTooLong if an input has more than 4,294,967,296 bytes.
+Each call raises MemoryError if it is out of memory, and InputTooLong if an input has more than 4,294,967,296 bytes. The reasons or the
+trace of a small task may have gigabytes. So calls whose answer may have more than one line take `max_answer_bytes`: if the text of the
+answer has more bytes, they raise AnswerTooLong. Then it isn't copied from the library, which holds it until the call returns.
 
 The library is libsas.so beside this package or in a folder above, else libsas.so.1 where the system's loader finds it. The environment
 variable LIBSAS can name another file.
@@ -28,13 +30,20 @@ variable LIBSAS can name another file.
 from __future__ import annotations
 
 import os
+import sys
 import threading
 import weakref
-from typing import Any, Callable, Iterable, List, NoReturn, Optional
+from typing import Any, Callable, Iterable, List, NoReturn, Optional, Tuple
+
+from . import _streams
+
+# `python -m sas` imports this package first. Only then does it know its name, and it can't catch what is wrong here
+if sys.argv[:1] == ["-m"]:
+    sys.excepthook = _streams.end_import
 
 from . import _files, _library
-from ._answers import Answer, File, InputTooLong, NoTask, Refused, Verdict
-from ._files import Path
+from ._answers import Answer, AnswerTooLong, File, InputTooLong, NoTask, Refused, Verdict
+from ._files import LIMIT, Path
 from ._library import LINE_ROOM, USUAL_ROOM, Data, answer_of, given, given_cost, given_numbers
 from ._values import (
     BlockedOperator,
@@ -55,9 +64,9 @@ from ._values import (
 
 __version__ = "1.1.0"
 __all__ = [
-    "Answer", "BlockedOperator", "Cause", "Change", "Conflict", "CostFacts", "CouldAlsoBe", "Effect", "Fact", "File", "GoalFact",
-    "InputTooLong", "NamedStep", "NoTask", "Reasons", "Refused", "Rule", "SimilarOperator", "Step", "Task", "Verdict", "check", "check_why",
-    "mutex", "mutex_why", "plan", "plan_files", "plan_why", "print_task", "show", "steps", "trace", "version",
+    "Answer", "AnswerTooLong", "BlockedOperator", "Cause", "Change", "Conflict", "CostFacts", "CouldAlsoBe", "Effect", "Fact", "File",
+    "GoalFact", "InputTooLong", "NamedStep", "NoTask", "Reasons", "Refused", "Rule", "SimilarOperator", "Step", "Task", "Verdict", "check",
+    "check_why", "mutex", "mutex_why", "plan", "plan_files", "plan_why", "print_task", "show", "steps", "trace", "version",
 ]  # fmt: skip
 # tracebacks and pickles name the module that users import
 for _name in __all__:
@@ -87,25 +96,31 @@ def plan(task: Data, plan: Data) -> Answer:
     return answer_of(_library.PLAN, *given(task), *given(plan))
 
 
-def plan_files(task: Path, plan: Path) -> Answer:
+def plan_files(task: Path, plan: Path, *, max_bytes: int = LIMIT) -> Answer:
     """Checks whether a plan solves a task, both given by the paths of their files. Files of gzip, bzip2 and xz are decompressed.
+
+    Args:
+        task: The path of a task file.
+        plan: The path of a plan file.
+        max_bytes: How many bytes a file may have, decompressed.
 
     Raises:
         OSError: A file can't be opened or read, or a compressed file is damaged.
+        InputTooLong: A file has more than `max_bytes` bytes. It isn't read any further.
     """
-    return answer_of(_library.PLAN, *given(_files.read(task)), *given(_files.read(plan)))
+    return answer_of(_library.PLAN, *given(_files.read(task, max_bytes)), *given(_files.read(plan, max_bytes)))
 
 
-def plan_why(task: Data, plan: Data) -> Answer:
+def plan_why(task: Data, plan: Data, *, max_answer_bytes: Optional[int] = None) -> Answer:
     """Checks a plan as `plan` does, with the reasons for a no in further lines of the text: `sas plan --why`."""
-    return answer_of(_library.PLAN_WHY, *given(task), *given(plan), room=USUAL_ROOM)
+    return answer_of(_library.PLAN_WHY, *given(task), *given(plan), room=USUAL_ROOM, max_answer_bytes=max_answer_bytes)
 
 
-def trace(task: Data, plan: Data) -> Answer:
+def trace(task: Data, plan: Data, *, max_answer_bytes: Optional[int] = None) -> Answer:
     """Checks a plan as `plan` does, and prints what each of its steps changes: `sas trace`."""
     (task_at, task_length), (plan_at, plan_length) = given(task), given(plan)
     room = USUAL_ROOM + 10 * plan_length + task_length // 8
-    return answer_of(_library.TRACE, task_at, task_length, plan_at, plan_length, room=room)
+    return answer_of(_library.TRACE, task_at, task_length, plan_at, plan_length, room=room, max_answer_bytes=max_answer_bytes)
 
 
 def check(task: Data) -> Answer:
@@ -113,46 +128,44 @@ def check(task: Data) -> Answer:
     return answer_of(_library.CHECK, *given(task))
 
 
-def check_why(task: Data) -> Answer:
+def check_why(task: Data, *, max_answer_bytes: Optional[int] = None) -> Answer:
     """Checks a task as `check` does, with the reasons for a no in further lines of the text: `sas check --why`."""
-    return answer_of(_library.CHECK_WHY, *given(task), room=USUAL_ROOM)
+    return answer_of(_library.CHECK_WHY, *given(task), room=USUAL_ROOM, max_answer_bytes=max_answer_bytes)
 
 
-def mutex(task: Data) -> Answer:
+def mutex(task: Data, *, max_answer_bytes: Optional[int] = None) -> Answer:
     """Checks which mutex groups of a task are exclusive: `sas mutex`.
 
     Returns:
         Yes if all groups are shown to be exclusive. The text has a line about each.
     """
-    return _answer_by_task(_library.MUTEX, task)
+    return _answer_by_input(_library.MUTEX, task, USUAL_ROOM, max_answer_bytes)
 
 
-def mutex_why(task: Data) -> Answer:
+def mutex_why(task: Data, *, max_answer_bytes: Optional[int] = None) -> Answer:
     """Checks mutex groups as `mutex` does, with the reasons for a no in further lines of the text: `sas mutex --why`."""
-    return _answer_by_task(_library.MUTEX_WHY, task)
+    return _answer_by_input(_library.MUTEX_WHY, task, USUAL_ROOM, max_answer_bytes)
 
 
-def show(task: Data) -> Answer:
+def show(task: Data, *, max_answer_bytes: Optional[int] = None) -> Answer:
     """Prints a summary of a task: `sas show`."""
-    return _answer_by_task(_library.SHOW, task)
+    return _answer_by_input(_library.SHOW, task, USUAL_ROOM, max_answer_bytes)
 
 
-def print_task(task: Data) -> Answer:
+def print_task(task: Data, *, max_answer_bytes: Optional[int] = None) -> Answer:
     """Prints a task file, each line ended by LF: `sas print`."""
-    at, length = given(task)
-    return answer_of(_library.PRINT, at, length, room=LINE_ROOM + length)
+    return _answer_by_input(_library.PRINT, task, LINE_ROOM, max_answer_bytes)
 
 
-def steps(plan: Data) -> Answer:
+def steps(plan: Data, *, max_answer_bytes: Optional[int] = None) -> Answer:
     """Prints a plan file, each line ended by LF: `sas steps`."""
-    at, length = given(plan)
-    return answer_of(_library.STEPS, at, length, room=LINE_ROOM + length)
+    return _answer_by_input(_library.STEPS, plan, LINE_ROOM, max_answer_bytes)
 
 
-def _answer_by_task(call: Callable[..., int], task: Data) -> Answer:
-    """Returns the answer of a call whose answer grows with the task."""
-    at, length = given(task)
-    return answer_of(call, at, length, room=USUAL_ROOM + length)
+def _answer_by_input(call: Callable[..., int], data: Data, room: int, max_answer_bytes: Optional[int]) -> Answer:
+    """Returns the answer of a call whose answer grows with its input. Its room is so many bytes, and those of the input."""
+    at, length = given(data)
+    return answer_of(call, at, length, room=room + length, max_answer_bytes=max_answer_bytes)
 
 
 class Task:
@@ -181,14 +194,19 @@ class Task:
         _TASKS.add(self)
 
     @classmethod
-    def from_file(cls, path: Path) -> Task:
+    def from_file(cls, path: Path, *, max_bytes: int = LIMIT) -> Task:
         """Reads a task file. One of gzip, bzip2 or xz is decompressed.
+
+        Args:
+            path: The path of a task file.
+            max_bytes: How many bytes the file may have, decompressed.
 
         Raises:
             OSError: The file can't be opened or read, or a compressed file is damaged.
+            InputTooLong: The file has more than `max_bytes` bytes. It isn't read any further.
             Refused: It isn't the file of a layered task.
         """
-        task = cls(_files.read(path))
+        task = cls(_files.read(path, max_bytes))
         task._path = path
         return task
 
@@ -212,7 +230,7 @@ class Task:
             MemoryError: Out of memory.
             InputTooLong: The file has more than 4,294,967,296 bytes.
         """
-        return self._answer(_library.TASK_PLAN, plan, LINE_ROOM)
+        return self._answer(_library.TASK_PLAN, given(plan), LINE_ROOM)
 
     def plans(self, plans: Iterable[Data]) -> List[Answer]:
         """Checks many plans, as `plan` does. The answers are in the order of the plans."""
@@ -232,25 +250,25 @@ class Task:
         with self._one_call:
             return answer_of(_library.TASK_PLAN_OPERATORS, self._held, at, count, given_cost(cost))
 
-    def plan_why(self, plan: Data) -> Answer:
+    def plan_why(self, plan: Data, *, max_answer_bytes: Optional[int] = None) -> Answer:
         """Checks a plan as `plan` does, with the reasons for a no in further lines of the text: `sas plan --why`.
 
         The task isn't read again.
         """
-        return self._answer(_library.TASK_PLAN_WHY, plan, USUAL_ROOM)
+        return self._answer(_library.TASK_PLAN_WHY, given(plan), USUAL_ROOM, max_answer_bytes)
 
-    def trace(self, plan: Data) -> Answer:
+    def trace(self, plan: Data, *, max_answer_bytes: Optional[int] = None) -> Answer:
         """Checks a plan as `plan` does, and prints what each of its steps changes: `sas trace`.
 
         The task isn't read again.
         """
-        return self._answer(_library.TASK_TRACE, plan, USUAL_ROOM, 10)
+        file = given(plan)
+        return self._answer(_library.TASK_TRACE, file, USUAL_ROOM + 10 * file[1], max_answer_bytes)
 
-    def _answer(self, call: Callable[..., int], plan: Data, room: int, more: int = 0) -> Answer:
-        """Returns the answer of a call about a plan. Its room is so many bytes, and so many more for each byte of the plan."""
-        at, length = given(plan)
+    def _answer(self, call: Callable[..., int], plan: Tuple[Any, int], room: int, max_answer_bytes: Optional[int] = None) -> Answer:
+        """Returns the answer of a call about a plan, whose room is so many bytes."""
         with self._one_call:
-            return answer_of(call, self._held, at, length, room=room + more * length)
+            return answer_of(call, self._held, *plan, room=room, max_answer_bytes=max_answer_bytes)
 
     def close(self) -> None:
         """Frees the task. It may be closed more than once."""

@@ -9,13 +9,20 @@ The exit status is 0 for yes, 1 for no, 2 for invalid arguments or this help, 3 
 """
 from __future__ import annotations
 
+import sys
+
+from . import __version__, _streams
+
+# in place of a traceback and of status 1, which is a no
+if __name__ == "__main__":
+    sys.excepthook = _streams.end_without_answer
+
 import importlib
 import importlib.util
-import sys
 from typing import Sequence
 
-from . import __version__
-from ._program import INVALID_ARGUMENTS, REQUESTS, run, write_error
+from ._program import REQUESTS, run
+from ._streams import INVALID_ARGUMENTS, write_error
 
 
 def main(words: Sequence[str]) -> int:

@@ -158,7 +158,22 @@ class Refused(ValueError):
 
 
 class InputTooLong(ValueError):
-    """An input has more than 4,294,967,296 bytes."""
+    """An input has more than 4,294,967,296 bytes, or a file more than `max_bytes`."""
+
+
+class AnswerTooLong(ValueError):
+    """The text of an answer has more than `max_answer_bytes` bytes.
+
+    Attributes:
+        size: How many bytes it has.
+    """
+
+    def __init__(self, size: int) -> None:
+        super().__init__(size)
+        self.size = size
+
+    def __str__(self) -> str:
+        return f"sas: answer too long: {self.size} bytes"
 
 
 class NoTask(ValueError):

@@ -6,9 +6,10 @@ import ctypes
 import mmap
 import operator
 import os
-from typing import Any, Callable, Iterable, Tuple, Union
+import sys
+from typing import Any, Callable, Iterable, Optional, Tuple, Union
 
-from ._answers import Answer, InputTooLong, NoTask
+from ._answers import Answer, AnswerTooLong, InputTooLong, NoTask
 
 Data = Union[bytes, bytearray, memoryview, mmap.mmap, "array.array[Any]"]
 
@@ -101,10 +102,19 @@ def given_cost(cost: int) -> int:
     return operator.index(cost)
 
 
-def answer_of(call: Callable[..., int], *inputs: Any, room: int = LINE_ROOM) -> Answer:
-    """Returns the answer of a call. It gets a room of so many bytes, and is repeated with a longer one if the answer is longer."""
-    size, number = ctypes.c_size_t(room), _ROOM_TOO_SHORT
+def answer_of(call: Callable[..., int], *inputs: Any, room: int = LINE_ROOM, max_answer_bytes: Optional[int] = None) -> Answer:
+    """Returns the answer of a call. It gets a room of so many bytes, and is repeated with a longer one if the answer is longer.
+
+    Raises:
+        AnswerTooLong: The answer has more than `max_answer_bytes` bytes.
+    """
+    most = sys.maxsize if max_answer_bytes is None else operator.index(max_answer_bytes)
+    if most < 0:
+        raise ValueError("max_answer_bytes is 0 or more")
+    size, number = ctypes.c_size_t(min(room, most)), _ROOM_TOO_SHORT
     while number == _ROOM_TOO_SHORT:
+        if size.value > most:
+            raise AnswerTooLong(size.value)
         text = ctypes.create_string_buffer(size.value)
         number = call(*inputs, text, len(text), ctypes.byref(size))
     if number == _OUT_OF_MEMORY:

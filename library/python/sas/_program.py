@@ -8,8 +8,7 @@ from typing import Callable, Dict, Iterator, List, Optional, Sequence, Tuple
 
 from . import Answer, InputTooLong, Refused, Task, check, check_why, mutex, mutex_why, plan_why, print_task, show, steps
 from ._files import LIMIT
-
-YES, NO, INVALID_ARGUMENTS, FAULT = range(4)
+from ._streams import FAULT, INVALID_ARGUMENTS, NO, YES, Stopped, replace_closed, write_error, write_out
 
 _OVER_ONE: Dict[str, Callable[[bytearray], Answer]] = {
     "mutex": mutex,
@@ -29,14 +28,6 @@ _SMALLEST = b"""\
 begin_version\n3\nend_version\nbegin_metric\n0\nend_metric\n1\nbegin_variable\nv\n-1\n1\nv\nend_variable
 0\nbegin_state\n0\nend_state\nbegin_goal\n0\nend_goal\n0\n0
 """
-
-
-class Stopped(Exception):
-    """A run without an answer: its exit status, the line for standard error, and the file that this is about, if any."""
-
-    def __init__(self, status: int, line: str, about: Optional[str] = None) -> None:
-        super().__init__(line)
-        self.status, self.line, self.about = status, line, about
 
 
 class _Input:
@@ -75,31 +66,12 @@ class _Input:
         return held
 
 
-def write_out(text: bytes) -> None:
-    """Writes a text on standard output."""
-    left = memoryview(text)
-    try:
-        if left and sys.stdout is None:
-            raise OSError("standard output was closed at the start")
-        while left:
-            left = left[os.write(1, left) :]
-    except OSError:
-        raise Stopped(FAULT, "sas: write failed") from None
-
-
-def write_error(line: str) -> None:
-    """Writes a line on standard error, if that is possible."""
-    if sys.stderr is not None:
-        with contextlib.suppress(OSError):
-            os.write(2, os.fsencode(f"{line}\n"))
-
-
 def run(request: str, words: Sequence[str]) -> int:
     """Answers a request with these words, and returns the exit status."""
     why = False
     try:
         files, why = _files_of(request, words)
-        _replace_closed()
+        replace_closed()
         answer = _plans(*files) if request == "plans" else _answer(request, files, why)
         write_out(answer.text)
         return YES if answer else NO
@@ -109,14 +81,6 @@ def run(request: str, words: Sequence[str]) -> int:
     except MemoryError:
         write_error("sas: out of memory")
         return FAULT
-
-
-def _replace_closed() -> None:
-    """Opens /dev/null for each standard stream that was closed at the start. A file would take its place, and be read or written as it."""
-    file = 0
-    while file <= 2:
-        file = os.open(os.devnull, os.O_RDWR)
-    os.close(file)
 
 
 def _files_of(request: str, words: Sequence[str]) -> Tuple[List[str], bool]:

@@ -10,15 +10,14 @@ import os
 import re
 import signal
 import stat
-import sys
 import time
 from contextlib import closing, suppress
 from functools import partial
-from typing import Any, Dict, Iterable, Iterator, List, NamedTuple, Optional, Sequence, Tuple
+from typing import Any, Dict, Iterable, Iterator, List, NamedTuple, NoReturn, Optional, Sequence, Tuple, Union
 
 from . import Answer, InputTooLong, Refused, Task, check_why
-from ._files import read
-from ._program import FAULT, INVALID_ARGUMENTS, NO, YES, Stopped, write_error, write_out
+from ._files import LIMIT, read
+from ._streams import FAULT, INVALID_ARGUMENTS, NO, YES, Stopped, replace_closed, said, write_error, write_out
 from ._workers import Team, uninterrupted
 
 ABOUT = """\
@@ -43,6 +42,8 @@ INTERRUPTED = 128 + signal.SIGINT
 # the most plans that a process judges at a time
 _TOGETHER = 200
 _TASK = re.compile(r"(.+)\.sas(?:\.gz|\.bz2|\.xz)?")
+# what keeps a file from being judged
+_FAULTS = (OSError, MemoryError, InputTooLong)
 # the seconds between two reports on a terminal
 _OFTEN = 0.1
 
@@ -59,20 +60,26 @@ class Work(NamedTuple):
 
 def main(words: Sequence[str]) -> int:
     """Prints the table that the words request, and returns the exit status."""
-    arguments = _arguments(words)
-    works = _works(arguments.files)
-    if works is None:
-        write_error("python -m sas table: give a task and its plans, or folders that have a task and plans")
-        return INVALID_ARGUMENTS
+    try:
+        arguments = _arguments(words)
+        replace_closed()
+        works = _works(arguments.files)
+        if works is None:
+            raise Stopped(INVALID_ARGUMENTS, "python -m sas table: give a task and its plans, or folders that have a task and plans")
+        return _table(works, arguments)
+    except Stopped as stop:
+        write_error(stop.line)
+        return stop.status
+
+
+def _table(works: Sequence[Work], arguments: argparse.Namespace) -> int:
+    """Prints the table and its summary, and returns the exit status."""
     counts: Dict[str, int] = collections.Counter()
     interrupted = ""
     try:
         _print(works, arguments, counts)
     except KeyboardInterrupt:
         interrupted = "interrupted: "
-    except Stopped as stop:
-        write_error(stop.line)
-        return stop.status
     numbers = ", ".join(f"{counts[word]} {word}" for word in ("valid", "invalid", "refused"))
     tasks = len({work.task for work in works})
     write_error(f"{interrupted}{sum(counts.values())} rows of {tasks} tasks: {numbers}, {counts[NO_ANSWER]} without an answer")
@@ -80,33 +87,42 @@ def main(words: Sequence[str]) -> int:
 
 
 def _print(works: Sequence[Work], arguments: argparse.Namespace, counts: Dict[str, int]) -> None:
-    """Prints the table, and counts its verdicts."""
+    """Prints the table, a row as soon as its plan is judged, and counts its verdicts."""
     columns = (*COLUMNS, "reasons") if arguments.why else COLUMNS
-    judge, written = partial(_rows, why=arguments.why), partial(_json_lines if arguments.json else _csv, columns)
-    one_by_one = (judge(work) for work in works)
-    results = one_by_one if arguments.jobs == 1 else Team(works, judge, _lost).results(arguments.jobs)
+    judge, written = partial(_rows, arguments), partial(_json_line if arguments.json else _csv_line, columns)
     progress = _Progress(sum(max(1, len(work.plans)) for work in works))
     try:
-        write_out(b"" if arguments.json else written([dict(zip(columns, columns))]))
-        with closing(results):
-            for rows in results:
-                progress.clear()
+        write_out(b"" if arguments.json else written(dict(zip(columns, columns))))
+        with closing(Team(works, judge, _lost).results(arguments.jobs)) as rows:
+            for row in rows:
                 with uninterrupted():
-                    write_out(written(rows))
-                    counts.update(collections.Counter(row["verdict"] for row in rows))
+                    write_out(written(row))
+                    counts[row["verdict"]] += 1
                 progress.show(sum(counts.values()))
     finally:
         progress.clear()
 
 
+class _Parser(argparse.ArgumentParser):
+    """Writes its help and its errors as all else is written."""
+
+    def print_help(self, file: Any = None) -> None:
+        write_out(self.format_help().encode())
+
+    def error(self, message: str) -> NoReturn:
+        raise Stopped(INVALID_ARGUMENTS, f"{self.format_usage()}{self.prog}: error: {message}")
+
+
 def _arguments(words: Sequence[str]) -> argparse.Namespace:
     """Returns what the words request."""
     form = argparse.RawDescriptionHelpFormatter
-    parser = argparse.ArgumentParser("python -m sas table", description=ABOUT, epilog=MORE, formatter_class=form, allow_abbrev=False)
-    parser.usage = "python -m sas table [--why] [--json] [--jobs N] TASK PLAN.. | FOLDER.."
+    parser = _Parser("python -m sas table", description=ABOUT, epilog=MORE, formatter_class=form, allow_abbrev=False)
+    parser.usage = "python -m sas table [--why] [--json] [--jobs N] [--max-bytes N] TASK PLAN.. | FOLDER.."
     parser.add_argument("--why", action="store_true", help="add the reasons for a no")
     parser.add_argument("--json", action="store_true", help="print JSON lines, and not CSV")
     parser.add_argument("--jobs", type=_count, default=1, metavar="N", help="how many processes judge plans; each holds a task in memory")
+    most = f"how many bytes a file may have, decompressed ({LIMIT})"
+    parser.add_argument("--max-bytes", type=_size, default=LIMIT, metavar="N", help=most)
     parser.add_argument("files", nargs="+", metavar="TASK PLAN.. | FOLDER", help="a task and its plans, or folders")
     return parser.parse_args(words)
 
@@ -115,6 +131,13 @@ def _count(word: str) -> int:
     """Returns a number of processes."""
     if not re.fullmatch("[1-9][0-9]{0,3}", word):
         raise argparse.ArgumentTypeError("N is 1 or more")
+    return int(word)
+
+
+def _size(word: str) -> int:
+    """Returns a number of bytes."""
+    if not re.fullmatch("[0-9]{1,18}", word):
+        raise argparse.ArgumentTypeError("N is a number of bytes")
     return int(word)
 
 
@@ -136,17 +159,27 @@ def _parts(work: Work) -> Iterator[Work]:
         yield work._replace(plans=work.plans[place : place + _TOGETHER])
 
 
-def _works_below(top: str) -> List[Work]:
-    """Returns the tasks below a folder with their plans, and the folders that can't be read."""
-    found: List[Work] = []
+def _works_below(top: str) -> Iterator[Work]:
+    """Yields the tasks below a folder with their plans, and the folders that can't be read."""
+    left = [top]
+    while left:
+        folder = left.pop()
+        try:
+            with os.scandir(folder) as entries:
+                found = sorted(entries, key=lambda it: _order(it.name))
+        except OSError as fault:
+            yield Work(folder, (), f"folder: {fault.strerror}")
+            continue
+        yield from _works_in(folder, [it.name for it in found if _is_read(it)])
+        left += [it.path for it in reversed(found) if _is_folder(it)]
 
-    def note(fault: OSError) -> None:
-        found.append(Work(os.fspath(fault.filename), (), f"folder: {fault.strerror}"))
 
-    for folder, folders, names in os.walk(top, onerror=note):
-        folders.sort(key=_order)
-        found += _works_in(folder, sorted((it for it in names if _is_read(os.path.join(folder, it))), key=_order))
-    return found
+def _is_folder(entry: os.DirEntry[str]) -> bool:
+    """Whether a folder is one that is gone into."""
+    try:
+        return entry.is_dir(follow_symlinks=False)
+    except OSError:
+        return False
 
 
 def _works_in(folder: str, names: Sequence[str]) -> Iterator[Work]:
@@ -160,10 +193,10 @@ def _works_in(folder: str, names: Sequence[str]) -> Iterator[Work]:
         yield Work(folder, (), f"{len(tasks)} tasks, and none is output.sas" if tasks else "no task")
 
 
-def _is_read(path: str) -> bool:
+def _is_read(entry: os.DirEntry[str]) -> bool:
     """Whether a file is an ordinary one. One that leads nowhere counts, and is reported as one that can't be read."""
     try:
-        return stat.S_ISREG(os.stat(path).st_mode)
+        return stat.S_ISREG(entry.stat().st_mode)
     except OSError:
         return True
 
@@ -173,33 +206,35 @@ def _order(name: str) -> Tuple[List[Tuple[int, str]], str]:
     return [(int(part), "") if part.isdecimal() else (-1, part) for part in re.split("([0-9]+)", name)], name
 
 
-def _rows(work: Work, why: bool) -> List[Row]:
-    """Returns the rows of plans of a task."""
+def _rows(arguments: argparse.Namespace, work: Work) -> Iterable[Row]:
+    """Returns the rows of plans of a task. Each plan is judged once its row is asked for."""
     if work.fault:
         return _without_answer(work, work.fault)
     try:
-        return _rows_of_task(work, read(work.task), why)
-    except (OSError, MemoryError, InputTooLong) as fault:
-        return _without_answer(work, f"task: {_said(fault)}")
+        task = _task_of(work.task, arguments)
+    except _FAULTS as fault:
+        return _without_answer(work, f"task: {said(fault)}")
+    if isinstance(task, Answer):
+        return [_row(work.task, plan, task) for plan in work.plans or [""]]
+    return (_row_of_plan(task, work.task, plan, arguments) for plan in work.plans) if work.plans else _without_answer(work, "no plan")
 
 
-def _rows_of_task(work: Work, file: bytearray, why: bool) -> List[Row]:
-    """Returns the rows of plans of a task that was read."""
+def _task_of(path: str, arguments: argparse.Namespace) -> Union[Task, Answer]:
+    """Returns the task of a file, or the answer that refuses it."""
+    file = read(path, arguments.max_bytes)
     try:
-        with Task(file) as task:
-            return [_row_of_plan(task, work.task, plan, why) for plan in work.plans] or _without_answer(work, "no plan")
+        return Task(file)
     except Refused as refusal:
-        answer = check_why(file) if why else refusal.answer
-        return [_row(work.task, plan, answer) for plan in work.plans or [""]]
+        return check_why(file) if arguments.why else refusal.answer
 
 
-def _row_of_plan(task: Task, name: str, plan: str, why: bool) -> Row:
+def _row_of_plan(task: Task, name: str, plan: str, arguments: argparse.Namespace) -> Row:
     """Returns the row of a plan of a task that is held."""
     try:
-        file = read(plan)
-        return _row(name, plan, task.plan_why(file) if why else task.plan(file))
-    except (OSError, MemoryError, InputTooLong) as fault:
-        return _without_answer(Work(name, [plan]), f"plan: {_said(fault)}")[0]
+        file = read(plan, arguments.max_bytes)
+        return _row(name, plan, task.plan_why(file) if arguments.why else task.plan(file))
+    except _FAULTS as fault:
+        return _without_answer(Work(name, [plan]), f"plan: {said(fault)}")[0]
 
 
 def _row(task: str, plan: str, answer: Answer) -> Row:
@@ -216,35 +251,31 @@ def _without_answer(work: Work, fault: str) -> List[Row]:
     return [{"task": work.task, "plan": plan, "verdict": NO_ANSWER, "reason": fault} for plan in work.plans or [""]]
 
 
-def _said(fault: BaseException) -> str:
-    """Returns what is wrong with a file that can't be read."""
-    return (fault.strerror if isinstance(fault, OSError) else "") or str(fault).replace("sas: ", "") or "out of memory"
+def _lost(work: Work, count: int, status: int) -> List[Row]:
+    """Returns the rows of plans whose process ended, often by a lack of memory, after so many rows."""
+    how = f"the process ended by signal {-status}" if status < 0 else f"the process ended with status {status}"
+    return _without_answer(work, how)[count:]
 
 
-def _lost(work: Work, status: int) -> List[Row]:
-    """Returns the rows of plans whose process ended, often by a lack of memory."""
-    return _without_answer(work, f"the process ended by signal {-status}" if status < 0 else f"the process ended with status {status}")
-
-
-def _csv(columns: Sequence[str], rows: Iterable[Row]) -> bytes:
-    """Returns rows as CSV."""
+def _csv_line(columns: Sequence[str], row: Row) -> bytes:
+    """Returns a row as CSV."""
     text = io.StringIO()
-    writer = csv.writer(text, lineterminator="\n")
-    writer.writerows([row.get(name) for name in columns] for row in rows)
-    return text.getvalue().encode(errors="surrogateescape")
+    # before Python 3.13 the end of a line decides whether a CR is quoted
+    csv.writer(text, lineterminator="\r\n").writerow([row.get(name) for name in columns])
+    return f"{text.getvalue()[:-2]}\n".encode(errors="surrogateescape")
 
 
-def _json_lines(columns: Sequence[str], rows: Iterable[Row]) -> bytes:
-    """Returns rows as JSON lines."""
-    return "".join(json.dumps({name: row.get(name) for name in columns}) + "\n" for row in rows).encode()
+def _json_line(columns: Sequence[str], row: Row) -> bytes:
+    """Returns a row as a JSON line."""
+    return (json.dumps({name: row.get(name) for name in columns}) + "\n").encode()
 
 
 class _Progress:
-    """Says on a terminal how much was judged."""
+    """Says on a terminal how much was judged, unless the rows are shown there."""
 
     def __init__(self, total: int) -> None:
         self._total, self._last = total, 0.0
-        self._is_shown = sys.stderr is not None and sys.stderr.isatty()
+        self._is_shown = os.isatty(2) and not os.isatty(1)
 
     def show(self, count: int) -> None:
         now = time.monotonic()

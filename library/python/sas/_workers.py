@@ -3,15 +3,15 @@ from __future__ import annotations
 
 import contextlib
 import multiprocessing
-import multiprocessing.connection
+import os
+import selectors
 import signal
-from typing import Any, Callable, Dict, Generator, Generic, Iterator, Sequence, TypeVar
+from typing import Any, Callable, Dict, Generator, Generic, Iterable, Iterator, List, NoReturn, Sequence, TypeVar
+
+from ._streams import FAULT, YES, said, write_error
 
 W = TypeVar("W")
 R = TypeVar("R")
-
-# what is loaded needn't be loaded again
-_FORK = multiprocessing.get_context("fork")
 
 
 @contextlib.contextmanager
@@ -25,33 +25,66 @@ def uninterrupted() -> Iterator[None]:
 
 
 class _Process:
-    """A process that does one work after another. An interrupt doesn't reach it."""
+    """A process that does one work after another. An interrupt doesn't reach it.
 
-    def __init__(self, do: Callable[[Any], Any]) -> None:
-        self.number = -1
-        self.end, other = _FORK.Pipe()
-        self._process = _FORK.Process(target=_do_each, args=(do, other, self.end), daemon=True)
+    Attributes:
+        end: Where it is sent works, and sends results.
+        work: The number of its work.
+        count: How many results of this have come.
+    """
+
+    def __init__(self, do: Callable[[Any], Iterable[Any]], ends: Iterable[Any]) -> None:
+        """Begins a process. These ends of others stay open in this one alone."""
+        self.work, self.count = -1, 0
+        self.end, other = multiprocessing.Pipe()
         with uninterrupted():
-            self._process.start()
+            self._number = _forked()
+            if self._number == 0:
+                for end in (self.end, *ends):
+                    end.close()
+                _do_each(do, other)
         other.close()
 
-    def stop(self) -> int:
-        """Ends the process, and returns its exit status, or less than 0 where a signal had ended it before."""
-        if self._process.is_alive():
-            self._process.kill()
-        self._process.join()
+    def give(self, number: int, work: Any) -> None:
+        """Sends it a work. Where it has ended, its end says so."""
+        self.work, self.count = number, 0
+        with contextlib.suppress(ConnectionError):
+            self.end.send(work)
+
+    def kill(self) -> None:
+        """Ends it."""
+        os.kill(self._number, signal.SIGKILL)
+        self.ended()
+
+    def ended(self) -> int:
+        """Waits for its end. Returns its exit status, or the number of a signal with a sign in front."""
         self.end.close()
-        return self._process.exitcode or 0
+        status = os.waitpid(self._number, 0)[1]
+        return -os.WTERMSIG(status) if os.WIFSIGNALED(status) else os.WEXITSTATUS(status)
 
 
-def _do_each(do: Callable[[Any], Any], end: Any, other: Any) -> None:
-    """Does what is sent, and sends what comes of it."""
-    other.close()
+def _forked() -> int:
+    """Begins a process, and returns its number, or 0 in it. Unlike a Process of multiprocessing it has the same standard input."""
+    try:
+        return os.fork()
+    except OSError as fault:
+        raise OSError(fault.errno, f"cannot start a process: {fault.strerror}") from fault
+
+
+def _do_each(do: Callable[[Any], Iterable[Any]], end: Any) -> NoReturn:
+    """Does each work that is sent. Sends its results one by one, and then None."""
+    status = FAULT
     try:
         while True:
-            end.send(do(end.recv()))
+            for result in do(end.recv()):
+                end.send(result)
+            end.send(None)
     except (EOFError, ConnectionError):
-        pass
+        status = YES
+    except Exception as fault:  # pylint: disable=broad-except
+        write_error(f"sas: {said(fault)}")
+    finally:
+        os._exit(status)
 
 
 class Team(Generic[W, R]):
@@ -59,50 +92,71 @@ class Team(Generic[W, R]):
 
     Attributes:
         works: The works.
-        do: What is done with each, and gives its result.
-        lost: Gives the result of a work whose process ended, by its exit status, or by the number of a signal with a sign in front.
+        do: What is done with each, and gives its results one by one.
+        lost: Gives the results that a work lacks because its process ended, by how many have come, and by the exit status of the process,
+            or the number of a signal with a sign in front.
     """
 
-    def __init__(self, works: Sequence[W], do: Callable[[W], R], lost: Callable[[W, int], R]) -> None:
+    def __init__(self, works: Sequence[W], do: Callable[[W], Iterable[R]], lost: Callable[[W, int, int], Iterable[R]]) -> None:
         self.works, self.do, self.lost = works, do, lost
         self._next = 0
-        self._busy: Dict[Any, _Process] = {}
-        self._done: Dict[int, R] = {}
+        self._left = set(range(len(works)))
+        self._come: Dict[int, List[R]] = {}
+        self._busy = selectors.DefaultSelector()
 
     def results(self, count: int) -> Generator[R, None, None]:
-        """Yields the result of each work, in order. So many processes work meanwhile."""
+        """Yields the results of each work, in order, each as soon as it comes. So many processes work meanwhile."""
         try:
             for _ in range(min(count, len(self.works))):
-                self._give_work(_Process(self.do))
+                self._begin()
             for number in range(len(self.works)):
-                self._wait_for(number)
-                yield self._done.pop(number)
+                yield from self._results_of(number)
         finally:
-            for process in self._busy.values():
-                process.stop()
+            for process in self._processes():
+                process.kill()
+            self._busy.close()
+
+    def _results_of(self, number: int) -> Iterator[R]:
+        """Yields the results of a work as they come."""
+        while number in self._left:
+            yield from self._come.pop(number, ())
+            for key, _ in self._busy.select():
+                self._collect(key.data)
+        yield from self._come.pop(number, ())
+
+    def _processes(self) -> List[_Process]:
+        """Returns the processes that work."""
+        return [key.data for key in self._busy.get_map().values()]
+
+    def _begin(self) -> None:
+        """Begins a process if there is work for it."""
+        if self._next < len(self.works):
+            self._give_work(_Process(self.do, [process.end for process in self._processes()]))
 
     def _give_work(self, process: _Process) -> None:
         """Sends a process its next work, or ends it."""
         if self._next == len(self.works):
-            process.stop()
+            process.kill()
             return
-        process.number, self._next = self._next, self._next + 1
-        self._busy[process.end] = process
-        process.end.send(self.works[process.number])
-
-    def _wait_for(self, number: int) -> None:
-        """Collects results until one is there."""
-        while number not in self._done:
-            for end in multiprocessing.connection.wait(list(self._busy)):
-                self._collect(self._busy[end])
+        self._busy.register(process.end, selectors.EVENT_READ, process)
+        process.give(self._next, self.works[self._next])
+        self._next += 1
 
     def _collect(self, process: _Process) -> None:
-        """Takes the result of a process, and sends it other work. One that has ended is replaced."""
+        """Takes a result of a process. One that has done its work gets another. One that has ended is replaced."""
+        come = self._come.setdefault(process.work, [])
         try:
-            self._done[process.number] = process.end.recv()
-        except (EOFError, ConnectionError):
-            self._done[process.number] = self.lost(self.works[process.number], self._busy.pop(process.end).stop())
-            self._give_work(_Process(self.do))
+            result = process.end.recv()
+        except (EOFError, OSError):
+            self._busy.unregister(process.end)
+            come.extend(self.lost(self.works[process.work], process.count, process.ended()))
+            self._left.remove(process.work)
+            self._begin()
             return
-        del self._busy[process.end]
+        if result is not None:
+            come.append(result)
+            process.count += 1
+            return
+        self._busy.unregister(process.end)
+        self._left.remove(process.work)
         self._give_work(process)
