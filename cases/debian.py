@@ -63,7 +63,7 @@ def packing_tests(place, sas):
     that is dpkg's to write, that isn't root's, or is called otherwise than its version."""
     path, difference = pack_twice("deb.py", place)
     yield "the same bytes twice", difference
-    version = ended(sas, "--version")[2].decode().split()[-1]
+    version = ended(sas, "--version")[1].decode().split()[-1]
     yield "the name", differs(os.path.basename(path), f"sas_{version}_amd64.deb")
     fields = ended("dpkg-deb", "-f", path, "Package", "Version", "Architecture")[1].decode()
     yield "the fields", differs(fields, f"Package: sas\nVersion: {version}\nArchitecture: amd64\n")

@@ -552,37 +552,49 @@ def raised(call):
 
 
 def longest_tests(_, library, __):
-    """Yields a front of a task that is a byte longer than may be read, of operators of which each is the same memory. It could show an
-    input that goes past the limit and isn't taken so."""
-    lines = read("cases/tasks/minimal.sas").splitlines(keepends=True)[:22]
-    block, page = 1 << 20, mmap.PAGESIZE
+    """Yields inputs that are a byte longer than may be read: a front of a task, of operators of which each is the same memory, and likewise a
+    plan of a task that is held, which takes as much memory. They could show an input that goes past the limit and isn't taken so."""
+    lines = read("cases/tasks/minimal.sas").splitlines(keepends=True)
     operator = b"begin_operator\n%s\n0\n0\n1\nend_operator\n"
     operator %= b"a" * ((1 << 16) - len(operator) + 2)
-    front = b"".join([*lines, b"%d\n" % (LIMIT // len(operator) + 1)])
-    lines[11] = lines[11][:-1] + b"a" * (page - len(front)) + b"\n"
-    front = b"".join([*lines, b"%d\n" % (LIMIT // len(operator) + 1)])
-    number = call_over(library, front, operator * (block // len(operator)), LIMIT + 1)
-    yield "a byte more than may be read", [] if number == INPUT_TOO_LONG else [f"number {number}"]
+    count, held = b"%d\n" % (LIMIT // len(operator) + 1), ctypes.byref((ctypes.c_void_p * 2)())
+    before = lines[:11], [lines[11][:-1], b"a" * (mmap.PAGESIZE - sum(map(len, [*lines[:22], count]))), b"\n"], lines[12:22], [count]
+    with repeated(b"".join(map(b"".join, before)), operator) as at:
+        yield "a byte more than may be read", wrong_number(INPUT_TOO_LONG, library.calls.sas_show, at, LIMIT + 1)
+    task = b"".join(lines)
+    yield "a task that is held", wrong_number(YES, library.calls.sas_task_read, held, task, len(task))
+    with repeated(b"", b"(" + b"a" * ((1 << 16) - 3) + b")\n") as at:
+        for name in ("sas_task_plan", "sas_task_plan_why"):
+            yield f"a byte more than may be read, {name}", wrong_number(INPUT_TOO_LONG, getattr(library.calls, name), held, at, LIMIT + 1)
+    library.calls.sas_task_free(held)
 
 
-def call_over(library, front, block, length):
-    """Returns the number of sas_show of so many bytes: a page, and over and over the same block of memory."""
-    calls = ctypes.CDLL(None)
+@contextlib.contextmanager
+def repeated(front, item):
+    """Gives where so many bytes stand: a front of whole pages, and then over and over the same memory, of 16 times the item. They are more
+    than may be read."""
+    calls, block = ctypes.CDLL(None), item * 16
     calls.mmap.restype = ctypes.c_void_p
     calls.mmap.argtypes = [ctypes.c_void_p, ctypes.c_size_t, *[ctypes.c_int] * 3, ctypes.c_long]
-    whole = len(front) + (length // len(block) + 1) * len(block)
+    whole = len(front) + (LIMIT // len(block) + 2) * len(block)
     with tempfile.TemporaryFile() as file:
         file.write(front + block)
         file.flush()
         at = calls.mmap(None, whole, mmap.PROT_READ, mmap.MAP_PRIVATE | mmap.MAP_ANONYMOUS, -1, 0)
-        for place, size, start in ((0, len(front), 0), *((it, len(block), len(front)) for it in range(len(front), whole, len(block)))):
+        pieces = [(0, len(front), 0)] if front else []
+        for place, size, start in (*pieces, *((it, len(block), len(front)) for it in range(len(front), whole, len(block)))):
             fixed = calls.mmap(at + place, size, mmap.PROT_READ, mmap.MAP_SHARED | 0x10, file.fileno(), start)
             assert fixed == at + place
-        room, size = ctypes.create_string_buffer(4096), ctypes.c_size_t()
-        given = ctypes.c_void_p(at), ctypes.c_size_t(length), room, ctypes.c_size_t(len(room)), ctypes.byref(size)
-        number = library.calls.sas_show(*given)
+        yield ctypes.c_void_p(at)
         calls.munmap(ctypes.c_void_p(at), ctypes.c_size_t(whole))
-    return number
+
+
+def wrong_number(expected, call, *given):
+    """Returns what is wrong with the number of a call over these inputs, of which the last word is a length."""
+    room, size = ctypes.create_string_buffer(4096), ctypes.c_size_t()
+    *inputs, length = given
+    number = call(*inputs, ctypes.c_size_t(length), room, ctypes.c_size_t(len(room)), ctypes.byref(size))
+    return [] if number == expected else [f"number {number}"]
 
 
 @functools.lru_cache(None)

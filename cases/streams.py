@@ -33,6 +33,7 @@ from run import CLOSING, SECONDS
 from texts import CASES, TOP, bytes_of_file
 
 NULL = "/dev/null"
+VERSION = ["--version"]
 UNREADABLE = ("", "/", NULL)
 TASK, PLAN, NO_GROUPS, NOWHERE = "examples/fuses.sas", "examples/fuses.plan", "cases/tasks/minimal.sas", "examples/none"
 LAYERED, VALID, BEST = "task layered\n", "plan valid: 4 steps, cost 4\n", "1 plans, 1 valid, best cost 4"
@@ -62,6 +63,8 @@ REQUESTS = (
     Request(["check", NOWHERE], [NOWHERE], End(3, "", "sas: cannot open the task\n")),
     Request(["plan", "-", NOWHERE], [NOWHERE], End(3, "", "sas: cannot open the plan\n")),
     Request(["plan", "-", "-"], [], End(2, "", "sas: standard input used twice\n")),
+    # it opens no file, so nothing is replaced
+    Request(VERSION, [], End(0, "sas 1.1.0\n")),
 )
 
 
@@ -77,6 +80,8 @@ def ends_of(request, closed, unreadable):
     """Returns the files that a request opens, and how it ends, as if its end were seen on closed streams, too."""
     if request.end.status == 2:
         return [], request.end
+    if request.words == VERSION:
+        return [], End(3, "", "sas: write failed\n") if "output" in closed else request.end
     if closed and unreadable == NULL:
         return [NULL], End(3, "", "sas: cannot open /dev/null\n")
     replaced = [NULL for _ in closed]

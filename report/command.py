@@ -34,7 +34,7 @@ class Program:
 
     def __init__(self, path, task):
         self.path, self.task = path, copy(task)
-        self.version = text(self.printed([0, 2], "--version").strip())
+        self.version = text(self.printed([0], "--version").strip())
 
     def printed(self, statuses, *words, files=()):
         """Returns what `sas` prints about files."""
@@ -54,7 +54,7 @@ class Program:
             raise NoAnswer("%s: %s" % (self.path, text(said, 1000) or "it ended with status %d" % ran.returncode))
         if size > SHOWN:
             raise TooLarge(size)
-        return output or said
+        return output
 
     def answers(self, plan):
         """Returns the reasons and the trace of a plan."""

@@ -22,7 +22,7 @@ import importlib.util
 from typing import Sequence
 
 from ._program import REQUESTS, run
-from ._streams import INVALID_ARGUMENTS, write_error
+from ._streams import INVALID_ARGUMENTS, YES, write_error, write_out
 
 
 def main(words: Sequence[str]) -> int:
@@ -38,7 +38,10 @@ def main(words: Sequence[str]) -> int:
     if command == "report":
         write_error("python -m sas report: it isn't installed")
         return INVALID_ARGUMENTS
-    write_error(f"sas {__version__}" if command == "--version" else str(__doc__).rstrip())
+    if words in (["--version"], ["-V"]):
+        write_out(f"sas {__version__}\n".encode())
+        return YES
+    write_error(str(__doc__).rstrip())
     return INVALID_ARGUMENTS
 
 
