@@ -508,7 +508,7 @@ def table_tests(_, sas, folder):
     expected = make_runs(place)
     ran = tables(sas, "runs", cwd=folder)
     rows = [tuple(row) for row in csv.reader(io.StringIO(ran.stdout.decode(), newline=""))]
-    got = [(*(it.replace("runs/", "") for it in row[:2]), *row[2:6], re.sub("(?<= damaged).*", "", row[6])) for row in rows[1:]]
+    got = [(*(it.replace("runs/", "") for it in row[:2]), *row[2:6], re.sub("(?<= damaged).*", "", row[-1])) for row in rows[1:]]
     yield "a table of folders", [f"{one}, not {other}" for one, other in itertools.zip_longest(got, expected) if one != other]
     yield "the names of columns", differs((True, ",".join(rows[0]).encode()), (True, COLUMNS.encode()))
     said = b"18 rows of 11 tasks: 6 valid, 1 invalid, 4 refused, 7 without an answer\n"
@@ -518,6 +518,11 @@ def table_tests(_, sas, folder):
         same = (again.returncode, again.stdout, again.stderr) == (ran.returncode, ran.stdout, ran.stderr)
         yield f"the same by {words}", [] if same else [f"{again}"]
     yield from form_tests(sas, folder, rows)
+    yield from many_tests(sas, folder)
+
+
+def many_tests(sas, folder):
+    """Yields tables of more plans than a process judges at a time, of a task that is a file, and of one that can be read only once."""
     many = [os.path.join(folder, f"plan.{number}") for number in range(450)]
     for path in many:
         write(path, read(f"{FUSES}.plan") if path[-1] != "7" else b"")
@@ -526,6 +531,9 @@ def table_tests(_, sas, folder):
         lines = [f"{FUSES_FILES[0]},{path}," + ("refused,plan,,,line 1: end" if path[-1] == "7" else "valid,,4,4,") for path in many]
         expected = True, "\n".join([COLUMNS, *lines, ""]).encode()
         yield f"many plans of one task, --jobs {jobs}", differs((ran.returncode == 1, ran.stdout), expected)
+        ran = tables(sas, "/dev/stdin", *many, "--jobs", jobs, input=read(FUSES_FILES[0]))
+        expected = True, expected[1].replace(FUSES_FILES[0].encode(), b"/dev/stdin")
+        yield f"many plans of standard input, --jobs {jobs}", differs((ran.returncode == 1, ran.stdout), expected)
 
 
 def form_tests(sas, folder, rows):
@@ -776,11 +784,18 @@ def faults(task: sas.Task, plan: bytes) -> List[sas.Fact]:
     return [cause.required for operator in reasons.operators for cause in operator.causes] if reasons else []
 
 
+def trace_of(task: sas.Task, plan: bytes) -> sas.Answer:
+    try:
+        return task.trace(plan, max_answer_bytes=9)
+    except sas.AnswerTooLong as fault:
+        return sas.trace(b"", plan, max_answer_bytes=fault.size)
+
+
 def main() -> None:
-    with sas.Task.from_file(pathlib.Path("output.sas")) as task:
+    with sas.Task.from_file(pathlib.Path("output.sas"), max_bytes=9) as task:
         answer: sas.Answer = task.plan_operators(array.array("I", [1]), 1)
         costs: List[Optional[int]] = [it.cost for it in task.plans([b"", bytearray()])]
-        names: List[bytes] = [change.name for step in task.trace(b"").trace_steps for change in step.changes]
+        names: List[bytes] = [change.name for step in trace_of(task, b"").trace_steps for change in step.changes]
         if answer.verdict is sas.Verdict.INVALID and answer.refused_file is not sas.File.TASK:
             print(costs, names, faults(task, b""), answer.reason)
 '''

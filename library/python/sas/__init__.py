@@ -37,8 +37,9 @@ from typing import Any, Callable, Iterable, List, NoReturn, Optional, Tuple
 
 from . import _streams
 
-# `python -m sas` imports this package first. Only then does it know its name, and it can't catch what is wrong here
-if sys.argv[:1] == ["-m"]:
+# `python -m sas` imports this package before its own module, which so can't catch what goes wrong here
+_hook = sys.excepthook
+if getattr(sys, "argv", [])[:1] == ["-m"]:
     sys.excepthook = _streams.end_import
 
 from . import _files, _library
@@ -314,3 +315,4 @@ def _after_fork() -> None:
 
 
 os.register_at_fork(after_in_child=_after_fork)
+sys.excepthook = _hook

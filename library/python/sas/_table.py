@@ -154,9 +154,10 @@ def _works(files: Sequence[str]) -> Optional[List[Work]]:
 
 
 def _parts(work: Work) -> Iterator[Work]:
-    """Yields work of a size that processes can share."""
-    for place in range(0, max(1, len(work.plans)), _TOGETHER):
-        yield work._replace(plans=work.plans[place : place + _TOGETHER])
+    """Yields work of a size that processes can share. A task that is a pipe is read once."""
+    size = _TOGETHER if os.path.isfile(work.task) else max(1, len(work.plans))
+    for place in range(0, max(1, len(work.plans)), size):
+        yield work._replace(plans=work.plans[place : place + size])
 
 
 def _works_below(top: str) -> Iterator[Work]:
