@@ -12,10 +12,11 @@
 #
 # `make lib`, `make dist` and `make deb` take PLATFORM: x86_64-linux, if left out, or aarch64-linux, of which docs/INSTALL.md says more.
 #
-# `rt`, the command of the toolchain, has to be on the PATH, and python3; `make lib`, `make dist`, `make deb` and `make test` want a C
-# compiler, $CC or cc, too, and for aarch64-linux $CC or aarch64-linux-gnu-gcc. The tests use what is there of gcc, g++, clang, clang++,
-# rustc, cargo, cmake, pkg-config, pip, nm, readelf, valgrind, GNU parallel, Slurm, qemu-aarch64-static, dpkg-deb and apt-get; .ci/run
-# installs some of these. JOBS is how many processors `make` and `make lib` use to prove; each takes one to four GB.
+# `rt`, the command of the toolchain, has to be on the PATH where something is proved, and python3; `make lib`, `make dist`, `make deb` and
+# `make test` want a C compiler, $CC or cc, too, and for aarch64-linux $CC or aarch64-linux-gnu-gcc. The tests use what is there of gcc,
+# g++, clang, clang++, rustc, cargo, cmake, pkg-config, pip, nm, readelf, valgrind, GNU parallel, Slurm, qemu-aarch64-static,
+# qemu-x86_64-static, dpkg-deb and apt-get; .ci/run installs some of these. JOBS is how many processors `make` and `make lib` use to prove;
+# each takes one to four GB.
 
 JOBS ?= $(shell nproc)
 

@@ -6,9 +6,9 @@
 Each request and each flag that `sas --help` names stands in README.md, in the manual page and in each completion, and none stands there
 that it doesn't name. Each line that the program may print on standard error stands in docs/GUIDE.md and in the manual page. The version
 is one: that of the program, of the first entry of CHANGELOG.md, of the packages of the library, of CITATION.cff and of the manual page.
-Links of documents lead to files. The function that docs/ARCHITECTURE.md shows is that of its crate. The manual page of sas-report has the
-flags of its help. The completions are tried in bash and in fish and read by zsh, and the manual pages by mandoc, where these are there;
-what isn't there is named in a line that begins with `without`.
+CITATION.cff has what it requires. Links of documents lead to files. The function that docs/ARCHITECTURE.md shows is that of its crate. The
+manual page of sas-report has the flags of its help. The completions are tried in bash and in fish and read by zsh, and the manual pages by
+mandoc, where these are there; what isn't there is named in a line that begins with `without`.
 
 No proof reads these files. A request that no page names, or a page of another version, would be found here alone.
 """
@@ -164,6 +164,13 @@ def version_cases(sas):
         yield f"version of {file}", [] if found and found[1] == version else [f"{found and found[1]}, not {version}"]
 
 
+def citation_cases():
+    """Yields the fields of CITATION.cff that its schema requires."""
+    text = text_of(os.path.join(TOP, "CITATION.cff"))
+    fields = ("cff-version: 1.2.0", "message: ", "title: ", "authors:\n  - name: ")
+    yield "CITATION.cff", [it for it in fields if f"\n{it}" not in f"\n{text}"]
+
+
 def link_cases(top=TOP):
     """Yields the links of each document of the repository, or of a release in a folder."""
     for document in documents(top):
@@ -181,8 +188,8 @@ def code_cases():
 def main(sas):
     sas = os.path.abspath(sas)
     requests = requests_of(sas)
-    cases = [*page_cases(requests), *report_cases(), *diagnostic_cases(), *completion_cases(requests), *version_cases(sas), *link_cases()]
-    cases += [*code_cases(), *mandoc_cases()]
+    cases = [*page_cases(requests), *report_cases(), *diagnostic_cases(), *completion_cases(requests), *version_cases(sas)]
+    cases += [*citation_cases(), *link_cases(), *code_cases(), *mandoc_cases()]
     report.end([{"name": name} for name, _ in cases], [found for _, found in cases])
 
 
