@@ -40,7 +40,7 @@ pub use Rattle.sas_meaning.specs.declared.layered.LayerFault.{LayerFault}
 pub use Rattle.sas_meaning.specs.declared.layered.LayerFault.TheVariants.{Memory, EffectOnDerived, RuleOnBasic, OldValue, TwoValues, LayerOrder}
 pub use Rattle.sas_mutex.proofs.Failing.{fails_not_kept, some_failure, some_first, one_first, first_too}
 pub use Rattle.sas_mutex.proofs.TaskFacts.{group_facts}
-pub use Rattle.sas_mutex.specs.Failures.{IsFailure, IsFirstFailure}
+pub use Rattle.sas_mutex.specs.Failures.{IsFailure, IsFirstFailure, FailsFirst}
 pub use Rattle.sas_mutex.specs.declared.failures.Failure.{Failure}
 pub use Rattle.sas_answers.proofs.Pushed.{pushes_then}
 pub use Rattle.sas_answers.proofs.Sent.{ends_counting_as, writes_as}

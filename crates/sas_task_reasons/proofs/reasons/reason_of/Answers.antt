@@ -1,9 +1,11 @@
 -- Where no fact is on a derived variable, or no two different ones hold, the verdict is another one.
 use Rattle.std.proofs.lemmas.Grind.{common_steps}
 use Rattle.std.proofs.lemmas.Grind.{elements}
-use Rattle.sas_task_reasons.proofs.Imports.{arith, ◌≡◌, ◌<◌, ◌==◌, None, List, length, sym, subst, ◌∙◌, All, ◌&&◌, find, not, is_some, Fact, fact_within, group_facts, holds, layer_of}
+use Rattle.sas_task_reasons.proofs.Imports.{arith, Option, IsSomeAnd, Failure, FailsFirst, ◌≡◌, ◌<◌, ◌==◌, None, List, length, sym, subst, ◌∙◌, All, ◌&&◌, find, not, is_some, Fact, fact_within, group_facts, holds, layer_of}
 use Rattle.sas_task_reasons.proofs.GroupReasons.{all_basic, exclusive_without, exclusive_beside}
 use Rattle.sas_task_reasons.proofs.reasons.reason_of.Goals as goal
+use Rattle.sas_task_reasons.proofs.reasons.reason_of.Given.{Over}
+use Rattle.sas_task_reasons.proofs.reasons.reason_of.Goals.{After-branch-failure}
 
 pub first_initial-requires : goal.first_initial-requires
 first_initial-requires g c =
@@ -39,3 +41,19 @@ first_derived-requires g c = grind (arith, elements)
 
 pub returns-in_ok-second-in-Initial : goal.returns-in_ok-second-in-Initial
 returns-in_ok-second-in-Initial g c = grind (arith, common_steps)
+
+-- a failure of the operator that breaks the group was noted
+noted : (g : Over) (c : After-branch-failure g) → IsSomeAnd c.args.failure (FailsFirst c.args.task.now c.args.group c.in-Broken.operator)
+noted g c = c.requires.failure c.in-Broken.operator c.in-Broken.is
+
+pub returns-in_err-failure-in-Broken : goal.returns-in_err-failure-in-Broken
+returns-in_err-failure-in-Broken g c =
+    absurd (subst (λ (found : Option Failure). IsSomeAnd found (FailsFirst c.args.task.now c.args.group c.in-Broken.operator)) c.in_err-failure-in-Broken.was
+    (noted g (goal.at.returns-in_err-failure-in-Broken g c).After-branch-failure))
+
+pub returns-in_ok-failure-in-Broken : goal.returns-in_ok-failure-in-Broken
+returns-in_ok-failure-in-Broken g c = record {
+  reported = c.in-Broken.is;
+  says = subst (λ (found : Option Failure). IsSomeAnd found (FailsFirst c.args.task.now c.args.group c.in-Broken.operator)) c.in_ok-failure-in-Broken.was
+      (noted g (goal.at.returns-in_ok-failure-in-Broken g c).After-branch-failure);
+}
