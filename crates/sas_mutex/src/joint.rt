@@ -201,7 +201,8 @@ fn find_breaking<T: Grounded>(
 {
     let groups = indexed.task.groups();
     // Usually no group is left.
-    if !some_fell(groups, checker.family.kept.as_slice(), found.verdicts.as_slice()) {
+    let kept = checker.family.kept.as_slice();
+    if !some_fell(groups, kept, found.verdicts.as_slice()) {
         return;
     }
     for operator in 0..indexed.task.operators() {
@@ -309,7 +310,8 @@ fn judge_groups<T: Grounded>(
     ensures judged { let f = firing.now in
         AreJudged f.task f.operator f.effect checker.new.family found.new }
     ensures as_many { length found.new.failures ≡ length found.old.failures }
-    ensures these { All (IsJudgedAt firing.now checker.new.family.kept found.new.verdicts) groups.now }
+    ensures these { let kept = checker.new.family.kept in
+        All (IsJudgedAt firing.now kept found.new.verdicts) groups.now }
     ensures checking { IsChecking firing.now checker.new }
 {
     for group in groups {
@@ -338,11 +340,13 @@ fn judge_group<T: Grounded>(
     ensures kept { checker.new.family.kept ≡ checker.old.family.kept }
     ensures checking { IsChecking firing.now checker.new }
 {
-    if is_undecided(group, checker.family.kept.as_slice(), found.verdicts.as_slice())
+    let kept = checker.family.kept.as_slice();
+    if is_undecided(group, kept, found.verdicts.as_slice())
         && !checker.keeps_removed(firing, group)
     {
         let operator = firing.operator;
-        found.verdicts.set(group as usize, Verdict::Broken { operator });
+        let broken = Verdict::Broken { operator };
+        found.verdicts.set(group as usize, broken);
         note_failure(firing, group, checker, &mut found.failures);
     }
 }

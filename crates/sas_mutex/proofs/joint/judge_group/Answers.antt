@@ -21,7 +21,7 @@ first g c wanted =
     let f = c.args.firing.now in
     let kept = c.args.checker.now.family.kept in
     let found = failure_at c.note_failure.new.failures c.args.group in
-    let undecided = rw (c.as_slice.ensures, c.as_slice-2.ensures) at (c.is_undecided.ensures.0 c.if-is_undecided.true) in
+    let undecided = rw (c.as_slice-kept.ensures, c.as_slice.ensures) at (c.is_undecided.ensures.0 c.if-is_undecided.true) in
     let out = λ (w : IsIn f.task (family_of kept) c.args.group). both_ways (family_of kept c.args.group) undecided.fell w.chosen in
     let so_far = subst (IsVerdictSoFar f.task kept f.operator f.effect c.args.group) undecided.nothing (c.requires.judged.so_far.are c.args.group c.requires.has.exists) in
     let is = c.keeps_removed.ensures.kept in
@@ -61,7 +61,7 @@ returns-else-is_undecided-clause-this g c =
           (so_far_by f.task kept f.operator f.effect f.operator (f.effect + 1) c.args.group (verdict_at verdicts c.args.group)
           (λ out. one_effect_more f.task kept f.operator f.effect c.args.group (λ _. w.keeps_removed.ensures.is.0 w.if-not-keeps_removed.false)) so_far)
       | else-is_undecided-via-else-is_undecided w ↦ rw w.checker-is (decided_already f.task kept f.operator f.effect c.args.group verdicts c.requires.has.exists
-          (λ undecided. iff_not c.is_undecided.ensures w.if-is_undecided.false (rw (c.as_slice.ensures, c.as_slice-2.ensures) undecided)) so_far)
+          (λ undecided. iff_not c.is_undecided.ensures w.if-is_undecided.false (rw (c.as_slice-kept.ensures, c.as_slice.ensures) undecided)) so_far)
     ]
 
 pub returns-else-is_undecided-clause-checking : goal.returns-else-is_undecided-clause-checking

@@ -1,5 +1,5 @@
 -- One more group.
-use Rattle.sas_task_reasons.proofs.Imports.{◌≡◌, suc, ◌+◌, [], ◌∷◌, ◌++◌, sym, subst, arith}
+use Rattle.sas_task_reasons.proofs.Imports.{◌≡◌, suc, ◌+◌, [], ◌∷◌, ◌++◌, subst, arith}
 use Rattle.sas_task_reasons.proofs.GroupAnswers.{AreReasonsBelow, one_more}
 use Rattle.sas_task_reasons.proofs.reasons.group_reasons.Goals as goal
 
