@@ -1,6 +1,6 @@
 -- The first failure of one effect, from the lowest effect that may set another fact and the first
 -- fact that may remain.
-use Rattle.sas_mutex.proofs.Imports.{◌≡◌, ℕ, ◌<◌, ◌≤◌, Bool, List, length, get_or, Option, Some, refl, sym, ap, subst, inl, inr, arith, slice_get-get_or, get_or_from_slice_get, slice_get_within, Contains, slice_get, IfSome, IfNone, Fact, effect_at, group_at, sets, IsKept, EffectPlace, operator_of, NotBothAt, IsGoneAt, EffectKeepsGroup, Failure, SetsTwo, MayStay, IsFailure, IsEarlier, effect_of_failure, IsLowestPartner, IsAny, IsFirstStaying, IsFirstOfEffect}
+use Rattle.sas_mutex.proofs.Imports.{◌≡◌, ℕ, ◌<◌, ◌≤◌, Bool, List, length, get_or, Some, refl, sym, ap, subst, inl, inr, arith, slice_get-get_or, get_or_from_slice_get, slice_get_within, Contains, slice_get, Fact, effect_at, group_at, sets, IsKept, EffectPlace, operator_of, NotBothAt, IsGoneAt, EffectKeepsGroup, Failure, SetsTwo, MayStay, IsFailure, IsEarlier, effect_of_failure, IsLowestPartner, IsAny, IsFirstStaying, IsFirstOfEffect}
 use Rattle.sas_mutex.proofs.Least.{item_at, stands_at}
 use Rattle.sas_mutex.proofs.Failing.{two_fails, stay_fails}
 
@@ -78,10 +78,3 @@ module _ (f : EffectPlace) (kept : List Bool) (place : ℕ) where
     single = single;
     others = λ x among. first.below among.0 x (let lt = among.1 in omega arith) (stands_at (group_at f.task place) x among);
   }
-
--- the failure that was found, in other words
-pub if_some_so : {A : Type 0} (found : Option A) (P Q : A → Type 0) → ((x : A) → P x → Q x) → IfSome found P → IfSome found Q
-if_some_so h1 h2 h3 so is = grind arith
-
-pub if_none_so : {A : Type 0} (found : Option A) (P Q : Type 0) → (P → Q) → IfNone found P → IfNone found Q
-if_none_so h1 h2 h3 so is = grind arith

@@ -1,6 +1,6 @@
 -- What the proofs use of other crates, and of the definitions of this one.
 pub use Rattle.std.proofs.lemmas.Option.{same_Some, slice_get-get_or, get_or_from_slice_get, slice_get_within}
-pub use Rattle.std.proofs.Common.{◌≡◌, ℕ, ◌+◌, ◌≤◌, Bool, true, false, List, [], ◌∷◌, length, get_or, set, sym, zero, suc, arith, ◌<◌, ◌++◌, drop, refl, ◌∙◌, ap, subst, inl, inr, append-nil, ◌≢◌, ◌⊎◌, None, Some, take, Option, IfSome, vec_capacity, ◌↔◌, IsTrue, ◌^◌, ◌-◌, ◌||◌, below_more, rules, IsFalse, replicate, IfNone, slice_get, min, IsSomeAnd}
+pub use Rattle.std.proofs.Common.{◌≡◌, ℕ, ◌+◌, ◌≤◌, Bool, true, false, List, [], ◌∷◌, length, get_or, set, sym, zero, suc, arith, ◌<◌, ◌++◌, drop, refl, ◌∙◌, ap, subst, inl, inr, append-nil, ◌≢◌, ◌⊎◌, None, Some, take, Option, IfSome, vec_capacity, ◌↔◌, IsTrue, ◌^◌, ◌-◌, ◌||◌, below_more, rules, IsFalse, replicate, slice_get, min, IsSomeAnd}
 pub use Rattle.std.proofs.Math.ListN.{get_or-eq_default}
 pub use Rattle.std.proofs.Math.Seq.{get_or-append_seam}
 pub use Rattle.std.proofs.lemmas.Bool.{true≢false, cases_eq, cases_Bool, both_ways, cases_lt, and_parts, cases_order}
@@ -53,7 +53,7 @@ pub use Rattle.sas_groups.specs.declared.verdict.Verdict.{Verdict}
 pub use Rattle.sas_groups.specs.declared.verdict.Verdict.TheVariants.{Derived, Initial, Broken, Exclusive}
 pub use Rattle.sas_meaning.specs.Steps.{preconditions, old_fact}
 pub use Rattle.sas_mutex.specs.Basis.{AreNotedWith, IsPartOf, Excludes, HasGrown, IsBasis, IsOfNone, SetsNone}
-pub use Rattle.sas_mutex.specs.ByNotes.{IsNotedAt, ShareOne, AreKnown, IsMet, SomeRemoves, IsNotedFor, known_at, IsUnknownAt, IsGoneAt, IsDecidedByFirst, NeverFires, NotBothAt, BothClashAt, SetsBeside, IsApartAt, IsSingleOn, ClashesAt, SetsOtherValue, EffectKeepsGroupWithItself, EffectKeepsGroup, AreGoneAt, IsOnVariableBefore}
+pub use Rattle.sas_mutex.specs.ByNotes.{IsNotedAt, ShareOne, AreKnown, IsMet, SomeRemoves, IsNotedFor, known_at, IsUnknownAt, IsGoneAt, IsDecidedByFirst, NeverFires, NotBothAt, BothClashAt, SetsBeside, IsApartAt, IsSingleOn, ClashesAt, SetsOtherValue, EffectKeepsGroup, AreGoneAt, IsOnVariableBefore}
 pub use Rattle.sas_mutex.specs.Effects.{IsKept, KeepsAt, KeepsWithItself, IsUnconditional, EffectPlace, operator_of, effect_of}
 pub use Rattle.sas_mutex.specs.Failures.{IsFailure, IsEarlier, IsFirstFailure, FailsFirst, failure_at, AreFailures}
 pub use Rattle.sas_mutex.specs.Falling.{count, IsAtRest, AreCandidates, newly, Falls, FamilyHasRoom, RestsOn, IsWithin}

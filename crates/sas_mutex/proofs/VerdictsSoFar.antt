@@ -1,5 +1,5 @@
 -- The verdicts after each effect and each operator.
-use Rattle.sas_mutex.proofs.Imports.{rules, common_steps, below_more, ◌≡◌, ◌≢◌, ℕ, ◌+◌, ◌<◌, Bool, true, false, List, [], ◌∷◌, ◌++◌, length, set, refl, sym, ◌∙◌, ap, subst, inl, inr, arith, cases_eq, cases_Bool, both_ways, length_push, get_or_push, get_or_append_left, length-set, get_or-set_same, get_or-set_other, set-set, set-get_or, All-from_get_or, Contains, ◌↔◌, IsTrue, Fact, Operator, Parts, operator_at, effect_at, group_at, EffectKeeps, keeps_from_effects, effect_of_keeps, Marks, IsKept, KeepsWithItself, AreCandidates, AreFirstVerdicts, IsUndecided, KeptSoFar, IsVerdictSoFar, AreVerdictsSoFar, IsNotedFor, known_at, Verdict, Exclusive, Derived, Initial, Broken, Clash, Keeps, sets, MayBeExclusive, IsIn, IsGroupOfOr, IsGreatest, IsJointVerdict, IsFirstVerdict, outside_is_broken, clash_more, GroupNote, Several, family_of, HasFactBeside, verdict_at, AreJointVerdicts, IsGroupNote, at_most_one, get_or_past, cases_lt, Option, None, Some, IfSome, IfNone, IsSomeAnd, EffectPlace, EffectKeepsGroupWithItself, Failure, FailsFirst, failure_at, AreFailures, effect_of_failure, IsFirstOfEffectAt, operator_of}
+use Rattle.sas_mutex.proofs.Imports.{rules, common_steps, below_more, ◌≡◌, ◌≢◌, ℕ, ◌+◌, ◌<◌, Bool, true, false, List, [], ◌∷◌, ◌++◌, length, set, refl, sym, ◌∙◌, ap, subst, inl, inr, arith, cases_eq, cases_Bool, both_ways, length_push, get_or_push, get_or_append_left, length-set, get_or-set_same, get_or-set_other, set-set, set-get_or, All-from_get_or, Contains, ◌↔◌, IsTrue, Fact, Operator, Parts, operator_at, effect_at, group_at, EffectKeeps, keeps_from_effects, effect_of_keeps, Marks, IsKept, KeepsWithItself, AreCandidates, AreFirstVerdicts, IsUndecided, KeptSoFar, IsVerdictSoFar, AreVerdictsSoFar, IsNotedFor, known_at, Verdict, Exclusive, Derived, Initial, Broken, Clash, Keeps, sets, MayBeExclusive, IsIn, IsGroupOfOr, IsGreatest, IsJointVerdict, IsFirstVerdict, outside_is_broken, clash_more, GroupNote, Several, family_of, HasFactBeside, verdict_at, AreJointVerdicts, IsGroupNote, at_most_one, get_or_past, cases_lt, Option, None, Some, IsSomeAnd, EffectPlace, Failure, FailsFirst, failure_at, AreFailures, effect_of_failure, IsFirstOfEffectAt, operator_of}
 use Rattle.sas_mutex.proofs.Keeping.{effect_keeps_more, keeps_if_beside}
 use Rattle.sas_mutex.proofs.KnownFacts.{several_clash}
 use Rattle.sas_mutex.proofs.FromNotes.{clash_keeps}
@@ -78,7 +78,18 @@ module _ (p : Parts) (kept : List Bool) (place : ℕ) (exists : place < length p
     pub several_never_fire : IsGroupNote p (known_at p operator effect) place Several → KeepsWithItself p kept operator effect place
     several_never_fire note = never_fires operator effect (several_clash p (IsGroupOfOr p (family_of kept) (group_at p place)) (known_at p operator effect) place (inr refl) note)
 
-    -- where not several facts of it are known, nothing clashes for it
+    -- where the effect doesn't keep it, nothing clashes for it
+    pub noted_if_broken : (KeepsWithItself p kept operator effect place → ⊥) → IsNotedFor p (set kept place true) operator effect marks
+    noted_if_broken broken = record {
+      are = record {
+        noted = noted.are.noted;
+        apart = λ clash. broken (never_fires operator effect
+            (clash_more (IsKept p (set kept place true)) (IsGroupOfOr p (family_of kept) (group_at p place)) (known_at p operator effect) with_place clash));
+      };
+      from = noted.from;
+    }
+
+    -- nor where not several facts of it are known
     pub noted_with : (note : GroupNote) → IsGroupNote p (known_at p operator effect) place note → note ≢ Several → IsNotedFor p (set kept place true) operator effect marks
     noted_with note reports few = record {
       are = record {
@@ -243,12 +254,9 @@ one_broken p operator place verdicts before after exists as_many others here fai
 ]
 
 -- the first failure of the first effect that doesn't preserve the group is that of its operator
-pub failure_here : (f : EffectPlace) (kept : List Bool) (place : ℕ) (failure : Option Failure) → IsGreatest f.task (family_of kept)
-    → KeptSoFar f.task kept f.operator f.effect place → (EffectKeepsGroupWithItself f kept place → ⊥)
-    → IfSome failure (IsFirstOfEffectAt f kept place) → IfNone failure (EffectKeepsGroupWithItself f kept place)
-    → IsSomeAnd failure (FailsFirst f.task place f.operator)
-failure_here f kept place None greatest so_far broken first none = absurd (broken none)
-failure_here f kept place (Some failure) greatest so_far broken first none = (
+pub failure_here : (f : EffectPlace) (kept : List Bool) (place : ℕ) (failure : Failure) → IsGreatest f.task (family_of kept)
+    → KeptSoFar f.task kept f.operator f.effect place → IsFirstOfEffectAt f kept place failure → FailsFirst f.task place f.operator failure
+failure_here f kept place failure greatest so_far first = (
   family_of kept,
   greatest,
   first_of_all Counts (operator_of f) (group_at f.task place) f.effect failure first
@@ -258,3 +266,10 @@ failure_here f kept place (Some failure) greatest so_far broken first none = (
   where
     Counts : List Fact → Type 0
     Counts = IsGroupOfOr f.task (family_of kept) (group_at f.task place)
+
+-- and so of a failure that is noted
+pub noted_here : (f : EffectPlace) (kept : List Bool) (place : ℕ) (failure : Option Failure) → IsGreatest f.task (family_of kept)
+    → KeptSoFar f.task kept f.operator f.effect place → IsSomeAnd failure (IsFirstOfEffectAt f kept place)
+    → IsSomeAnd failure (FailsFirst f.task place f.operator)
+noted_here f kept place None greatest so_far first = first
+noted_here f kept place (Some failure) greatest so_far first = failure_here f kept place failure greatest so_far first

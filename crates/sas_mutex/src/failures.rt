@@ -1,6 +1,7 @@
 // The first failure of an effect to preserve a group.
-ghost use Rattle.std.specs.Prelude.{◌≡◌, ◌<◌, length, Contains, IfSome, IfNone};
+ghost use Rattle.std.specs.Prelude.{◌≡◌, Contains};
 ghost use Rattle.sas_core.specs.Grounded.{group_at};
+ghost use Rattle.sas_groups.specs.ByFact.{HasFact};
 ghost use Rattle.sas_groups.specs.Clashes.{sets};
 ghost use Rattle.sas_groups.specs.Families.{IsIn};
 ghost use Rattle.sas_groups.specs.Runs.{family_of};
@@ -24,25 +25,21 @@ pub enum Failure {
 }
 
 /// Returns the first failure of the effect to preserve the group, assuming the family and the group itself. The group must contain the fact
-/// that the effect sets. The known facts must be recorded and must not clash. The family is unchanged on return.
+/// that the effect sets, and the effect must not preserve it. The known facts must be recorded and must not clash. The family is unchanged on
+/// return.
 pub fn first_failure<T: Grounded>(
     firing: &FiringEffect<'_, '_, T>,
     group: u32,
     kept: &mut Items<bool>,
     marks: &mut Marks,
-) -> Option<Failure>
+) -> Failure
     requires notes { IsNotedAt firing.now kept.old marks.old }
-    requires group { group < length firing.now.task.groups }
-    requires has { Contains (group_at firing.now.task group) (sets (effect_of firing.now)) }
-    ensures some { IfSome result (IsFirstOfEffectAt firing.now kept.old group) }
-    ensures none { IfNone result (EffectKeepsGroupWithItself firing.now kept.old group) }
+    requires has { HasFact firing.now.task group (sets (effect_of firing.now)) }
+    requires broken { EffectKeepsGroupWithItself firing.now kept.old group → ⊥ }
+    ensures first { IsFirstOfEffectAt firing.now kept.old group result }
     ensures kept { kept.new ≡ kept.old }
     ensures notes { IsNotedAt firing.now kept.old marks.new }
 {
-    // Two different facts of the group are known. Since the group is assumed to be exclusive, the effect never fires.
-    if firing.noted(group, marks).is_several() {
-        return None;
-    }
     let counts = kept.as_slice()[group as usize];
     kept.set(group as usize, true);
     let failure = failure_by_notes(firing, group, kept.as_slice(), marks);
@@ -50,33 +47,29 @@ pub fn first_failure<T: Grounded>(
     failure
 }
 
-/// Returns the first failure of the effect to preserve the group, which must be in the family. The known facts must be recorded and must
-/// not clash.
+/// Returns the first failure of the effect to preserve the group, which must be in the family. The effect must not preserve it. The known
+/// facts must be recorded and must not clash.
 fn failure_by_notes<T: Grounded>(
     firing: &FiringEffect<'_, '_, T>,
     group: u32,
     kept: &[bool],
     marks: &mut Marks,
-) -> Option<Failure>
+) -> Failure
     requires notes { IsNotedAt firing.now kept.now marks.old }
     requires group { IsIn firing.now.task (family_of kept.now) group }
     requires has { Contains (group_at firing.now.task group) (sets (effect_of firing.now)) }
-    ensures some { let f = firing.now in IfSome result
-        (IsFirstOfEffect (IsKept f.task kept.now) (operator_of f) (group_at f.task group)
-        f.effect) }
-    ensures none { IfNone result (EffectKeepsGroup firing.now kept.now group) }
+    requires broken { EffectKeepsGroup firing.now kept.now group → ⊥ }
+    ensures first { let f = firing.now in IsFirstOfEffect (IsKept f.task kept.now)
+        (operator_of f) (group_at f.task group) f.effect result }
     ensures notes { IsNotedAt firing.now kept.now marks.new }
 {
     let effect = firing.effect;
     let other = lowest_together(firing, kept, group, marks);
     if other < firing.task.effects(firing.operator) {
-        return Some(Failure::SetsTwo { effect, other });
+        return Failure::SetsTwo { effect, other };
     }
     let place = first_staying(firing, kept, group, marks);
-    if place < firing.task.group(group).len() {
-        return Some(Failure::MayStay { effect, place });
-    }
-    None
+    Failure::MayStay { effect, place }
 }
 
 /// Returns the index of the first fact of the group that may remain when the effect fires, or the number of its facts if none may.
@@ -93,10 +86,6 @@ fn first_staying<T: Grounded>(
     // For the proof: accessing a field makes the invariant of the effect available.
     let _ = &firing.task;
     let facts = firing.task.group(group);
-    // Usually none may. Finding this out takes less time than finding the first one.
-    if firing.removes_others(kept, group, marks) {
-        return facts.len();
-    }
     for (place, fact) in facts.iter().enumerate() {
         if !firing.is_gone(kept, *fact, marks) {
             return place;

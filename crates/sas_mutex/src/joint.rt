@@ -1,5 +1,5 @@
 // The joint verdicts on groups.
-ghost use Rattle.std.specs.Prelude.{◌≡◌, ◌≢◌, ℕ, ◌+◌, ◌<◌, ◌≤◌, ◌↔◌, [], length, All, IfOk, IfSome, IfNone, IsTrue, IsFalse, vec_capacity};
+ghost use Rattle.std.specs.Prelude.{◌≡◌, ◌≢◌, ℕ, ◌+◌, ◌<◌, ◌≤◌, ◌↔◌, [], length, All, IfOk, IsSomeAnd, IsTrue, IsFalse, vec_capacity};
 ghost use Rattle.sas_groups.specs.Clashes.{sets};
 ghost use Rattle.sas_groups.specs.Families.{IsGreatest};
 ghost use Rattle.sas_groups.specs.declared.verdict.Verdict.{Verdict};
@@ -352,7 +352,7 @@ fn judge_group<T: Grounded>(
 }
 
 /// Notes the first failure of the effect to preserve the group, if failures are wanted. The group must contain the fact that the effect sets,
-/// and the known facts must be recorded.
+/// the effect must not preserve it, and the known facts must be recorded.
 fn note_failure<T: Grounded>(
     firing: &FiringEffect<'_, '_, T>,
     group: u32,
@@ -360,11 +360,10 @@ fn note_failure<T: Grounded>(
     failures: &mut Items<Option<Failure>>,
 )
     requires has { HasFact firing.now.task group (sets (effect_of firing.now)) }
+    requires broken { EffectKeepsGroupWithItself firing.now checker.old.family.kept group → ⊥ }
     requires checking { IsChecking firing.now checker.old }
-    ensures some { group < length failures.old → IfSome (failure_at failures.new group)
+    ensures noted { group < length failures.old → IsSomeAnd (failure_at failures.new group)
         (IsFirstOfEffectAt firing.now checker.old.family.kept group) }
-    ensures none { group < length failures.old → IfNone (failure_at failures.new group)
-        (EffectKeepsGroupWithItself firing.now checker.old.family.kept group) }
     ensures as_many { length failures.new ≡ length failures.old }
     ensures others { (place : ℕ) → place ≢ group
         → failure_at failures.new place ≡ failure_at failures.old place }
@@ -374,6 +373,6 @@ fn note_failure<T: Grounded>(
     if (group as usize) < failures.len() {
         let kept = &mut checker.family.kept;
         let failure = first_failure(firing, group, kept, &mut checker.marks);
-        failures.set(group as usize, failure);
+        failures.set(group as usize, Some(failure));
     }
 }

@@ -5,11 +5,6 @@ use Rattle.sas_mutex.proofs.TaskFacts.{group_facts}
 use Rattle.sas_mutex.proofs.FirstOfEffect.{none_stays, one_stays}
 use Rattle.sas_mutex.proofs.failures.first_staying.Goals as goal
 
-pub returns-then-removes_others : goal.returns-then-removes_others
-returns-then-removes_others g c =
-    let gone = rw (← c.firing.view_is) at c.removes_others.ensures.0 in
-    rw (← c.firing.view_is) (none_stays _ c.args.kept.now c.group-facts.result.now _ c.group-facts.ensures (gone c.if-removes_others.true))
-
 pub returns-then-not-is_gone : goal.returns-then-not-is_gone
 returns-then-not-is_gone g c =
     let before = rw (← c.firing.view_is) at c.loop-place.invariant in

@@ -1,6 +1,6 @@
 -- The effect breaks the group, or the verdict is unchanged.
 use Rattle.sas_mutex.proofs.Imports.{◌≡◌, ◌+◌, ◌<◌, length, ap, subst, ◌∙◌, arith, both_ways, iff_not, get_or-set_same, Broken, Exclusive, IsJointVerdict, common_steps, verdict_at, sym, Family, EffectPlace, FailsFirst, failure_at, IsSomeAnd, IsIn, IsVerdictSoFar, family_of}
-use Rattle.sas_mutex.proofs.VerdictsSoFar.{broken_here, one_judged, so_far_by, one_effect_more, decided_already, one_broken, failure_here}
+use Rattle.sas_mutex.proofs.VerdictsSoFar.{broken_here, one_judged, so_far_by, one_effect_more, decided_already, one_broken, noted_here}
 use Rattle.sas_mutex.proofs.joint.judge_group.Goals as goal
 use Rattle.sas_mutex.proofs.joint.judge_group.Given.{Over}
 use Rattle.sas_mutex.proofs.joint.judge_group.Goals.{After-set, After-note_failure, else-is_undecided-via-then-is_undecided+else-not-keeps_removed, else-is_undecided-via-else-is_undecided}
@@ -26,8 +26,10 @@ first g c wanted =
     let so_far = subst (IsVerdictSoFar f.task kept f.operator f.effect c.args.group) undecided.nothing (c.requires.judged.so_far.are c.args.group c.requires.has.exists) in
     let is = c.keeps_removed.ensures.kept in
     subst (λ (s : EffectPlace). IsSomeAnd found (FailsFirst f.task c.args.group s.operator)) (sym c.firing.view_is)
-    (failure_here f kept c.args.group found c.requires.judged.greatest (so_far.1 out) (iff_not c.keeps_removed.ensures.is c.if-not-keeps_removed.true)
-    (rw is at (c.note_failure.ensures.some wanted)) (rw is at (c.note_failure.ensures.none wanted)))
+    (noted_here f kept c.args.group found c.requires.judged.greatest (so_far.1 out) (rw is at (c.note_failure.ensures.noted wanted)))
+
+pub note_failure-requires-clause-broken : goal.note_failure-requires-clause-broken
+note_failure-requires-clause-broken g c = rw c.keeps_removed.ensures.kept (iff_not c.keeps_removed.ensures.is c.if-not-keeps_removed.true)
 
 pub returns-then-not-keeps_removed-clause-judged : goal.returns-then-not-keeps_removed-clause-judged
 returns-then-not-keeps_removed-clause-judged g c =
