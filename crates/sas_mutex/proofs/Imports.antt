@@ -1,11 +1,11 @@
 -- What the proofs use of other crates, and of the definitions of this one.
-pub use Rattle.std.proofs.lemmas.Option.{same_Some}
-pub use Rattle.std.proofs.Common.{◌≡◌, ℕ, ◌+◌, ◌≤◌, Bool, true, false, List, [], ◌∷◌, length, get_or, set, sym, zero, suc, arith, ◌<◌, ◌++◌, drop, refl, ◌∙◌, ap, subst, inl, inr, append-nil, ◌≢◌, ◌⊎◌, None, Some, take, Option, IfSome, vec_capacity, ◌↔◌, IsTrue, ◌^◌, ◌-◌, ◌||◌, below_more, rules, IsFalse, replicate}
+pub use Rattle.std.proofs.lemmas.Option.{same_Some, slice_get-get_or, get_or_from_slice_get, slice_get_within}
+pub use Rattle.std.proofs.Common.{◌≡◌, ℕ, ◌+◌, ◌≤◌, Bool, true, false, List, [], ◌∷◌, length, get_or, set, sym, zero, suc, arith, ◌<◌, ◌++◌, drop, refl, ◌∙◌, ap, subst, inl, inr, append-nil, ◌≢◌, ◌⊎◌, None, Some, take, Option, IfSome, vec_capacity, ◌↔◌, IsTrue, ◌^◌, ◌-◌, ◌||◌, below_more, rules, IsFalse, replicate, slice_get, min, IsSomeAnd}
 pub use Rattle.std.proofs.Math.ListN.{get_or-eq_default}
 pub use Rattle.std.proofs.Math.Seq.{get_or-append_seam}
-pub use Rattle.std.proofs.lemmas.Bool.{true≢false, cases_eq, cases_Bool, both_ways, cases_lt, and_parts}
+pub use Rattle.std.proofs.lemmas.Bool.{true≢false, cases_eq, cases_Bool, both_ways, cases_lt, and_parts, cases_order}
 pub use Rattle.std.proofs.lemmas.Grind.{common_steps}
-pub use Rattle.std.proofs.lemmas.List.{append_assoc, drop_all, drop_at, length-append, length-set, get_or-set_same, get_or-set_other, get_or_default, take-append-drop, drop_more, length_push, get_or_past, get_or_push, get_or_append_left, set-set, set-get_or, get_or-append_right, length-replicate, get_or-replicate, take_more, take_all}
+pub use Rattle.std.proofs.lemmas.List.{append_assoc, drop_all, drop_at, length-append, length-set, get_or-set_same, get_or-set_other, get_or_default, take-append-drop, drop_more, length_push, get_or_past, get_or_push, get_or_append_left, set-set, set-get_or, get_or-append_right, length-replicate, get_or-replicate, take_more, take_all, length-take, get_or-take}
 pub use Rattle.std.proofs.lemmas.List.Elements.{All-nil, All-cons, All-append, All-from_get_or, Contains-append_left, Contains-append_right, Contains-push, Contains-push_cases, Contains-append_cases, Contains-get_or, All-contains, All-from_recursion, All-weaker, All-head, All-tail, All-get_or}
 pub use Rattle.std.specs.Global.{Vec}
 pub use Rattle.std.specs.List.{All, Any, Contains, filter_map, cons_option}
@@ -14,6 +14,7 @@ pub use Rattle.sas_core.proofs.Fitting.{operator_fits, effect_fits}
 pub use Rattle.sas_core.proofs.PlainEffects.{as_many_effects, effect_is_plain}
 pub use Rattle.sas_meaning.proofs.Members.{contains_none}
 pub use Rattle.sas_core.proofs.Places.{holds_at, each_more}
+pub use Rattle.sas_core.proofs.SameParts.{fact_same}
 pub use Rattle.sas_core.specs.Changes.{change_of, fact_of, plain_effects}
 pub use Rattle.sas_core.specs.Grounded.{operator_at, effect_at, group_at, no_effect}
 pub use Rattle.sas_core.specs.Variables.{FactExists, MayHaveValue}
@@ -33,7 +34,7 @@ pub use Rattle.sas_groups.proofs.JointLists.{listed_invariants}
 pub use Rattle.sas_groups.proofs.NotesOfFacts.{IsForgotten, a_note, apart_or_not, one_or_two, value_note_shows, no_value_note_shows, no_note_shows, some_note_shows, shared_turned, none_or_some, value_note_of, note_stays, note_changes, other_known, no_other, from_apart, noted_still, at_most_one, one_note_shows, completed, noted_less, forgotten_now, forgotten_still, blank_in_the_end, blank_same}
 pub use Rattle.sas_groups.proofs.Larger.{larger_groups_have}
 pub use Rattle.sas_groups.proofs.Turns.{Turns, turns_begin, turn_has, turn_more, turns_end}
-pub use Rattle.sas_groups.specs.Checks.{IsGone, IsFirstVerdict, AreGone, EffectKeeps}
+pub use Rattle.sas_groups.specs.Checks.{IsGone, IsFirstVerdict, AreGone, EffectKeeps, NotBoth}
 pub use Rattle.sas_groups.specs.Clashes.{Keeps, Clash, sets, Contradict, Removes, IsRemoved}
 pub use Rattle.sas_groups.specs.Distinct.{AreDistinct}
 pub use Rattle.sas_groups.specs.Families.{IsIn, IsGroupOf, IsGroupOfOr, IsKeptJointly, IsGreatest, MayBeExclusive}
@@ -52,13 +53,17 @@ pub use Rattle.sas_groups.specs.declared.verdict.Verdict.{Verdict}
 pub use Rattle.sas_groups.specs.declared.verdict.Verdict.TheVariants.{Derived, Initial, Broken, Exclusive}
 pub use Rattle.sas_meaning.specs.Steps.{preconditions, old_fact}
 pub use Rattle.sas_mutex.specs.Basis.{AreNotedWith, IsPartOf, Excludes, HasGrown, IsBasis, IsOfNone, SetsNone}
-pub use Rattle.sas_mutex.specs.ByNotes.{IsNotedAt, ShareOne, AreKnown, IsMet, SomeRemoves, IsNotedFor, known_at, IsUnknownAt, IsGoneAt, IsDecidedByFirst, NeverFires, NotBothAt, BothClashAt, SetsBeside, IsApartAt, IsSingleOn, ClashesAt, SetsOtherValue, EffectKeepsGroupWithItself, EffectKeepsGroup, AreGoneAt}
+pub use Rattle.sas_mutex.specs.ByNotes.{IsNotedAt, ShareOne, AreKnown, IsMet, SomeRemoves, IsNotedFor, known_at, IsUnknownAt, IsGoneAt, IsDecidedByFirst, NeverFires, NotBothAt, BothClashAt, SetsBeside, IsApartAt, IsSingleOn, ClashesAt, SetsOtherValue, EffectKeepsGroup, AreGoneAt, IsOnVariableBefore}
 pub use Rattle.sas_mutex.specs.Effects.{IsKept, KeepsAt, KeepsWithItself, IsUnconditional, EffectPlace, operator_of, effect_of}
+pub use Rattle.sas_mutex.specs.Failures.{IsFailure, IsEarlier, IsFirstFailure, FailsFirst, failure_at, AreFailures}
 pub use Rattle.sas_mutex.specs.Falling.{count, IsAtRest, AreCandidates, newly, Falls, FamilyHasRoom, RestsOn, IsWithin}
+pub use Rattle.sas_mutex.specs.FirstFailures.{IsLowestPartner, IsAny, SetsVariable, IsFirstStaying, effect_of_failure, IsFirstOfEffect, IsFirstOfEffectAt}
 pub use Rattle.sas_mutex.specs.Judging.{AreFirstVerdicts, IsUndecided, KeptSoFar, IsVerdictSoFar, AreVerdictsSoFar, AreJudged, IsJudgedAt}
 pub use Rattle.sas_mutex.specs.Looking.{IsIdle, IsChecking, ForPairs, Looked, IsPair, IsOfEffect, IsOfOperator, IsOfAlike, IsOfUnconditional}
 pub use Rattle.sas_mutex.specs.Marks.{IsNotedFrom, IsClean}
 pub use Rattle.sas_mutex.specs.Watching.{watch_at, IsLastBelow, AreChained, AreMore, WatchesMore, HasWatchFrom, since_of, IsWatchOf, RestsBy, IsOver, IsUnwatched, AreFallen, AreUnwatched, AreWatched, IsWatchedAnew, FallenAreUnwatched, StayUnwatched, AreLooseAtRest, IsReady}
+pub use Rattle.sas_mutex.specs.declared.failures.Failure.{Failure}
+pub use Rattle.sas_mutex.specs.declared.failures.Failure.TheVariants.{SetsTwo, MayStay}
 pub use Rattle.sas_mutex.specs.declared.family.Excluding.{Excluding}
 pub use Rattle.sas_mutex.specs.declared.family.Family.{Family}
 pub use Rattle.sas_mutex.specs.declared.looking.Checker.{Checker}

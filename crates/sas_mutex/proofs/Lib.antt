@@ -6,6 +6,10 @@ pub mod Keeping
 pub mod FallingGroups
 pub mod Counting
 pub mod SetFacts
+mod Least
+pub mod Failing
+mod FirstOfEffect
+mod LowestEffects
 pub mod VerdictsSoFar
 pub mod OldValues
 pub mod GoneRuns

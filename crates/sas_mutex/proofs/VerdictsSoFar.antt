@@ -1,8 +1,9 @@
 -- The verdicts after each effect and each operator.
-use Rattle.sas_mutex.proofs.Imports.{rules, common_steps, below_more, ◌≡◌, ◌≢◌, ℕ, ◌+◌, ◌<◌, Bool, true, false, List, [], ◌∷◌, ◌++◌, length, set, refl, sym, ◌∙◌, ap, subst, inl, inr, arith, cases_eq, cases_Bool, both_ways, length_push, get_or_push, get_or_append_left, length-set, get_or-set_same, get_or-set_other, set-set, set-get_or, All-from_get_or, Contains, ◌↔◌, IsTrue, Fact, Operator, Parts, operator_at, effect_at, group_at, EffectKeeps, keeps_from_effects, effect_of_keeps, Marks, IsKept, KeepsWithItself, AreCandidates, AreFirstVerdicts, IsUndecided, KeptSoFar, IsVerdictSoFar, AreVerdictsSoFar, IsNotedFor, known_at, Verdict, Exclusive, Derived, Initial, Broken, Clash, Keeps, sets, MayBeExclusive, IsIn, IsGroupOfOr, IsGreatest, IsJointVerdict, IsFirstVerdict, outside_is_broken, clash_more, GroupNote, Several, family_of, HasFactBeside, verdict_at, AreJointVerdicts, IsGroupNote, at_most_one}
+use Rattle.sas_mutex.proofs.Imports.{rules, common_steps, below_more, ◌≡◌, ◌≢◌, ℕ, ◌+◌, ◌<◌, Bool, true, false, List, [], ◌∷◌, ◌++◌, length, set, refl, sym, ◌∙◌, ap, subst, inl, inr, arith, cases_eq, cases_Bool, both_ways, length_push, get_or_push, get_or_append_left, length-set, get_or-set_same, get_or-set_other, set-set, set-get_or, All-from_get_or, Contains, ◌↔◌, IsTrue, Fact, Operator, Parts, operator_at, effect_at, group_at, EffectKeeps, keeps_from_effects, effect_of_keeps, Marks, IsKept, KeepsWithItself, AreCandidates, AreFirstVerdicts, IsUndecided, KeptSoFar, IsVerdictSoFar, AreVerdictsSoFar, IsNotedFor, known_at, Verdict, Exclusive, Derived, Initial, Broken, Clash, Keeps, sets, MayBeExclusive, IsIn, IsGroupOfOr, IsGreatest, IsJointVerdict, IsFirstVerdict, outside_is_broken, clash_more, GroupNote, Several, family_of, HasFactBeside, verdict_at, AreJointVerdicts, IsGroupNote, at_most_one, get_or_past, cases_lt, Option, None, Some, IsSomeAnd, EffectPlace, Failure, FailsFirst, failure_at, AreFailures, effect_of_failure, IsFirstOfEffectAt, operator_of}
 use Rattle.sas_mutex.proofs.Keeping.{effect_keeps_more, keeps_if_beside}
 use Rattle.sas_mutex.proofs.KnownFacts.{several_clash}
 use Rattle.sas_mutex.proofs.FromNotes.{clash_keeps}
+use Rattle.sas_mutex.proofs.Failing.{sets_one, kept_never_fails, first_of_all}
 
 -- ---- the first verdicts
 
@@ -77,7 +78,18 @@ module _ (p : Parts) (kept : List Bool) (place : ℕ) (exists : place < length p
     pub several_never_fire : IsGroupNote p (known_at p operator effect) place Several → KeepsWithItself p kept operator effect place
     several_never_fire note = never_fires operator effect (several_clash p (IsGroupOfOr p (family_of kept) (group_at p place)) (known_at p operator effect) place (inr refl) note)
 
-    -- where not several facts of it are known, nothing clashes for it
+    -- where the effect doesn't keep it, nothing clashes for it
+    pub noted_if_broken : (KeepsWithItself p kept operator effect place → ⊥) → IsNotedFor p (set kept place true) operator effect marks
+    noted_if_broken broken = record {
+      are = record {
+        noted = noted.are.noted;
+        apart = λ clash. broken (never_fires operator effect
+            (clash_more (IsKept p (set kept place true)) (IsGroupOfOr p (family_of kept) (group_at p place)) (known_at p operator effect) with_place clash));
+      };
+      from = noted.from;
+    }
+
+    -- nor where not several facts of it are known
     pub noted_with : (note : GroupNote) → IsGroupNote p (known_at p operator effect) place note → note ≢ Several → IsNotedFor p (set kept place true) operator effect marks
     noted_with note reports few = record {
       are = record {
@@ -218,3 +230,46 @@ module _ (p : Parts) (kept : List Bool) where
   pub joint_in_the_end : (operators : ℕ) (verdicts : List Verdict) → operators ≡ length p.operators → IsGreatest p (family_of kept)
       → AreVerdictsSoFar p kept operators 0 verdicts → AreJointVerdicts p verdicts
   joint_in_the_end operators verdicts all greatest so_far = search (rules, arith, all_judged)
+
+-- ---- the failures
+
+-- before operators are checked no group is broken
+pub no_failures : (p : Parts) (verdicts : List Verdict) (failures : List (Option Failure)) → AreFirstVerdicts p verdicts → AreFailures p verdicts failures
+no_failures p verdicts failures first place operator lt is = elim (cases_lt place (length p.groups)) [
+  | inl exists ↦ absurd (subst (IsFirstVerdict p (group_at p place)) is (first.are place exists))
+  | inr past ↦ absurd (let none = get_or_past verdicts place Exclusive (let len = first.one_each in omega arith) in cc)
+]
+
+-- one group more is broken
+pub one_broken : (p : Parts) (operator place : ℕ) (verdicts : List Verdict) (before after : List (Option Failure)) → place < length verdicts
+    → length after ≡ length before → ((n : ℕ) → n ≢ place → failure_at after n ≡ failure_at before n)
+    → (place < length before → IsSomeAnd (failure_at after place) (FailsFirst p place operator))
+    → AreFailures p verdicts before → AreFailures p (set verdicts place (Broken operator)) after
+one_broken p operator place verdicts before after exists as_many others here failures n breaking lt is = elim (cases_eq n place) [
+  | inl e ↦ (let same : Broken operator ≡ Broken breaking = sym (get_or-set_same verdicts place (Broken operator) Exclusive exists) ∙ subst (λ i. verdict_at (set verdicts place (Broken operator)) i ≡ Broken breaking) e is in
+      let it : operator ≡ breaking = cc in
+      subst (λ i. IsSomeAnd (failure_at after i) (FailsFirst p i breaking)) (sym e) (subst (λ o. IsSomeAnd (failure_at after place) (FailsFirst p place o)) it (here (omega (arith, lt, as_many, e)))))
+  | inr ne ↦ subst (λ (found : Option Failure). IsSomeAnd found (FailsFirst p n breaking)) (sym (others n ne))
+      (failures n breaking (omega (arith, lt, as_many)) (sym (get_or-set_other verdicts place n (Broken operator) Exclusive ne) ∙ is))
+]
+
+-- the first failure of the first effect that doesn't preserve the group is that of its operator
+pub failure_here : (f : EffectPlace) (kept : List Bool) (place : ℕ) (failure : Failure) → IsGreatest f.task (family_of kept)
+    → KeptSoFar f.task kept f.operator f.effect place → IsFirstOfEffectAt f kept place failure → FailsFirst f.task place f.operator failure
+failure_here f kept place failure greatest so_far first = (
+  family_of kept,
+  greatest,
+  first_of_all Counts (operator_of f) (group_at f.task place) f.effect failure first
+      (λ other lower fails. kept_never_fails Counts (operator_of f) (group_at f.task place) other
+      (so_far.effects (effect_of_failure other) lower (sets_one Counts (operator_of f) (group_at f.task place) other fails)) fails),
+)
+  where
+    Counts : List Fact → Type 0
+    Counts = IsGroupOfOr f.task (family_of kept) (group_at f.task place)
+
+-- and so of a failure that is noted
+pub noted_here : (f : EffectPlace) (kept : List Bool) (place : ℕ) (failure : Option Failure) → IsGreatest f.task (family_of kept)
+    → KeptSoFar f.task kept f.operator f.effect place → IsSomeAnd failure (IsFirstOfEffectAt f kept place)
+    → IsSomeAnd failure (FailsFirst f.task place f.operator)
+noted_here f kept place None greatest so_far first = first
+noted_here f kept place (Some failure) greatest so_far first = failure_here f kept place failure greatest so_far first

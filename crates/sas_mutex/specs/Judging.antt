@@ -10,7 +10,9 @@ use Rattle.sas_groups.specs.Verdicts.{IsJointVerdict, verdict_at}
 use Rattle.sas_groups.specs.Checks.{IsFirstVerdict}
 use Rattle.sas_groups.specs.Runs.{family_of}
 use Rattle.sas_mutex.specs.declared.family.Family.{Family}
+use Rattle.sas_mutex.specs.declared.joint.GroupVerdicts.{GroupVerdicts}
 use Rattle.sas_mutex.specs.Effects.{KeepsWithItself, EffectPlace}
+use Rattle.sas_mutex.specs.Failures.{AreFailures}
 
 -- the verdict on each group before operators are checked
 pub record AreFirstVerdicts (p : Parts) (verdicts : List Verdict) : Type 0 where
@@ -50,11 +52,12 @@ pub record AreVerdictsSoFar (p : Parts) (kept : List Bool) (operator effect : �
   pub are : (place : ℕ) → place < length p.groups
       → IsVerdictSoFar p kept operator effect place (verdict_at verdicts place)
 
--- the same by the greatest family
-pub record AreJudged (p : Parts) (operator effect : ℕ) (family : Family) (verdicts : List Verdict)
+-- the same by the greatest family, and the failures that are noted
+pub record AreJudged (p : Parts) (operator effect : ℕ) (family : Family) (found : GroupVerdicts)
     : Type 0 where
   pub greatest : IsGreatest p (family_of family.kept)
-  pub so_far : AreVerdictsSoFar p family.kept operator effect verdicts
+  pub so_far : AreVerdictsSoFar p family.kept operator effect found.verdicts
+  pub failures : AreFailures p found.verdicts found.failures
 
 -- the verdict on the group considers this effect, too
 abbrev pub IsJudgedAt : EffectPlace → List Bool → List Verdict → ℕ → Type 0

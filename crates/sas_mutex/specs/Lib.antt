@@ -11,6 +11,8 @@ pub mod Marks
 pub mod Effects
 pub mod Basis
 pub mod ByNotes
+pub mod Failures
+pub mod FirstFailures
 pub mod Falling
 pub mod Looking
 pub mod Watching

@@ -32,12 +32,12 @@ some_if_any p place Initial exists joint none = some_reason p place Initial exis
 some_if_any p place (Broken operator) exists joint none = some_reason p place (Broken operator) exists joint (λ is. absurd cc) (λ reason is. none (Some reason) is)
 
 -- the reasons of the groups before a place
-record AreReasonsBelow (p : Parts) (verdicts : List Verdict) (end : ℕ) (reasons : List (Option Reason)) : Type 0 where
-  one_each : length reasons ≡ end
-  are : (place : ℕ) → place < end → IsReasonIfAny p place (verdict_at verdicts place) (reason_at reasons place)
+pub record AreReasonsBelow (p : Parts) (verdicts : List Verdict) (end : ℕ) (reasons : List (Option Reason)) : Type 0 where
+  pub one_each : length reasons ≡ end
+  pub are : (place : ℕ) → place < end → IsReasonIfAny p place (verdict_at verdicts place) (reason_at reasons place)
 
 -- one reason more
-one_more : (p : Parts) (verdicts : List Verdict) (end : ℕ) (reasons : List (Option Reason)) (reason : Option Reason) → AreReasonsBelow p verdicts end reasons
+pub one_more : (p : Parts) (verdicts : List Verdict) (end : ℕ) (reasons : List (Option Reason)) (reason : Option Reason) → AreReasonsBelow p verdicts end reasons
     → IsReasonIfAny p end (verdict_at verdicts end) reason → AreReasonsBelow p verdicts (suc end) (reasons ++ reason ∷ [])
 one_more p verdicts end reasons reason below here = grind (arith, length_push, cases_eq, verdict_at, get_or_push, get_or_append_left)
 

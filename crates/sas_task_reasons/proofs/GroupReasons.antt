@@ -1,9 +1,8 @@
 -- Each group that isn't exclusive has exactly one reason; that it exists is stated as a double
 -- negation.
 use Rattle.std.proofs.lemmas.Grind.{common_steps}
-use Rattle.sas_task_reasons.proofs.Imports.{Failure, IsFailure, IsJointVerdict, IsReason, Keeps, Operator, Verdict, ◌<◌, ◌≢◌, ◌≡◌, ℕ, ◌==◌, ◌⊎◌, Bool, false, List, length, Option, None, Some, refl, sym, ◌∙◌, ap, subst, inl, inr, arith, eqb-true, eq-eqb, true≢false, cases_lt, find_at, fails_before_first, none-some, slice_get-get_or, All-contains, All, position_or_len, ◌&&◌, not, is_some, slice_index, Fact, Parts, operator_at, group_at, layer_of, Holds, Exclusive, Reason, OnDerived, HoldsTwo, Breaks, IsFirstFailure, holds, verdict_of, TrueOfGroup, Derived, Initial, Broken, IsExclusiveIn, IsOnBasic, IsGroupOfOr, fact_same, same_or_itself}
+use Rattle.sas_task_reasons.proofs.Imports.{fails_not_kept, some_failure, some_first, one_first, first_too, Failure, IsFailure, IsJointVerdict, IsReason, Keeps, Operator, Verdict, ◌<◌, ◌≢◌, ◌≡◌, ℕ, ◌==◌, ◌⊎◌, Bool, false, List, length, Option, None, Some, refl, sym, ◌∙◌, ap, subst, inl, inr, arith, eqb-true, eq-eqb, true≢false, cases_lt, find_at, fails_before_first, none-some, slice_get-get_or, All-contains, All, position_or_len, ◌&&◌, not, is_some, slice_index, Fact, Parts, operator_at, group_at, layer_of, Holds, Exclusive, Reason, OnDerived, HoldsTwo, Breaks, IsFirstFailure, holds, verdict_of, TrueOfGroup, Derived, Initial, Broken, IsExclusiveIn, IsOnBasic, IsGroupOfOr, fact_same, same_or_itself}
 use Rattle.std.specs.List.{find}
-use Rattle.sas_task_reasons.proofs.Failing.{fails_not_kept, some_failure, some_first, one_first, first_too}
 
 -- ---- the first fact that passes a test
 

@@ -1,10 +1,4 @@
-pub mod Least
-pub mod Failing
 pub mod GroupReasons
-pub mod GreatestOfVerdicts
-pub mod ReasonsSoFar
-pub mod LowestEffects
-pub mod FirstOfEffect
 mod Positions
 mod FailingChecks
 mod OtherGivers

@@ -1,6 +1,5 @@
 -- The modules that public contracts cite.
-pub mod Failures
-pub mod Reporting
+pub use Rattle.sas_mutex.specs.Failures
 pub mod WhyGroups
 pub mod WhyLayers
 pub mod ReasonLaws

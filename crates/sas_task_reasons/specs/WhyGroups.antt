@@ -1,16 +1,17 @@
 -- Why mutex groups aren't shown to be exclusive: the lines after `group K ..`.
-use Rattle.std.specs.Prelude.{◌≡◌, ℕ, ◌+◌, List, [], ◌∷◌, ◌++◌, map, Option, slice_index_or, ◌<◌, ◌==◌, ◌&&◌, Bool, not, is_some, length, None, Some, find, slice_index}
+use Rattle.std.specs.Prelude.{◌≡◌, ℕ, ◌+◌, List, [], ◌∷◌, ◌++◌, map, Option, slice_index_or, ◌<◌, ◌==◌, ◌&&◌, Bool, true, false, not, is_some, length, None, Some, find, slice_index}
 use Rattle.std.specs.Option.{option_map_or}
 use Rattle.sas_core.specs.declared.parts.Fact.{Fact}
 use Rattle.sas_core.specs.declared.parts.Parts.{Parts}
-use Rattle.sas_core.specs.Grounded.{group_at, operator_at}
+use Rattle.sas_core.specs.Grounded.{group_at}
 use Rattle.sas_lines.specs.Lines.{text}
 use Rattle.sas_groups.specs.declared.verdict.Verdict.{Verdict}
 use Rattle.sas_groups.specs.Verdicts.{AreJointVerdicts, verdict_at}
-use Rattle.sas_task_reasons.specs.declared.reason.Failure.{Failure}
-use Rattle.sas_task_reasons.specs.declared.reason.Failure.TheVariants.{SetsTwo, MayStay}
+use Rattle.sas_mutex.specs.declared.failures.Failure.{Failure}
+use Rattle.sas_mutex.specs.declared.failures.Failure.TheVariants.{SetsTwo, MayStay}
 use Rattle.sas_task_reasons.specs.declared.reason.Reason.{Reason}
 use Rattle.sas_task_reasons.specs.declared.reason.Reason.TheVariants.{OnDerived, HoldsTwo, Breaks}
+use Rattle.sas_answers.specs.Answers.{GroupsAnswer}
 use Rattle.sas_answers.specs.Ending.{Output}
 use Rattle.sas_answers.specs.GroupWords.{group_line, groups_status}
 use Rattle.sas_answers.specs.declared.line.Line.{Line}
@@ -18,8 +19,7 @@ use Rattle.sas_answers.specs.declared.line.Line.TheVariants as line
 use Rattle.sas_answers.specs.Line.{line_bytes}
 use Rattle.sas_core.specs.Variables.{layer_of}
 use Rattle.sas_groups.specs.declared.verdict.Verdict.TheVariants.{Exclusive, Derived, Initial, Broken}
-use Rattle.sas_groups.specs.Families.{IsGreatest, IsGroupOfOr}
-use Rattle.sas_task_reasons.specs.Failures.{IsFirstFailure}
+use Rattle.sas_mutex.specs.Failures.{FailsFirst}
 
 -- whether the fact holds in the state
 abbrev pub holds : List ℕ → Fact → Bool
@@ -41,10 +41,7 @@ TrueOfGroup p place (HoldsTwo first second) =
     (find (holds p.init) (group_at p place) ≡ Some first)
     × (find (λ f. holds p.init f && not (f.var == first.var)) (group_at p place) ≡ Some second)
 -- the first failure of the operator, assuming the groups of the greatest family and the group
-TrueOfGroup p place (Breaks operator failure) = (family : ℕ → Bool)
-    × IsGreatest p family
-    × IsFirstFailure (IsGroupOfOr p family (group_at p place)) (operator_at p operator)
-    (group_at p place) failure
+TrueOfGroup p place (Breaks operator failure) = FailsFirst p place operator failure
 
 -- the reason for this verdict on the group with this index
 pub record IsReason (p : Parts) (place : ℕ) (verdict : Verdict) (reason : Reason) : Type 0 where
@@ -112,3 +109,8 @@ WhyGroupsAnswer p output = (verdicts : List Verdict)
       text = text (why_lines p verdicts reasons);
       status = groups_status verdicts;
     })
+
+-- the answer about the groups of a layered task, with reasons or without
+abbrev pub GroupsAnswerWith : Bool → Parts → Output → Type 0
+GroupsAnswerWith true = WhyGroupsAnswer
+GroupsAnswerWith false = GroupsAnswer

@@ -1,25 +1,26 @@
 // The answer about the mutex groups of a layered task as it goes out, with or without the reasons why groups aren't exclusive.
-ghost use Rattle.std.specs.Prelude.{◌≡◌, [], ◌∷◌, ◌++◌, false, IfOk, IsFalse, IsSomeAnd, IsTrue, codes, map};
+ghost use Rattle.std.specs.Prelude.{◌≡◌, [], ◌∷◌, ◌++◌, false, length, IfOk, IsFalse, IsSomeAnd, IsTrue, codes, map};
 ghost use Rattle.sas_lines.specs.Lines.{text};
 ghost use Rattle.sas_answers.specs.GroupWords as words;
 ghost use Rattle.sas_answers.specs.GroupWords.{group_line};
 ghost use Rattle.sas_groups.specs.Verdicts.{AreJointVerdicts};
-ghost use Rattle.sas_task_reasons.specs.WhyGroups.{AreReasons, reason_at, why_lines};
+ghost use Rattle.sas_mutex.specs.Failures.{AreFailures};
+ghost use Rattle.sas_task_reasons.specs.WhyGroups.{AreReasons, GroupsAnswerWith, reason_at, why_lines};
 ghost use Rattle.sas_answers.specs.Ending.{EndsCounting, Writes};
 ghost use Rattle.sas_answers.specs.Sink.{Pushes};
 ghost use Rattle.sas_answers.specs.Words.{line, word_bytes};
 ghost use Rattle.sas_answers.specs.Line.{reasons_text};
 ghost use Rattle.sas_task_reasons.specs.WhyGroups as spec;
-ghost use Rattle.sas_task_reasons.specs.Reporting.{GroupsAnswerWith};
 
 use crate::facts::member_of;
-use crate::reason::{Failure, Reason};
+use crate::reason::Reason;
 use crate::reasons::group_reasons;
 use sas_answers::{Line, NameSource, Pieces, Sink, Status, ToolFault, Word, Words, push_lines};
+use sas_core::Items;
 use sas_flat::FlatTask;
 use sas_lines::Watched;
 use sas_meaning::Layered;
-use sas_mutex::{Verdict, check_groups};
+use sas_mutex::{Failure, GroupVerdicts, Verdict, joint_verdicts};
 use std::alloc::{AllocError, Global};
 use std::io::Write;
 
@@ -38,9 +39,9 @@ pub fn write_groups<W: Write>(
         (EndsCounting (λ output. IsSomeAnd output (GroupsAnswerWith with_reasons task.now)))
         out.old out.new result }
 {
-    let verdicts = check_groups(alloc, task)?;
-    let all = verdicts.as_slice();
-    let reasons = wanted_reasons(alloc, with_reasons, task, all)?;
+    let found = joint_verdicts(alloc, task, with_reasons)?;
+    let reasons = wanted_reasons(alloc, with_reasons, task, &found)?;
+    let all = found.verdicts.as_slice();
     let mut pieces = Pieces::new(alloc)?;
     let mut sink = Sink::new(groups_status(all), &mut pieces, out);
     push_groups(&mut sink, task.task(), all, reasons.as_slice());
@@ -52,17 +53,20 @@ fn wanted_reasons(
     alloc: Global,
     with_reasons: bool,
     task: &Layered<FlatTask>,
-    verdicts: &[Verdict],
-) -> Result<Vec<Option<Reason>>, AllocError>
-    requires { AreJointVerdicts task.now verdicts.now }
-    ensures none { IsFalse with_reasons → IfOk result (λ reasons. reasons.items ≡ []) }
+    found: &GroupVerdicts,
+) -> Result<Items<Option<Reason>>, AllocError>
+    requires joint { AreJointVerdicts task.now found.now.verdicts }
+    requires failures { AreFailures task.now found.now.verdicts found.now.failures }
+    requires for_each { IsTrue with_reasons
+        → length found.now.failures ≡ length task.now.groups }
+    ensures none { IsFalse with_reasons → IfOk result (λ reasons. reasons ≡ []) }
     ensures wanted { IsTrue with_reasons
-        → IfOk result (λ reasons. AreReasons task.now verdicts.now reasons.items) }
+        → IfOk result (λ reasons. AreReasons task.now found.now.verdicts reasons) }
 {
     if with_reasons {
-        group_reasons(alloc, task, verdicts)
+        group_reasons(alloc, task, found)
     } else {
-        Ok(Vec::new(alloc))
+        Ok(Items::new(alloc))
     }
 }
 

@@ -8,9 +8,9 @@ ghost use Rattle.sas_groups.specs.declared.verdict.Verdict.TheVariants.{Exclusiv
 ghost use Rattle.sas_groups.specs.Clashes.{Keeps};
 ghost use Rattle.sas_groups.specs.Families.{IsGroupOfOr};
 ghost use Rattle.sas_groups.specs.Verdicts.{IsJointVerdict};
-ghost use Rattle.sas_task_reasons.specs.declared.reason.Failure.{Failure};
+ghost use Rattle.sas_mutex.specs.declared.failures.Failure.{Failure};
 ghost use Rattle.sas_task_reasons.specs.declared.reason.Reason.{Reason};
-ghost use Rattle.sas_task_reasons.specs.Failures.{IsFailure, IsFirstFailure};
+ghost use Rattle.sas_mutex.specs.Failures.{IsFailure, IsFirstFailure};
 ghost use Rattle.sas_task_reasons.specs.WhyGroups.{IsReason};
 ghost use Rattle.sas_task_reasons.specs.ReasonLaws.{LayerReasonsAreWhole};
 

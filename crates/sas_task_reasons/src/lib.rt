@@ -2,21 +2,18 @@
 //! file is read.
 #![tactic(auto)]
 
-mod before_operators;
-mod broken;
 mod facts;
-mod failures;
 mod giver;
 mod groups;
 mod laws;
 mod layers;
-mod lowest;
 mod reason;
 mod reasons;
 mod unlayered;
 
 pub use groups::write_groups;
 pub use laws::{layer_reasons_law, reason_laws};
-pub use reason::{Failure, Reason};
+pub use reason::Reason;
 pub use reasons::group_reasons;
+pub use sas_mutex::Failure;
 pub use unlayered::write_unlayered;

@@ -1,15 +1,6 @@
 // Why a group isn't exclusive.
 use sas_core::Fact;
-
-/// How an operator fails to preserve a group. Effects are identified by their index among the effects of the operator.
-#[derive(Clone, Copy)]
-pub enum Failure {
-    /// Both effects set facts of the group, on different variables, and may fire together: the facts that hold then don't clash.
-    SetsTwo { effect: u32, other: u32 },
-    /// The effect sets a fact of the group, while the fact of the group at index `place`, which is on another variable, may hold before and
-    /// isn't removed.
-    MayStay { effect: u32, place: usize },
-}
+use sas_mutex::Failure;
 
 /// The reason why a group isn't exclusive.
 #[derive(Clone, Copy)]

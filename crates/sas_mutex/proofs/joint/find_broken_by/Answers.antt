@@ -9,7 +9,8 @@ returns-clause-judged g c =
     let judged = c.loop-effect.invariant.judged in
     record {
       greatest = judged.greatest;
-      so_far = next_operator c.args.indexed.now c.loop-effect.checker.family.kept c.args.operator c.loop-effect.effect c.loop-effect.verdicts (omega (arith, count)) judged.so_far;
+      so_far = next_operator c.args.indexed.now c.loop-effect.checker.family.kept c.args.operator c.loop-effect.effect c.loop-effect.found.verdicts (omega (arith, count)) judged.so_far;
+      failures = judged.failures;
     }
 
 pub effects-effect-end-requires : goal.effects-effect-end-requires

@@ -19,7 +19,7 @@ pub returns-then-not-some_undecided-clause-judged : goal.returns-then-not-some_u
 returns-then-not-some_undecided-clause-judged g c =
     let f = c.args.firing.now in
     let kept = c.args.checker.now.family.kept in
-    let verdicts = c.args.verdicts.now in
+    let verdicts = c.args.found.now.verdicts in
     let judged = c.requires.judged in
     record {
       greatest = judged.greatest;
@@ -28,6 +28,7 @@ returns-then-not-some_undecided-clause-judged g c =
           (rw (c.as_slice-kept.ensures, c.as_slice.ensures) at (All-contains (λ (n : ℕ). IsUndecided c.as_slice-kept.result.now c.as_slice.result.now n → ⊥) c.groups-groups.result.now place
           (c.some_undecided.ensures c.if-not-some_undecided.true) ((c.groups-groups.ensures place).1 has)))
           (judged.so_far.are place has.exists)) judged.so_far;
+      failures = judged.failures;
     }
 
 pub note-requires-clause-one_each : goal.note-requires-clause-one_each
@@ -47,24 +48,26 @@ returns-clause-judged g c =
     elim c.if-not-note.branch [
       | then-not-note w ↦
           (let kept = w.judge_groups.new.checker.family.kept in
-          let after = w.judge_groups.new.verdicts in
+          let after = w.judge_groups.new.found.verdicts in
           let turn = w.judge_groups.ensures in
-          rw (w.checker-is, w.verdicts-is) record {
+          rw (w.checker-is, w.found-is) record {
             greatest = turn.judged.greatest;
             so_far = next_effect f.task kept f.operator f.effect after
                 (λ place has. All-contains (IsJudgedAt f kept after) c.groups-groups.result.now place turn.these ((c.groups-groups.ensures place).1 has)) turn.judged.so_far;
+            failures = turn.judged.failures;
           })
       | else-not-note w ↦
           (let kept = c.args.checker.now.family.kept in
-          let verdicts = c.args.verdicts.now in
+          let verdicts = c.args.found.now.verdicts in
           let judged = c.requires.judged in
           let never = subst (NeverFires f) c.as_slice-kept.ensures (c.note.ensures.yes w.if-not-note.false) in
-          rw (w.checker-is, w.verdicts-is) record {
+          rw (w.checker-is, w.found-is) record {
             greatest = judged.greatest;
             so_far = next_effect f.task kept f.operator f.effect verdicts
                 (λ place has. so_far_by f.task kept f.operator f.effect f.operator (f.effect + 1) place (verdict_at verdicts place)
                 (λ out. one_effect_more f.task kept f.operator f.effect place (λ _. clash_never_fires f.task kept place has.exists c.requires.idle.room.one_each f.operator f.effect never))
                 (judged.so_far.are place has.exists)) judged.so_far;
+            failures = judged.failures;
           })
     ]
 

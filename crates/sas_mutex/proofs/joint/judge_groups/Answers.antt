@@ -7,5 +7,5 @@ loop-group-preserved g c = search (arith, get_or, below_more, cases_eq)
 
 pub returns-clause-these : goal.returns-clause-these
 returns-clause-these g c =
-    All-from_get_or (IsJudgedAt c.args.firing.now c.loop-group.checker.family.kept c.loop-group.verdicts) c.args.groups.now 0
+    All-from_get_or (IsJudgedAt c.args.firing.now c.loop-group.checker.family.kept c.loop-group.found.verdicts) c.args.groups.now 0
     (λ k lt. c.loop-group.invariant.these k (omega arith))

@@ -1,12 +1,13 @@
--- If no operator breaks a group, the first reasons are complete.
-use Rattle.sas_task_reasons.proofs.Imports.{◌<◌, [], List, sym, subst, Option, Exclusive, Reason, AreReasons}
-use Rattle.sas_task_reasons.proofs.ReasonsSoFar.{none_broken}
+-- One more group.
+use Rattle.sas_task_reasons.proofs.Imports.{◌≡◌, suc, ◌+◌, [], ◌∷◌, ◌++◌, subst, arith}
+use Rattle.sas_task_reasons.proofs.GroupAnswers.{AreReasonsBelow, one_more}
 use Rattle.sas_task_reasons.proofs.reasons.group_reasons.Goals as goal
 
-pub returns-then-not-some_broken : goal.returns-then-not-some_broken
-returns-then-not-some_broken g c =
+pub loop-group-preserved : goal.loop-group-preserved
+loop-group-preserved g c =
     let p = c.args.layered.now in
-    let verdicts = c.args.verdicts.now in
-    subst (λ (reasons : List (Option Reason)). AreReasons p verdicts reasons) (sym c.into_vec.ensures) (none_broken p verdicts c.in_ok-reasons.reasons
-    (λ place lt. c.some_broken.ensures c.if-not-some_broken.true place Exclusive (subst (λ n. place < n) (sym c.requires.one_each) lt))
-    (c.in_ok-reasons.ensures []))
+    let verdicts = c.args.found.now.verdicts in
+    let n = c.loop-group.group in
+    let next : suc n ≡ n + 1 = omega arith in
+    rw c.in_ok-push.ensures.ok (subst (λ end. AreReasonsBelow p verdicts end (c.loop-group.reasons ++ c.reason_of.result ∷ [])) next
+    (one_more p verdicts n c.loop-group.reasons c.reason_of.result c.loop-group.invariant (rw c.as_slice-verdicts.ensures at c.reason_of.ensures)))
