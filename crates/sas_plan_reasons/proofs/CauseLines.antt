@@ -8,10 +8,6 @@ use Rattle.sas_plan_reasons.proofs.Derivations.{some_derivation}
 use Rattle.sas_plan_reasons.proofs.Sorting.{one_derivation}
 use Rattle.sas_plan_reasons.proofs.Since.{some_since, one_since}
 
--- a derived variable is on a layer
-pub on_some_layer : (p : Parts) (var : ℕ) → is_some (layer_of p.variables var) ≡ true → (layer : ℕ) × IsOnLayer p layer var
-on_some_layer p var derived = grind (arith, common_steps, layer_cases, false≢true)
-
 pub default_if_not_given : (p : Parts) (s : List ℕ) (fact : Fact) → IsLayered p → IsSettled p s → IsDerived p.variables fact.var → IsTrue (can_be_given p fact)
     → IsTrue (fails s fact) → slice_index s fact.var ≡ default_of p fact.var
 default_if_not_given p s fact layered settled derived given missed = elim (differs_decides p s fact.var) [

@@ -5,6 +5,10 @@ use Rattle.sas_plan_reasons.proofs.Imports.{IsTrue, None, Some, ◌&&◌, not, s
 
 -- ---- rules of variables
 
+-- a derived variable is on a layer
+pub on_some_layer : (p : Parts) (var : ℕ) → is_some (layer_of p.variables var) ≡ true → (layer : ℕ) × IsOnLayer p layer var
+on_some_layer p var derived = grind (arith, common_steps, layer_cases, false≢true)
+
 pub rule_there : (p : Parts) (rules : List ℕ) (rule : ℕ) → Contains rules rule → has_rule p rules (rule_at p rule).var ≡ true
 rule_there p rules rule (k, lt, is) =
     list_any_at (λ r. (rule_at p r).var == (rule_at p rule).var) rules k rule lt (eq-eqb (rule_at p (get_or rules k rule)).var (rule_at p rule).var (ap (λ r. (rule_at p r).var) is))
@@ -101,11 +105,8 @@ module _ (p : Parts) (s : List ℕ) (layered : IsLayered p) (settled : IsSettled
   ]
 
   module _ (rules : List ℕ) (rule : ℕ) (can : CanBeAdded p s rules rule) where
-    on_a_layer : (layer : ℕ) × IsOnLayer p layer (rule_at p rule).var
-    on_a_layer = elim (layer_cases p (rule_at p rule).var) [
-      | inr on ↦ on
-      | inl basic ↦ absurd (false≢true (sym (ap is_some basic) ∙ layered.derived rule _ can.exists))
-    ]
+    pub on_a_layer : (layer : ℕ) × IsOnLayer p layer (rule_at p rule).var
+    on_a_layer = on_some_layer p (rule_at p rule).var (layered.derived rule _ can.exists)
 
     pub added_differs : differs p s (rule_at p rule).var ≡ true
     added_differs = (settled on_a_layer.0).closed rule _ can.exists on_a_layer.1 can.can

@@ -51,7 +51,7 @@ pub use Rattle.sas_answers.specs.declared.sink.Sink.{Sink}
 pub use Rattle.sas_answers.specs.declared.ending.Status.TheVariants.{Yes, No}
 pub use Rattle.sas_answers.specs.declared.line.Line.{Line}
 pub use Rattle.sas_answers.specs.declared.line.Line.TheVariants.{RuleDerives, RuleRequires, Requires, Actual, SinceStep, Step, ConflictingEffect, CouldBe, GoalFact, FailingGoalFacts}
-pub use Rattle.sas_axioms.proofs.RuleChanges.{same_option}
+pub use Rattle.sas_axioms.proofs.RuleChanges.{same_option, change_within, conditions_within}
 pub use Rattle.sas_axioms.proofs.RulesOf.{of_variable, can_of}
 pub use Rattle.sas_axioms.specs.Conditions.{IsFullIndex, IsOfRule, waiting_at, asking, occurrences, released}
 pub use Rattle.sas_axioms.specs.LayerRules.{IsRuleOn}

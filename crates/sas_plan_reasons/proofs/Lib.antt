@@ -22,6 +22,7 @@ pub mod Within
 pub mod Faulty
 pub mod Behind
 pub mod OpenConditions
+pub mod Building
 pub mod ReportingSteps
 pub mod ReportedRules
 mod Changing

@@ -90,6 +90,7 @@ impl OrderSoFar {
     }
 
     /// Adds the rule, which has no open conditions, unless its variable has one already.
+    #[tactic(auto, using(sas_axioms::proofs::RuleChanges::change_within))]
     fn add<T: Grounded>(
         &mut self,
         layered: &Layered<T>,
