@@ -1,6 +1,6 @@
 -- How the order of derived values grows by a rule, how it begins, and how it ends.
 use Rattle.std.proofs.lemmas.Grind.{common_steps}
-use Rattle.sas_plan_reasons.proofs.Imports.{◌≡◌, ◌≢◌, ℕ, suc, ◌+◌, ◌<◌, ◌≤◌, ◌⊎◌, ◌==◌, ◌||◌, ◌↔◌, Bool, true, false, is_some, List, [], ◌∷◌, ◌++◌, length, take, set, replicate, get_or, Option, None, Some, refl, sym, ◌∙◌, ap, subst, inl, inr, arith, All, Contains, cases_eq, cases_Bool, false≢true, same_Some, eq-eqb, leb_tells, All-nil, All-cons, All-tail, All-contains, All-permutation, Contains-push, Contains-push_cases, Contains-append_left, Contains-permutation, Contains-get_or, IsPermutation, length_permutation, get_or-set_same, get_or-set_other, length-set, get_or_default, length-replicate, get_or-replicate, get_or_past, cases_lt, contains_none, contains_cases, is_lt, nat_cmp, IsUpperBound, Reverse, heap_items, IsOnLayer, CanFire, default_of, differs_not, IsLayered, Fact, Parts, rule_at, IsRuleOn, WellRanged, change_of, change_within, IsFullIndex, RuleCondition, waiting_at, asking, occurrences, released, IsLowest, needs_rules, has_rule, CanBeAdded, IsOrder, IsRuleOf, open_with, IsReady, HasNoneOpen, AreOpen, AreOpenAtFirst, OpenConditions, OrderSoFar, DerivedOrder, CanMeetAll, MeetsAll, giver_at, AreGivers, IsDerivedOrder, Builds, IsOrderSoFar, IsNext}
+use Rattle.sas_plan_reasons.proofs.Imports.{◌≡◌, ◌≢◌, ℕ, suc, ◌+◌, ◌<◌, ◌≤◌, ◌⊎◌, ◌==◌, ◌||◌, ◌↔◌, Bool, true, false, is_some, List, [], ◌∷◌, ◌++◌, length, take, set, replicate, get_or, Option, None, Some, refl, sym, ◌∙◌, ap, subst, inl, inr, arith, All, Contains, cases_eq, cases_Bool, false≢true, same_Some, eq-eqb, leb_tells, All-nil, All-cons, All-head, All-tail, All-contains, All-permutation, Contains-push, Contains-push_cases, Contains-append_left, Contains-permutation, Contains-get_or, IsPermutation, length_permutation, get_or-set_same, get_or-set_other, length-set, get_or_default, length-replicate, get_or-replicate, get_or_past, cases_lt, contains_none, contains_head, contains_tail, contains_cases, is_lt, nat_cmp, IsUpperBound, Reverse, heap_items, IsOnLayer, CanFire, default_of, differs_not, IsLayered, IsSettled, Vec, Global, get_or_append_left, get_or_push, length-append, Fact, Parts, rule_at, IsRuleOn, WellRanged, change_of, change_within, IsFullIndex, RuleCondition, waiting_at, asking, occurrences, released, IsLowest, needs_rules, has_rule, CanBeAdded, IsOrder, IsRuleOf, open_with, IsReady, IsOrdered, unmet, work_left, HasNoneOpen, AreOpen, AreOpenAtFirst, OpenConditions, OrderSoFar, DerivedOrder, CanMeetAll, MeetsAll, giver_at, AreGivers, IsDerivedOrder, Builds, IsOrderSoFar, IsNext}
 use Rattle.sas_plan_reasons.proofs.Derivation.{on_some_layer, needs_cases, rule_of, had_rule, rule_there, on_a_layer, added_differs}
 use Rattle.sas_plan_reasons.proofs.Orders.{added_one, has_more}
 use Rattle.sas_plan_reasons.proofs.OpenConditions.{AreMet, met_when_none_open, none_open_when_met, closed, entry_for}
@@ -185,3 +185,143 @@ not_above a b h = grind (arith, leb_tells, suc)
 lowest_first : (x : Reverse ℕ) (items : List (Reverse ℕ)) → IsUpperBound (λ x y. nat_cmp y.0 x.0) x items → All (λ (e : Reverse ℕ). x.0 ≤ e.0) items
 lowest_first x [] up = All-nil (λ (e : Reverse ℕ). x.0 ≤ e.0)
 lowest_first x (e ∷ es) up = All-cons (λ (e : Reverse ℕ). x.0 ≤ e.0) e es (not_above x.0 e.0 up.0) (lowest_first x es up.1)
+
+module _ (p : Parts) (s : List ℕ) (o o' : OrderSoFar) (x : Reverse ℕ) (is : IsOrderSoFar p s o) (order : o'.order ≡ o.order) (requiring : o'.requiring ≡ o.requiring)
+    (counts : o'.open.counts ≡ o.open.counts) (popped : IsPermutation (heap_items o.open.ready) (x ∷ heap_items o'.open.ready))
+    (keeps : IsOrdered o.open → IsOrdered o'.open × IsUpperBound (λ x y. nat_cmp y.0 x.0) x (heap_items o.open.ready)) where
+  moved : (P : Reverse ℕ → Type 0) → All P (heap_items o.open.ready) → All P (x ∷ heap_items o'.open.ready)
+  moved P all = All-permutation P (heap_items o.open.ready) (x ∷ heap_items o'.open.ready) popped all
+
+  pub taken : IsNext p s x.0 o'
+  taken =
+      let all = moved (λ (e : Reverse ℕ). HasNoneOpen p o.open.counts.items e.0) is.builds.counted.ready in
+      record {
+        builds = record {
+          layered = is.builds.layered;
+          settled = is.builds.settled;
+          each = rw order is.builds.each;
+          givers = rw order is.builds.givers;
+          requiring = rw requiring is.builds.requiring;
+          counted = record {
+            one_each = rw counts is.builds.counted.one_each;
+            exact = rw (counts, order) is.builds.counted.exact;
+            ready = rw counts (All-tail (λ (e : Reverse ℕ). HasNoneOpen p o.open.counts.items e.0) x (heap_items o'.open.ready) all);
+            ordered = (keeps is.builds.counted.ordered).0;
+          };
+        };
+        next = rw counts (All-head (λ (e : Reverse ℕ). HasNoneOpen p o.open.counts.items e.0) x (heap_items o'.open.ready) all);
+        lowest = All-tail (λ (e : Reverse ℕ). x.0 ≤ e.0) x (heap_items o'.open.ready)
+            (moved (λ (e : Reverse ℕ). x.0 ≤ e.0) (lowest_first x (heap_items o.open.ready) (keeps is.builds.counted.ordered).1));
+        whole = λ other can. elim (contains_cases x (heap_items o'.open.ready) (entry_for other)
+            (Contains-permutation (heap_items o.open.ready) (x ∷ heap_items o'.open.ready) (entry_for other) popped (is.whole other (rw order at can)))) [
+              | inl e ↦ inr (sym (ap (λ (r : Reverse ℕ). r.0) e))
+              | inr there ↦ inl there
+          ];
+      }
+
+  pub fewer_left : work_left o'.open + 1 ≡ work_left o.open
+  fewer_left = let l = length_permutation (heap_items o.open.ready) (x ∷ heap_items o'.open.ready) popped in let u = ap (λ (v : Vec ℕ Global). unmet v.items) counts in omega arith
+
+-- ---- the beginning and the end
+
+pub none_added : (p : Parts) (s : List ℕ) (o : OrderSoFar) → IsLayered p → IsSettled p s → o.order.rules.items ≡ [] → o.order.givers.items ≡ replicate (length p.variables) None
+    → IsFullIndex p o.requiring → AreOpenAtFirst p s o.open → IsOrderSoFar p s o
+none_added p s o layered settled rules_are givers_are requiring first = record {
+  builds = record {
+    layered = layered;
+    settled = settled;
+    each = rw rules_are (λ k lt. absurd (omega arith));
+    givers = rw (rules_are, givers_are) (record {
+      one_each = length-replicate (length p.variables) None;
+      each = λ v r. ((λ at. absurd (none_given (length p.variables) v r at)), (λ its. absurd (contains_none r its.among)));
+    });
+    requiring = requiring;
+    counted = rw rules_are first.counted;
+  };
+  whole = rw rules_are first.whole;
+}
+  where
+    none_given : (n v r : ℕ) → giver_at (replicate n None) v ≡ Some r → ⊥
+    none_given n v r at = elim (cases_lt v n) [
+      | inl lt ↦ (let e : None ≡ Some r = sym (get_or-replicate n v None None lt) ∙ at in cc)
+      | inr past ↦ (let e : None ≡ Some r = sym (get_or_past (replicate n None) v None (let none : Option ℕ = None in let l = length-replicate n none in omega arith)) ∙ at in cc)
+    ]
+
+pub all_added : (p : Parts) (s : List ℕ) (o : OrderSoFar) → IsOrderSoFar p s o → heap_items o.open.ready ≡ [] → IsDerivedOrder p s o.order
+all_added p s o is none = record {
+  is = record { each = is.builds.each; whole = λ rule can. contains_none (entry_for rule) (subst (λ l. Contains l (entry_for rule)) none (is.whole rule can)) };
+  givers = is.builds.givers;
+}
+
+-- ---- the open conditions of the first rules
+
+-- the first rules are counted, and those of them that can be added are ready
+pub record OpenUpTo (p : Parts) (s : List ℕ) (n : ℕ) (o : OpenConditions) : Type 0 where
+  pub so_far : length o.counts.items ≡ n
+  pub exact : (rule : ℕ) → rule < n → get_or o.counts.items rule 0 ≡ open_with p s [] (rule_at p rule).conditions
+  pub ready : All (λ (e : Reverse ℕ). HasNoneOpen p o.counts.items e.0 × (e.0 < n)) (heap_items o.ready)
+  pub ordered : IsOrdered o
+  pub whole : (rule : ℕ) → rule < n → CanBeAdded p s [] rule → IsReady o rule
+
+pub all_open : (p : Parts) (s : List ℕ) (n : ℕ) (o : OpenConditions) → n ≡ length p.rules → OpenUpTo p s n o → AreOpenAtFirst p s o
+all_open p s n o e up = record {
+  counted = record {
+    one_each = up.so_far ∙ e;
+    exact = λ rule lt _. up.exact rule (rw e lt);
+    ready = λ k d lt. (up.ready k d lt).0;
+    ordered = up.ordered;
+  };
+  whole = λ rule can. up.whole rule (rw e can.exists) can;
+}
+
+module _ (p : Parts) (s : List ℕ) (n : ℕ) (o o' : OpenConditions) (count : ℕ) (within : n < length p.rules) (up : OpenUpTo p s n o)
+    (counts : o'.counts.items ≡ o.counts.items ++ count ∷ []) (is : count ≡ open_with p s [] (rule_at p n).conditions) where
+  counted_before : (rule : ℕ) → rule < n → get_or o'.counts.items rule 0 ≡ get_or o.counts.items rule 0
+  counted_before rule lt = ap (λ cs. get_or cs rule 0) counts ∙ get_or_append_left o.counts.items (count ∷ []) 0 rule (let e = up.so_far in omega arith)
+
+  counted_now : get_or o'.counts.items n 0 ≡ count
+  counted_now = ap (λ cs. get_or cs n 0) counts ∙ get_or_push o.counts.items count 0 n up.so_far
+
+  all_counted : (rule : ℕ) → rule < n + 1 → get_or o'.counts.items rule 0 ≡ open_with p s [] (rule_at p rule).conditions
+  all_counted rule lt = elim (cases_eq rule n) [
+    | inl e ↦ subst (λ r. get_or o'.counts.items r 0 ≡ open_with p s [] (rule_at p r).conditions) (sym e) (counted_now ∙ is)
+    | inr ne ↦ counted_before rule (omega arith) ∙ up.exact rule (omega arith)
+  ]
+
+  so_far : length o'.counts.items ≡ n + 1
+  so_far = let e = ap length counts in let l = length-append o.counts.items (count ∷ []) in let f = up.so_far in omega arith
+
+  old_ready : All (λ (e : Reverse ℕ). HasNoneOpen p o'.counts.items e.0 × (e.0 < n + 1)) (heap_items o.ready)
+  old_ready k d lt =
+      let its = up.ready k d lt in
+      let less = its.1 in
+      (record { exists = its.0.exists; can = its.0.can; none = counted_before (get_or (heap_items o.ready) k d).0 less ∙ its.0.none }, omega arith)
+
+  -- a rule that can't be added
+  pub open_more : o'.ready ≡ o.ready → (count ≡ 0 → CanFire p (rule_at p n) → ⊥) → OpenUpTo p s (n + 1) o'
+  open_more same none = record {
+    so_far = so_far;
+    exact = all_counted;
+    ready = rw same old_ready;
+    ordered = rw same up.ordered;
+    whole = λ rule lt can. elim (cases_eq rule n) [
+      | inr ne ↦ rw same (up.whole rule (omega arith) can)
+      | inl e ↦ absurd (none (is ∙ none_open_when_met p s [] (rule_at p n).conditions
+          (subst (λ r. AreMet p s [] (rule_at p r).conditions) e (record { hold = can.hold; rests = can.rests }))) (subst (λ r. CanFire p (rule_at p r)) e can.can))
+    ];
+  }
+
+  -- a rule that is ready
+  pub open_ready : IsPermutation (entry_for n ∷ heap_items o.ready) (heap_items o'.ready) → (IsOrdered o → IsOrdered o') → count ≡ 0 → CanFire p (rule_at p n) → OpenUpTo p s (n + 1) o'
+  open_ready joined keeps none can = record {
+    so_far = so_far;
+    exact = all_counted;
+    ready = All-permutation (λ (e : Reverse ℕ). HasNoneOpen p o'.counts.items e.0 × (e.0 < n + 1)) (entry_for n ∷ heap_items o.ready) (heap_items o'.ready) joined
+        (All-cons (λ (e : Reverse ℕ). HasNoneOpen p o'.counts.items e.0 × (e.0 < n + 1)) (entry_for n) (heap_items o.ready)
+        (record { exists = within; can = can; none = counted_now ∙ none }, omega arith) old_ready);
+    ordered = keeps up.ordered;
+    whole = λ rule lt its. Contains-permutation (entry_for n ∷ heap_items o.ready) (heap_items o'.ready) (entry_for rule) joined (elim (cases_eq rule n) [
+      | inl e ↦ subst (λ r. Contains (entry_for n ∷ heap_items o.ready) (entry_for r)) (sym e) (contains_head (entry_for n) (heap_items o.ready))
+      | inr ne ↦ contains_tail (entry_for n) (heap_items o.ready) (entry_for rule) (up.whole rule (omega arith) its)
+    ]);
+  }

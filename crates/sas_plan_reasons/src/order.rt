@@ -49,7 +49,7 @@ pub fn order_of<T: Grounded>(
 ) -> Result<DerivedOrder, AllocError>
     requires state { IsState task.now.variables state.now }
     requires settled { IsSettled task.now state.now }
-    ensures { IfOk result (λ order. IsDerivedOrder task.now state.now order) }
+    ensures { IfOk result (IsDerivedOrder task.now state.now) }
 {
     let mut so_far = OrderSoFar::new(alloc, task, state)?;
     so_far.finish(task, state)?;
@@ -60,20 +60,21 @@ impl OrderSoFar {
     /// Returns the empty order.
     fn new<T: Grounded>(
         alloc: Global,
-        task: &Layered<T>,
+        layered: &Layered<T>,
         state: &State,
     ) -> Result<OrderSoFar, AllocError>
-        requires state { IsState task.now.variables state.now }
-        requires settled { IsSettled task.now state.now }
-        ensures { IfOk result (λ so_far. IsOrderSoFar task.now state.now so_far) }
+        requires state { IsState layered.now.variables state.now }
+        requires settled { IsSettled layered.now state.now }
+        ensures { IfOk result (IsOrderSoFar layered.now state.now) }
     {
+        let task = layered.task();
         Ok(OrderSoFar {
             order: DerivedOrder {
                 rules: Vec::new(alloc),
                 givers: vec![in alloc; None; task.variables() as usize]?,
             },
-            requiring: index_of_all(alloc, task)?,
-            open: OpenConditions::new(alloc, task, state)?,
+            requiring: index_of_all(alloc, layered)?,
+            open: OpenConditions::new(alloc, layered, state)?,
         })
     }
 
@@ -121,7 +122,7 @@ impl OpenConditions {
         state: &State,
     ) -> Result<OpenConditions, AllocError>
         requires state { IsState layered.now.variables state.now }
-        ensures { IfOk result (λ open. AreOpenAtFirst layered.now state.now open) }
+        ensures { IfOk result (AreOpenAtFirst layered.now state.now) }
     {
         let task = layered.task();
         let mut open = OpenConditions {
