@@ -7,6 +7,15 @@ use Rattle.sas_plan_reasons.proofs.Sorting.{pairs_head, pairs_tail, same_ordered
 
 -- ---- the rules of a derivation
 
+-- these are the rules of the variable's derivation in this order
+pub record DerivationIn (p : Parts) (order : List ℕ) (var : ℕ) (rules : List ℕ) : Type 0 where
+  pub each : All (InDerivation p order var) rules
+  pub whole : (rule : ℕ) → InDerivation p order var rule → Contains rules rule
+  pub ordered : AllPairs (StandsBefore order) rules
+
+pub is_derivation : (p : Parts) (s order : List ℕ) → IsOrder p s order → (var : ℕ) (rules : List ℕ) → DerivationIn p order var rules → IsDerivation p s var rules
+is_derivation p s order is var rules its = record { order = order; is = is; each = its.each; whole = its.whole; ordered = its.ordered }
+
 module _ (p : Parts) (var : ℕ) where
   -- whether a condition of the rule needs a rule of the variable
   depends : ℕ → ℕ → Bool
@@ -160,17 +169,15 @@ module _ (p : Parts) (var : ℕ) where
       stand i j d lt within =
           record { place = i; place' = j; less = lt; within = within; at = get_or_default order i 0 d (omega arith); at' = get_or_default order j 0 d within }
 
-      pub derivation_in : IsDerivation p s var (derived order)
+      pub derivation_in : DerivationIn p order var (derived order)
       derivation_in = record {
-        order = order;
-        is = is;
         each = λ k d lt. sound order (λ r h. h) (get_or (derived order) k d) (Contains-get_or (derived order) k d lt);
         whole = complete;
         ordered = in_order (StandsBefore order) order stand;
       }
 
 pub some_derivation : (p : Parts) (s : List ℕ) (var : ℕ) → (rules : List ℕ) × IsDerivation p s var rules
-some_derivation p s var = let w = some_order p s in (derived p var w.0, derivation_in p var w.0 s w.1)
+some_derivation p s var = let w = some_order p s in (derived p var w.0, is_derivation p s w.0 w.1 var (derived p var w.0) (derivation_in p var w.0 s w.1))
 
 -- ---- one derivation
 
@@ -226,3 +233,7 @@ own_is_last p s var rule rules d its = last_of (StandsBefore d.order) rule rules
       | inl e ↦ (let itself = subst (StandsBefore d.order rule) e less in no_circle p s d.order d.is rule rule itself itself)
       | inr before ↦ no_circle p s d.order d.is rule z less before
     ])
+
+-- the rules of the order exist
+pub rule_exists : (p : Parts) (s order : List ℕ) → IsOrder p s order → (rule : ℕ) → Contains order rule → rule < length p.rules
+rule_exists p s order is rule among = let k = placed p s order is rule among in subst (λ r. r < length p.rules) k.2 (is.each k.0 k.1).has.exists

@@ -111,7 +111,7 @@ pub use Rattle.sas_plan_reasons.specs.Lines.{with_line, with_lines, LineThen, Li
 pub use Rattle.sas_plan_reasons.specs.Lowest.{IsLowest, AreLowest}
 pub use Rattle.sas_plan_reasons.specs.MayMean.{after_spaces, squeezed, folded, similar_operator, IsOther, MayMean}
 pub use Rattle.sas_plan_reasons.specs.Retracing.{HavePlaces, NotedAt, LeftAt, Notes, change_text, ListCoversChanges, AreFirstChanges, IsOtherIfAny, Retraces, ComesUnambiguously, HaveSince}
-pub use Rattle.sas_plan_reasons.specs.Origins.{is_met, open_with, IsReady, IsOrdered, HasNoneOpen, AreOpen, AreOpenAtFirst, unmet, work_left, Closes, CanMeetAll, MeetsAll, Meets, giver_at, AreGivers, IsDerivedOrder, Builds, IsOrderSoFar, IsNext, is_reported, ArePlaces, HasRule, OriginsMatchState, AreOrigins, HasRuleBelow, IsReportedOf, AreReportedBelow, SameOrigins, unreported, AddsRules, SortsBy, ReportsDerivation}
+pub use Rattle.sas_plan_reasons.specs.Origins.{is_met, open_with, IsReady, IsOrdered, HasNoneOpen, AreOpen, AreOpenAtFirst, unmet, work_left, Closes, CanMeetAll, MeetsAll, Meets, giver_at, AreGivers, IsDerivedOrder, Builds, IsOrderSoFar, IsNext, is_reported, ArePlaces, HasRule, OriginsMatchState, AreOrigins, HasRuleBelow, IsReportedOf, AreReportedBelow, SameOrigins, unreported, AddsRules, ReportsDerivation}
 pub use Rattle.sas_plan_reasons.specs.ReasonLaws.{replayed, RequiresLower, RestsOnEarlier, IsAlike, IsLowestIfAny}
 pub use Rattle.sas_plan_reasons.specs.Trace.{run_lines, changed, is_changed, change_line, change_lines, step_lines, step_line}
 pub use Rattle.sas_plan_reasons.specs.Traced.{EndsWith, TraceVerdict, IsTraced}
