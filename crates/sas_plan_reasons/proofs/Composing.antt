@@ -124,7 +124,10 @@ module _ (p : Parts) (history : PlanHistory) {A : Type 0} (Are : Run → A → L
 
   pub one_more : (first old new : Report) (items : List A) (item : A) → AddsLines p history first old (λ run. LinesOfEach (Are run) items)
       → AddsLines p history old new (λ run. Are run item) → AddsLines p history first new (λ run. LinesOfEach (Are run) (items ++ item ∷ []))
-  one_more first old new items item before adds run behind is = grind (arith, each_more, with_lines, lines_append)
+  one_more first old new items item before adds run behind is =
+      let b = before run behind is in
+      let a = adds run behind b.3 in
+      (b.0 ++ a.0, each_more (Are run) items item b.0 a.0 b.1 a.1, a.2 ∙ (ap (λ (l : List Line). with_lines l a.0) b.2 ∙ sym (lines_append first.lines b.0 a.0)), a.3)
 
 -- ---- the lines of rules, one rule more
 
