@@ -1,7 +1,6 @@
 -- How the order of derived values grows by a rule, how it begins, and how it ends.
-use Rattle.std.proofs.lemmas.Grind.{common_steps}
-use Rattle.sas_plan_reasons.proofs.Imports.{◌≡◌, ◌≢◌, ℕ, suc, ◌+◌, ◌<◌, ◌≤◌, ◌⊎◌, ◌==◌, ◌||◌, ◌↔◌, Bool, true, false, is_some, List, [], ◌∷◌, ◌++◌, length, take, set, replicate, get_or, Option, None, Some, refl, sym, ◌∙◌, ap, subst, inl, inr, arith, All, Contains, cases_eq, cases_Bool, false≢true, same_Some, eq-eqb, leb_tells, All-nil, All-cons, All-head, All-tail, All-contains, All-permutation, Contains-push, Contains-push_cases, Contains-append_left, Contains-permutation, Contains-get_or, IsPermutation, length_permutation, get_or-set_same, get_or-set_other, length-set, get_or_default, length-replicate, get_or-replicate, get_or_past, cases_lt, contains_none, contains_head, contains_tail, contains_cases, is_lt, nat_cmp, IsUpperBound, Reverse, heap_items, IsOnLayer, CanFire, default_of, differs_not, IsLayered, IsSettled, Vec, Global, get_or_append_left, get_or_push, length-append, Fact, Parts, rule_at, IsRuleOn, WellRanged, change_of, change_within, IsFullIndex, RuleCondition, waiting_at, asking, occurrences, released, IsLowest, needs_rules, has_rule, CanBeAdded, IsOrder, IsRuleOf, open_with, IsReady, IsOrdered, unmet, work_left, HasNoneOpen, AreOpen, AreOpenAtFirst, OpenConditions, OrderSoFar, DerivedOrder, CanMeetAll, MeetsAll, giver_at, AreGivers, IsDerivedOrder, Builds, IsOrderSoFar, IsNext}
-use Rattle.sas_plan_reasons.proofs.Derivation.{on_some_layer, needs_cases, rule_of, had_rule, rule_there, on_a_layer, added_differs}
+use Rattle.sas_plan_reasons.proofs.Imports.{◌≡◌, ◌≢◌, ℕ, suc, ◌+◌, ◌<◌, ◌≤◌, ◌==◌, ◌||◌, Bool, true, false, is_some, List, [], ◌∷◌, ◌++◌, length, set, replicate, get_or, Option, None, Some, refl, sym, ◌∙◌, ap, subst, inl, inr, arith, All, Contains, cases_eq, cases_Bool, false≢true, same_Some, eq-eqb, leb_tells, All-nil, All-cons, All-head, All-tail, All-contains, All-permutation, Contains-push, Contains-push_cases, Contains-append_left, Contains-permutation, IsPermutation, length_permutation, get_or-set_same, get_or-set_other, length-set, get_or_default, length-replicate, get_or-replicate, get_or_past, cases_lt, contains_none, contains_head, contains_tail, contains_cases, is_lt, nat_cmp, IsUpperBound, Reverse, heap_items, IsOnLayer, CanFire, default_of, differs_not, IsLayered, IsSettled, Vec, Global, get_or_append_left, get_or_push, length-append, Fact, Parts, rule_at, IsRuleOn, WellRanged, change_of, change_within, IsFullIndex, RuleCondition, waiting_at, asking, occurrences, released, IsLowest, needs_rules, has_rule, CanBeAdded, open_with, IsReady, IsOrdered, unmet, work_left, HasNoneOpen, AreOpen, AreOpenAtFirst, OpenConditions, OrderSoFar, CanMeetAll, MeetsAll, giver_at, AreGivers, IsDerivedOrder, IsOrderSoFar, IsNext}
+use Rattle.sas_plan_reasons.proofs.Derivation.{on_some_layer, needs_cases, rule_of, had_rule, on_a_layer, added_differs}
 use Rattle.sas_plan_reasons.proofs.Orders.{added_one, has_more}
 use Rattle.sas_plan_reasons.proofs.OpenConditions.{AreMet, met_when_none_open, none_open_when_met, closed, entry_for}
 
@@ -216,7 +215,7 @@ module _ (p : Parts) (s : List ℕ) (o o' : OrderSoFar) (x : Reverse ℕ) (is : 
             (Contains-permutation (heap_items o.open.ready) (x ∷ heap_items o'.open.ready) (entry_for other) popped (is.whole other (rw order at can)))) [
               | inl e ↦ inr (sym (ap (λ (r : Reverse ℕ). r.0) e))
               | inr there ↦ inl there
-          ];
+            ];
       }
 
   pub fewer_left : work_left o'.open + 1 ≡ work_left o.open

@@ -1,7 +1,5 @@
 -- The rules that concern a fact that doesn't hold. A fact has exactly one cause.
-use Rattle.std.proofs.Common.{arith}
-use Rattle.std.proofs.lemmas.Grind.{common_steps}
-use Rattle.sas_plan_reasons.proofs.Imports.{IsDerived, IsTrue, can_be_given, ◌≡◌, ℕ, ◌<◌, Bool, true, false, List, [], ◌∷◌, ◌++◌, length, get_or, slice_index, Some, refl, sym, ◌∙◌, ap, subst, inl, inr, ◌==◌, ◌&&◌, find, map, false≢true, and_parts, eqb-true, not-true, eqb-false, eqb_tells, Decides-eqb, Decides-not, All-nil, All-cons, Any-from_list_any, Fact, Effect, Parts, rule_at, Holds, AllHold, IsOnLayer, default_of, CanFire, fails, AreDerivationLines, since_line, missing_lines, IsCause, can_fire, IsLayered, new_value_of, differs, IsSettled, hold_or_not, layer_cases, new_value_is, differs_decides, differs_not, can_give, Line, Run, last_state, is_some, layer_of}
+use Rattle.sas_plan_reasons.proofs.Imports.{IsDerived, IsTrue, can_be_given, ◌≡◌, ℕ, ◌<◌, true, List, [], ◌∷◌, ◌++◌, length, get_or, slice_index, Some, refl, sym, ◌∙◌, ap, subst, inl, inr, ◌==◌, ◌&&◌, find, map, and_parts, eqb-true, not-true, eqb-false, eqb_tells, Decides-eqb, Decides-not, All-nil, All-cons, Any-from_list_any, Fact, Effect, Parts, rule_at, Holds, AllHold, IsOnLayer, default_of, CanFire, fails, AreDerivationLines, since_line, missing_lines, IsCause, can_fire, IsLayered, new_value_of, differs, IsSettled, hold_or_not, new_value_is, differs_decides, differs_not, can_give, Line, Run, last_state}
 use Rattle.sas_answers.specs.declared.line.Line.TheVariants as line
 use Rattle.sas_plan_reasons.proofs.Derivation.{on_some_layer, value_is}
 use Rattle.sas_plan_reasons.proofs.Derivations.{some_derivation, one_derivation}

@@ -1,7 +1,7 @@
 -- The order of derived values: what each of its rules rests on, and that it has a rule of each variable that differs from its default.
 use Rattle.std.proofs.Common.{rules}
 use Rattle.std.proofs.lemmas.Grind.{common_steps}
-use Rattle.sas_plan_reasons.proofs.Imports.{IsTrue, None, Some, ◌&&◌, not, slice_index, ◌↔◌, ◌≡◌, ◌≢◌, ℕ, zero, suc, ◌+◌, ◌<◌, ◌≤◌, ◌⊎◌, ◌==◌, true, false, cond, is_some, List, length, take, get_or, refl, sym, ◌∙◌, ap, subst, inl, inr, arith, All, Contains, cases_eq, cases_order, cases_Bool, false≢true, All-contains, list_any_at, Any-from_list_any, Contains-get_or, get_or-take, get_or_default, length-take-le, eq-eqb, eqb-true, and_parts, and_from, ne_eqb, eqb_tells, Fact, Effect, Parts, rule_at, AllHold, IsBasic, IsOnLayer, default_of, CanFire, LooksDown, IsLayered, IsClosed, new_value_of, value_with, differs, IsSettled, layer_decides, layer_of, layer_cases, given_on, given_off, one_layer, new_value_is, differs_decides, differs_true, needs_rules, has_rule, CanBeAdded, IsOrder, IsRuleOf, DependsOn, StandsBefore, RequiresLower, RestsOnEarlier}
+use Rattle.sas_plan_reasons.proofs.Imports.{IsTrue, None, Some, ◌&&◌, not, slice_index, ◌↔◌, ◌≡◌, ◌≢◌, ℕ, zero, suc, ◌<◌, ◌≤◌, ◌⊎◌, ◌==◌, true, false, cond, is_some, List, length, take, get_or, refl, sym, ◌∙◌, ap, subst, inl, inr, arith, All, Contains, cases_eq, cases_order, cases_Bool, false≢true, All-contains, list_any_at, Any-from_list_any, Contains-get_or, get_or-take, get_or_default, length-take-le, eq-eqb, eqb-true, eqb_tells, Fact, Effect, Parts, rule_at, AllHold, IsBasic, IsOnLayer, default_of, CanFire, LooksDown, IsLayered, IsClosed, new_value_of, value_with, differs, IsSettled, layer_decides, layer_of, layer_cases, given_on, given_off, new_value_is, differs_decides, differs_true, needs_rules, has_rule, CanBeAdded, IsOrder, IsRuleOf, DependsOn, StandsBefore, RequiresLower, RestsOnEarlier}
 
 -- ---- rules of variables
 
@@ -129,11 +129,13 @@ module _ (p : Parts) (s : List ℕ) (layered : IsLayered p) (settled : IsSettled
       met : (var : ℕ) (c : Fact) → IsOnLayer p layer var → LooksDown p var c → value_with p layer s (has_rule p order) c.var ≡ c.value
           → (get_or s c.var 0 ≡ c.value) × (needs_rules p c ≡ true → has_rule p order c.var ≡ true)
       met var c on down hold = elim (layer_decides p layer c.var) [
-        | inr w ↦ (let holds : get_or s c.var 0 ≡ c.value = sym (given_off p layer s (has_rule p order) c.var w.0) ∙ hold in
-            (holds, λ needs. elim (needs_cases p c) [
-              | inr n ↦ absurd (false≢true (sym n.0 ∙ needs))
-              | inl q ↦ below q.0 c.var (lower q.0 q.1 w.0) q.1 (differs_true p s c.var (λ e. q.2 (sym holds ∙ e)))
-            ]))
+        | inr w ↦ (let holds : get_or s c.var 0 ≡ c.value = sym (given_off p layer s (has_rule p order) c.var w.0) ∙ hold in (
+          holds,
+          λ needs. elim (needs_cases p c) [
+            | inr n ↦ absurd (false≢true (sym n.0 ∙ needs))
+            | inl q ↦ below q.0 c.var (lower q.0 q.1 w.0) q.1 (differs_true p s c.var (λ e. q.2 (sym holds ∙ e)))
+          ],
+        ))
         | inl w ↦ elim (cases_Bool (has_rule p order c.var)) [
           | inl y ↦ (
             (settled layer).new c.var w.0 (has_differs c.var y)

@@ -1,6 +1,6 @@
 -- Each variable has exactly one derivation.
 use Rattle.std.proofs.lemmas.Grind.{common_steps}
-use Rattle.sas_plan_reasons.proofs.Imports.{IsTrue, IsFalse, ◌≡◌, ◌≢◌, ℕ, zero, suc, ◌+◌, ◌<◌, ◌⊎◌, ◌==◌, ◌&&◌, ◌||◌, Bool, true, false, if◌then◌else◌, List, [], ◌∷◌, ◌++◌, length, take, filter, get_or, refl, sym, ◌∙◌, ap, subst, inl, inr, arith, All, AllPairs, Contains, cases_eq, cases_Bool, false≢true, eqb_tells, eqb-true, eq-eqb, and_parts, and_from, list_any, list_any_at, Any-from_list_any, All-contains, AllPairs-cons, Contains-get_or, get_or_default, contains_head, contains_tail, contains_cases, contains_none, Fact, Parts, rule_at, needs_rules, has_rule, IsOrder, IsRuleOf, DependsOn, Own, Below, InDerivation, StandsBefore, IsDerivation}
+use Rattle.sas_plan_reasons.proofs.Imports.{IsFalse, ◌≡◌, ℕ, ◌<◌, ◌⊎◌, ◌==◌, ◌&&◌, ◌||◌, Bool, true, false, if◌then◌else◌, List, [], ◌∷◌, ◌++◌, length, get_or, refl, sym, ◌∙◌, ap, subst, inl, inr, arith, All, AllPairs, Contains, cases_Bool, false≢true, eqb_tells, eqb-true, eq-eqb, and_parts, and_from, list_any, list_any_at, Any-from_list_any, All-contains, AllPairs-cons, Contains-get_or, get_or_default, contains_head, contains_tail, contains_cases, contains_none, Fact, Parts, rule_at, needs_rules, has_rule, IsOrder, IsRuleOf, DependsOn, Own, Below, InDerivation, StandsBefore, IsDerivation}
 use Rattle.sas_plan_reasons.proofs.Derivation.{had_rule, one_rule, one_place, no_circle, rests_on_earlier, earlier, placed}
 use Rattle.sas_plan_reasons.proofs.Orders.{one_order, some_order}
 use Rattle.sas_plan_reasons.proofs.Sorting.{pairs_head, pairs_tail, same_ordered, last_of}
@@ -153,9 +153,9 @@ module _ (p : Parts) (var : ℕ) where
       never_later i j d lt within rests =
           let at = get_or_default order i d 0 (omega arith) in
           let w = earlier p s order is i (rule_at p (get_or order j d)).var (omega arith)
-              (rests_on_earlier p s order is i (rule_at p (get_or order j d)).var (omega arith) (subst (λ a. DependsOn p a (rule_at p (get_or order j d)).var) at rests)) in
+          (rests_on_earlier p s order is i (rule_at p (get_or order j d)).var (omega arith) (subst (λ a. DependsOn p a (rule_at p (get_or order j d)).var) at rests)) in
           let same = one_place p s order is w.2.place j (let l = w.2.less in let m = w.2.within in omega arith) within
-              (ap (λ r. (rule_at p r).var) w.2.at ∙ (w.1.on ∙ ap (λ r. (rule_at p r).var) (get_or_default order j d 0 within))) in
+          (ap (λ r. (rule_at p r).var) w.2.at ∙ (w.1.on ∙ ap (λ r. (rule_at p r).var) (get_or_default order j d 0 within))) in
           let there = one_place p s order is w.2.place' i w.2.within (omega arith) (ap (λ r. (rule_at p r).var) w.2.at') in
           let less = w.2.less in
           omega arith

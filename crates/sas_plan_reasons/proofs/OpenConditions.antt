@@ -1,7 +1,5 @@
 -- The open conditions of rules, and what closing some of them does.
-use Rattle.std.proofs.lemmas.Grind.{common_steps}
-use Rattle.sas_plan_reasons.proofs.Imports.{◌≡◌, ◌≢◌, ℕ, zero, suc, ◌+◌, ◌<◌, ◌≤◌, ◌⊎◌, ◌==◌, ◌&&◌, ◌||◌, Bool, true, false, not, if◌then◌else◌, IsTrue, List, [], ◌∷◌, ◌++◌, length, drop, set, get_or, refl, sym, ◌∙◌, ap, subst, inl, inr, arith, All, Contains, cases_eq, cases_Bool, false≢true, eqb_tells, eq-eqb, All-nil, All-cons, All-head, All-tail, All-contains, Contains-get_or, get_or-set_same, get_or-set_other, length-set, drop_all, drop_more, IsPermutation, IsPermutation-sym, Contains-permutation, length_permutation, contains_head, contains_tail, contains_cases, contains_none, Fact, Parts, rule_at, slice_index, AllHold, Holds, needs_rules, has_rule, asking, occurrences, released, RuleCondition, Reverse, heap_items, OpenConditions, is_met, open_with, IsReady, IsOrdered, unmet, work_left, Closes, CanMeetAll, MeetsAll, Meets}
-use Rattle.sas_plan_reasons.proofs.Derivation.{needs_cases}
+use Rattle.sas_plan_reasons.proofs.Imports.{◌≡◌, ◌≢◌, ℕ, zero, suc, ◌+◌, ◌<◌, ◌≤◌, ◌⊎◌, ◌==◌, ◌&&◌, ◌||◌, Bool, true, false, not, if◌then◌else◌, IsTrue, List, [], ◌∷◌, ◌++◌, length, drop, set, get_or, refl, sym, ◌∙◌, ap, subst, inl, inr, arith, All, Contains, cases_eq, cases_Bool, false≢true, eqb_tells, eq-eqb, All-nil, All-cons, All-head, All-tail, All-contains, Contains-get_or, get_or-set_same, get_or-set_other, length-set, drop_all, drop_more, IsPermutation, IsPermutation-sym, Contains-permutation, length_permutation, contains_head, contains_tail, contains_cases, contains_none, Fact, Parts, rule_at, slice_index, AllHold, Holds, needs_rules, has_rule, asking, occurrences, released, RuleCondition, Reverse, heap_items, OpenConditions, is_met, open_with, IsReady, IsOrdered, unmet, Closes, CanMeetAll, MeetsAll, Meets}
 
 -- ---- no open conditions
 
@@ -158,10 +156,10 @@ module _ (o o' : OpenConditions) (rule n : ℕ) (lt : rule < length o.counts.ite
       only = λ k d below. elim (contains_cases (entry_for rule) (heap_items o.ready) (get_or (heap_items o'.ready) k d)
           (Contains-permutation (heap_items o'.ready) (entry_for rule ∷ heap_items o.ready) (get_or (heap_items o'.ready) k d)
           (IsPermutation-sym (entry_for rule ∷ heap_items o.ready) (heap_items o'.ready) joined) (Contains-get_or (heap_items o'.ready) k d below))) [
-        | inr there ↦ inl there
-        | inl e ↦ (let same : rule ≡ (get_or (heap_items o'.ready) k d).0 = ap (λ (x : Reverse ℕ). x.0) e in
-            inr ((record { value = value; rule = rule }, contains_head (record { value = value; rule = rule }) [], same), subst (λ r. get_or o'.counts.items r 0 ≡ 0) same (here ∙ none)))
-      ];
+            | inr there ↦ inl there
+            | inl e ↦ (let same : rule ≡ (get_or (heap_items o'.ready) k d).0 = ap (λ (x : Reverse ℕ). x.0) e in
+                inr ((record { value = value; rule = rule }, contains_head (record { value = value; rule = rule }) [], same), subst (λ r. get_or o'.counts.items r 0 ≡ 0) same (here ∙ none)))
+          ];
       ordered = ordered;
       left = (let f = unmet_fewer o.counts.items rule lt (is ∙ ap (λ m. m + 1) none) in
           let g = ap unmet (set_to ∙ ap (set o.counts.items rule) none) in

@@ -1,6 +1,6 @@
 -- There is exactly one order of derived values.
 use Rattle.std.proofs.lemmas.Grind.{common_steps}
-use Rattle.sas_plan_reasons.proofs.Imports.{◌≡◌, ℕ, zero, suc, ◌+◌, ◌<◌, ◌≤◌, ◌⊎◌, ◌||◌, ◌==◌, Bool, true, false, if◌then◌else◌, List, [], ◌∷◌, ◌++◌, length, take, get_or, refl, sym, ◌∙◌, ap, subst, inl, inr, arith, All, cases_eq, cases_lt, cases_order, cases_Bool, false≢true, eqb_tells, take_all, take_more, take_at, get_or_at, list_any-append, take-append-le, get_or_append_left, length-append, hold_or_not, Fact, Effect, Parts, rule_at, default_of, CanFire, IsLowest, needs_rules, has_rule, CanBeAdded, IsOrder, open_with}
+use Rattle.sas_plan_reasons.proofs.Imports.{◌≡◌, ℕ, zero, suc, ◌+◌, ◌<◌, ◌≤◌, ◌⊎◌, ◌||◌, ◌==◌, Bool, false, if◌then◌else◌, List, [], ◌∷◌, ◌++◌, length, take, get_or, refl, sym, ◌∙◌, ap, subst, inl, inr, arith, cases_eq, cases_lt, cases_order, cases_Bool, false≢true, eqb_tells, take_all, take_more, take_at, get_or_at, list_any-append, take-append-le, get_or_append_left, length-append, Effect, Parts, rule_at, default_of, IsLowest, has_rule, CanBeAdded, IsOrder, open_with}
 use Rattle.sas_plan_reasons.proofs.Lowest.{lowest_is_one, lowest_below}
 use Rattle.sas_plan_reasons.proofs.OpenConditions.{met_when_none_open, none_open_when_met}
 
@@ -15,7 +15,7 @@ module _ (p : Parts) (s : List ℕ) where
   same_front a b x y (suc k) le le' =
       let same = same_front a b x y k (omega arith) (omega arith) in
       let next : get_or a k 0 ≡ get_or b k 0 = lowest_is_one (CanBeAdded p s (take k b)) (get_or a k 0) (get_or b k 0)
-          (subst (λ rules. IsLowest (CanBeAdded p s rules) (get_or a k 0)) same (x.each k (omega arith))) (y.each k (omega arith)) in
+      (subst (λ rules. IsLowest (CanBeAdded p s rules) (get_or a k 0)) same (x.each k (omega arith))) (y.each k (omega arith)) in
       ap (λ n. take n a) (one_more k) ∙ (take_more a k 0 (omega arith)
       ∙ (ap (λ rules. rules ++ get_or a k 0 ∷ []) same ∙ (ap (λ rule. take k b ++ rule ∷ []) next
       ∙ (sym (take_more b k 0 (omega arith)) ∙ ap (λ n. take n b) (sym (one_more k))))))

@@ -1,5 +1,4 @@
 -- The rule becomes ready, or it has other open conditions.
-use Rattle.std.proofs.Common.{rules}
 use Rattle.sas_plan_reasons.proofs.Imports.{◌≡◌, ◌+◌, ◌-◌, get_or, refl, ◌∙◌, arith, get_or_default}
 use Rattle.sas_plan_reasons.proofs.OpenConditions.{closed_last, closed_one}
 use Rattle.sas_plan_reasons.proofs.order.OpenConditions.meet.Goals as goal

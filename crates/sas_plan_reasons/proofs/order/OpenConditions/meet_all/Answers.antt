@@ -1,6 +1,5 @@
 -- One condition more is closed, or it is on another value.
-use Rattle.sas_plan_reasons.proofs.Imports.{arith}
-use Rattle.sas_plan_reasons.proofs.OpenConditions.{closes_first, closes_all, closes_passed, closes_met, some_left}
+use Rattle.sas_plan_reasons.proofs.OpenConditions.{closes_passed, closes_met}
 use Rattle.sas_plan_reasons.proofs.order.OpenConditions.meet_all.Goals as goal
 use Rattle.sas_plan_reasons.proofs.order.OpenConditions.meet_all.Goals.{then-condition-value+in_ok-meet, else-condition-value}
 

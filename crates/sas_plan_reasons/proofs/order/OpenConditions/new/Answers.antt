@@ -1,6 +1,6 @@
 -- One more rule is counted, and it is ready or can't be added.
 use Rattle.sas_plan_reasons.proofs.Imports.{◌≡◌, ◌≢◌, ◌<◌, ℕ, length, [], refl, sym, ◌∙◌, ap, subst, arith, Parts, Change, change_of, rule_at, default_of, CanFire, open_with}
-use Rattle.sas_plan_reasons.proofs.Building.{all_open, open_more, open_ready}
+use Rattle.sas_plan_reasons.proofs.Building.{open_more, open_ready}
 use Rattle.sas_plan_reasons.proofs.order.OpenConditions.new.Goals as goal
 use Rattle.sas_plan_reasons.proofs.order.OpenConditions.new.Goals.{then-count-eq0+then-change-initial_value+in_ok-push-2, else-count-eq0, else-count-eq0-via-then-count-eq0+else-change-initial_value, else-count-eq0-via-else-count-eq0}
 

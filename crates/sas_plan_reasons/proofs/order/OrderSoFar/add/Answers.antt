@@ -1,5 +1,5 @@
 -- The variable has a rule, or it gets this one.
-use Rattle.sas_plan_reasons.proofs.Imports.{◌≡◌, ◌<◌, ℕ, length, set, Some, refl, sym, ◌∙◌, ap, subst, rule_at, Parts, Change, change_of, on_ok_weaker, giver_at}
+use Rattle.sas_plan_reasons.proofs.Imports.{◌≡◌, ℕ, set, Some, refl, ◌∙◌, ap, rule_at, Parts, Change, change_of, on_ok_weaker}
 use Rattle.sas_plan_reasons.proofs.Building.{within, some_there, none_there, passed_over, can_meet, one_added}
 use Rattle.sas_plan_reasons.proofs.order.OrderSoFar.add.Goals as goal
 

@@ -1,6 +1,6 @@
 -- The lowest rule that is ready is looked at; where none is ready, none can be added.
-use Rattle.sas_plan_reasons.proofs.Imports.{refl, arith}
-use Rattle.sas_plan_reasons.proofs.Building.{taken, fewer_left, all_added}
+use Rattle.sas_plan_reasons.proofs.Imports.{refl}
+use Rattle.sas_plan_reasons.proofs.Building.{taken}
 use Rattle.sas_plan_reasons.proofs.order.OrderSoFar.finish.Goals as goal
 
 pub add-requires-clause-next : goal.add-requires-clause-next

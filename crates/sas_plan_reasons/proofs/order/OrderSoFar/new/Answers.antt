@@ -1,6 +1,6 @@
 -- No rule was added.
 use Rattle.std.proofs.Common.{rules}
-use Rattle.sas_plan_reasons.proofs.Imports.{◌≡◌, ℕ, List, Option, None, Parts, length, replicate, ap, ◌∙◌}
+use Rattle.sas_plan_reasons.proofs.Imports.{◌≡◌, ℕ, Option, None, Parts, length, replicate, ap, ◌∙◌}
 use Rattle.sas_plan_reasons.proofs.Building.{none_added}
 use Rattle.sas_plan_reasons.proofs.order.OrderSoFar.new.Goals as goal
 
