@@ -26,9 +26,10 @@ and isn't at its default, the rules of its derivation follow. Where it is derive
 follows for each rule that would derive that the first of its conditions that fails, or that there is no such rule. A line of a rule
 that stands further up already isn't said again.
 
-Variables of a layer rise in rounds: in each round all whose rules hold in what has risen in the rounds before. The rule that
-gives a variable its value is the first of its rules that holds when it rises. The derivation of a variable has the variable,
-and with each one those that this rule requires and that have risen, too; so none rests on itself.
+The order of derived values is a list of rules. As long as there is one, the first rule is added that can fire, whose conditions hold,
+whose variable has no rule in the list, and each of whose conditions that needs a rule, since it is on a derived variable and not
+its default, is on a variable that has one. The derivation of a variable has its rule in the list, and with each one those of the
+variables for which this one needs rules; so none rests on itself.
 """
 from functools import cached_property
 
@@ -46,9 +47,9 @@ class Run:
         self.last = states[-1]
 
     @cached_property
-    def rising(self):
-        """How the derived variables come to the values that they have in the last state."""
-        return rising(self.task, self.last)
+    def order(self):
+        """The order of derived values in the last state."""
+        return order_of(self.task, self.last)
 
 
 def run_of(task, names):
@@ -86,68 +87,49 @@ def rules_of(task, var):
     return [place for place, (_, of, _, new) in rules if of == var and new != task["defaults"][var]]
 
 
-def with_risen(task, state, rules, risen):
-    """Returns a state in which of the variables that have these rules those alone have risen that do so here."""
-    values = list(state)
-    for var, its in rules.items():
-        values[var] = task["rules"][its[0]][3] if var in risen else task["defaults"][var]
-    return values
+def needs_rule(task, on, value):
+    """Returns whether a fact is on a derived variable, and isn't its default."""
+    return task["layers"][on] is not None and value != task["defaults"][on]
 
 
-def rising_on(task, state, layer):
-    """Returns for each variable on a layer that rises in which round it does, and by which rule."""
-    variables = [var for var, its in enumerate(task["layers"]) if its == layer]
-    rules = {var: rules_of(task, var) for var in variables if rules_of(task, var)}
-    found, risen, rank = {}, None, 0
-    while risen != set(found):
-        risen, rank = set(found), rank + 1
-        values = with_risen(task, state, rules, risen)
-        for var, its in rules.items():
-            holding = [rule for rule in its if holds(values, task["rules"][rule][0])]
-            if holding:
-                found.setdefault(var, (rank, holding[0]))
-    return found
-
-
-def rising(task, state):
-    """Returns the same for the variables on all layers."""
-    found = {}
-    for layer in {layer for layer in task["layers"] if layer is not None}:
-        found.update(rising_on(task, state, layer))
-    assert set(found) == {var for var in range(len(state)) if is_risen(task, state, var)}
-    return found
-
-
-def is_risen(task, state, var):
-    """Returns whether a variable is derived and isn't at its default."""
-    return task["layers"][var] is not None and state[var] != task["defaults"][var]
+def order_of(task, state):
+    """Returns the order of derived values in a settled state: the variables that have a rule, each with this rule, in order."""
+    order, rest = {}, [rule for var in range(len(state)) for rule in rules_of(task, var) if holds(state, task["rules"][rule][0])]
+    while True:
+        rest = sorted(rule for rule in rest if task["rules"][rule][1] not in order)
+        rests = {rule: [on for on, value in task["rules"][rule][0] if needs_rule(task, on, value)] for rule in rest}
+        can = [rule for rule in rest if all(on in order for on in rests[rule])]
+        if not can:
+            break
+        order[task["rules"][can[0]][1]] = can[0]
+    assert set(order) == {var for var, value in enumerate(state) if needs_rule(task, var, value)}
+    return order
 
 
 def derivation(run, var):
-    """Returns the variables of the derivation of one that has risen: by layer, by round, by number."""
-    found = [var]
-    for its in found:
-        _, rule = run.rising[its]
-        required = (on for on, _ in run.task["rules"][rule][0] if is_risen(run.task, run.last, on))
-        found += [on for on in dict.fromkeys(required) if on not in found]
-    ordered = sorted(found, key=lambda its: (run.task["layers"][its], run.rising[its][0], its))
+    """Returns the rules of a variable's derivation, in order; none where it is basic or has its default."""
+    found = [run.order[var]] if var in run.order else []
+    for rule in found:
+        rests = dict.fromkeys(on for on, value in run.task["rules"][rule][0] if needs_rule(run.task, on, value))
+        found += [run.order[on] for on in rests if run.order[on] not in found]
+    ordered = [rule for rule in run.order.values() if rule in found]
     assert_explains(run, var, ordered)
     return ordered
 
 
 def assert_explains(run, var, ordered):
     """Compares a derivation with what it is for: each rule requires basic facts, for defaults on lower layers and for variables
-    that stand before its own, and gives the value that there is; the variable for which it is derived is the last."""
+    whose rules stand before it, and gives the value that there is; the last is that of the variable."""
     task, before = run.task, set()
-    for its in ordered:
-        facts, of, _, new = task["rules"][run.rising[its][1]]
-        assert of == its and new == run.last[its] and holds(run.last, facts)
+    for rule in ordered:
+        facts, its, _, new = task["rules"][rule]
+        assert new == run.last[its] and holds(run.last, facts)
         for on, value in facts:
             layer = task["layers"][on]
             is_lower_default = layer is not None and value == task["defaults"][on] and layer < task["layers"][its]
             assert layer is None or is_lower_default or on in before
         before.add(its)
-    assert ordered[-1] == var
+    assert not ordered or task["rules"][ordered[-1]][1] == var
 
 
 def since(run, var):
@@ -158,9 +140,8 @@ def since(run, var):
 
 def given_by(run, var):
     """Returns the rules of a variable's derivation, as they are said."""
-    if not is_risen(run.task, run.last, var):
-        return []
-    return [f"rule {run.rising[its][1]} derives {fact_said(run.task, its, run.last[its])}" for its in derivation(run, var)]
+    rules = ((rule, run.task["rules"][rule]) for rule in derivation(run, var))
+    return [f"rule {rule} derives {fact_said(run.task, its, new)}" for rule, (_, its, _, new) in rules]
 
 
 def held_back(run, var, value):

@@ -1,6 +1,6 @@
 -- Reports with more lines.
 use Rattle.std.proofs.lemmas.Grind.{common_steps}
-use Rattle.sas_plan_reasons.proofs.Imports.{◌≡◌, ◌≢◌, ℕ, suc, ◌<◌, ◌⊎◌, true, false, not, List, [], ◌∷◌, ◌++◌, length, get_or, set, map, Option, None, Some, Vec, Global, refl, sym, ◌∙◌, ap, subst, inl, inr, arith, flat_map, find, ◌↔◌, IsTrue, AllByRecursion, AllPairs, Contains, option_map_or, cases_eq, cases_Bool, false≢true, get_or-set_same, get_or-set_other, length-set, flat_map-cons, Origins, Report, is_reported, AreOrigins, ReportsDerivation, lines_of_keepers, is_kept, IsReport, Contains-append_left, Contains-append_right, Contains-append_cases, Fact, Parts, rule_at, of_variable, places, can_give, contains_head, contains_tail, contains_cases, contains_none, places_ascend, Line, RuleDerives, RuleRequires, rule_numbers, is_rule_line, with_lines, ComesBefore, IsDerivation, fails, failing_lines}
+use Rattle.sas_plan_reasons.proofs.Imports.{◌≡◌, ◌≢◌, ℕ, suc, ◌<◌, ◌⊎◌, true, false, not, List, [], ◌∷◌, ◌++◌, length, get_or, set, map, Option, None, Some, Vec, Global, refl, sym, ◌∙◌, ap, subst, inl, inr, arith, flat_map, find, ◌↔◌, IsTrue, AllByRecursion, AllPairs, Contains, option_map_or, cases_eq, cases_Bool, false≢true, get_or-set_same, get_or-set_other, length-set, flat_map-cons, Origins, Report, is_reported, AreOrigins, ReportsDerivation, lines_of_keepers, is_kept, ReportsGivers, IsReport, Contains-append_left, Contains-append_right, Contains-append_cases, Fact, Parts, rule_at, of_variable, places, can_give, contains_head, contains_tail, contains_cases, contains_none, places_ascend, Line, RuleDerives, RuleRequires, rule_numbers, is_rule_line, with_lines, StandsBefore, IsDerivation, fails, failing_lines}
 use Rattle.sas_plan_reasons.proofs.Derivation.{no_circle}
 use Rattle.sas_plan_reasons.proofs.Once.{IsPlain, Apart, rule_of, other_line, contains_map, map_contains, derived_lines, none_new, all_new}
 use Rattle.sas_plan_reasons.proofs.ReportedRules.{in_filter, of_filter}
@@ -81,17 +81,17 @@ module _ (p : Parts) (s : List ℕ) where
   rules_differ : (var : ℕ) (rules : List ℕ) → IsDerivation p s var rules → AllPairs (λ a b. a ≢ b) rules
   rules_differ var rules d i j e lt within same =
       let a = get_or rules i e in
-      let itself = subst (λ r. ComesBefore p s (rule_at p a).var (rule_at p r).var) (sym same) (d.ordered i j e lt within) in
-      no_circle p s (rule_at p a).var (rule_at p a).var itself itself
+      let itself = subst (StandsBefore d.order a) (sym same) (d.ordered i j e lt within) in
+      no_circle p s d.order d.is a a itself itself
 
-  module _ (report : Report) (new : List Line) (origins : Origins) (next : Vec ℕ Global) (var : ℕ) (t : ReportsDerivation p s var report.origins origins [] next.items)
+  module _ (report : Report) (new : List Line) (origins : Origins) (next : Vec ℕ Global) (var : ℕ) (t : ReportsDerivation p s var report.origins origins next.items)
       (add : new ≡ report.lines ++ map RuleDerives next.items) (is : IsReport p s report) where
-    pub derivation_once : new ≡ with_lines report.lines (map RuleDerives t.derivation)
+    derivation_once : new ≡ with_lines report.lines (map RuleDerives t.derivation)
     derivation_once = add
         ∙ (ap (λ (l : List ℕ). report.lines ++ map RuleDerives l) t.reported
         ∙ sym (derived_lines report.lines (is_reported report.origins) is.derived t.derivation (rules_differ var t.derivation t.is)))
 
-    pub derivation_added : IsReport p s (record report { lines = new; origins = origins; next = next })
+    derivation_added : IsReport p s (record report { lines = new; origins = origins; next = next })
     derivation_added = grown report (record report { lines = new; origins = origins; next = next }) (map RuleDerives next.items) (record {
       lines = add;
       origins = t.origins;
@@ -117,6 +117,9 @@ module _ (p : Parts) (s : List ℕ) where
       kept = λ v so. inl so;
       not_kept = λ rule c not_so. (not_so, λ h. let w = map_contains RuleDerives next.items (RuleRequires rule c) h in derives_requires_none w.0 rule c w.2);
     }) is
+
+    pub givers_reported : ReportsGivers p s var report (record report { lines = new; origins = origins; next = next })
+    givers_reported = record { rules = t.derivation; are = t.is; added = derivation_once; report = derivation_added }
 
   -- ---- what the rules require that don't fire
 

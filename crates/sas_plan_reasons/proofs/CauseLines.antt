@@ -1,16 +1,9 @@
 -- The rules that concern a fact that doesn't hold. A fact has exactly one cause.
-use Rattle.std.proofs.Common.{arith}
-use Rattle.std.proofs.lemmas.Grind.{common_steps}
-use Rattle.sas_plan_reasons.proofs.Imports.{IsDerived, IsTrue, can_be_given, ◌≡◌, ℕ, ◌<◌, Bool, true, false, List, [], ◌∷◌, ◌++◌, length, get_or, slice_index, Some, refl, sym, ◌∙◌, ap, subst, inl, inr, ◌==◌, ◌&&◌, find, map, false≢true, and_parts, eqb-true, not-true, eqb-false, eqb_tells, Decides-eqb, Decides-not, All-nil, All-cons, Any-from_list_any, Fact, Effect, Parts, rule_at, Holds, AllHold, IsOnLayer, default_of, CanFire, fails, is_given, AreDerivationLines, since_line, missing_lines, IsCause, can_fire, IsLayered, new_value_of, differs, IsSettled, hold_or_not, layer_cases, new_value_is, differs_decides, differs_not, can_give, Line, Run, last_state, is_some, layer_of}
+use Rattle.sas_plan_reasons.proofs.Imports.{IsDerived, IsTrue, can_be_given, ◌≡◌, ℕ, ◌<◌, true, List, [], ◌∷◌, ◌++◌, length, get_or, slice_index, Some, refl, sym, ◌∙◌, ap, subst, inl, inr, ◌==◌, ◌&&◌, find, map, and_parts, eqb-true, not-true, eqb-false, eqb_tells, Decides-eqb, Decides-not, All-nil, All-cons, Any-from_list_any, Fact, Effect, Parts, rule_at, Holds, AllHold, IsOnLayer, default_of, CanFire, fails, AreDerivationLines, since_line, missing_lines, IsCause, can_fire, IsLayered, new_value_of, differs, IsSettled, hold_or_not, new_value_is, differs_decides, differs_not, can_give, Line, Run, last_state}
 use Rattle.sas_answers.specs.declared.line.Line.TheVariants as line
-use Rattle.sas_plan_reasons.proofs.Derivation.{value_is}
-use Rattle.sas_plan_reasons.proofs.Derivations.{some_derivation}
-use Rattle.sas_plan_reasons.proofs.Sorting.{one_derivation}
+use Rattle.sas_plan_reasons.proofs.Derivation.{on_some_layer, value_is}
+use Rattle.sas_plan_reasons.proofs.Derivations.{some_derivation, one_derivation}
 use Rattle.sas_plan_reasons.proofs.Since.{some_since, one_since}
-
--- a derived variable is on a layer
-pub on_some_layer : (p : Parts) (var : ℕ) → is_some (layer_of p.variables var) ≡ true → (layer : ℕ) × IsOnLayer p layer var
-on_some_layer p var derived = grind (arith, common_steps, layer_cases, false≢true)
 
 pub default_if_not_given : (p : Parts) (s : List ℕ) (fact : Fact) → IsLayered p → IsSettled p s → IsDerived p.variables fact.var → IsTrue (can_be_given p fact)
     → IsTrue (fails s fact) → slice_index s fact.var ≡ default_of p fact.var
@@ -60,9 +53,8 @@ each_rule_fails p s rule layered settled exists can default = elim (hold_or_not 
 
 -- ---- one cause
 
-givers_one : (b : Bool) (p : Parts) (s : List ℕ) (var : ℕ) (x y : List Line) → AreDerivationLines b p s var x → AreDerivationLines b p s var y → x ≡ y
-givers_one false p s var x y f g = f ∙ sym g
-givers_one true p s var x y f g = f.2 ∙ (ap (λ (rules : List ℕ). map line.RuleDerives rules) (one_derivation p s var f.0 g.0 f.1 g.1) ∙ sym g.2)
+givers_one : (p : Parts) (s : List ℕ) (var : ℕ) (x y : List Line) → AreDerivationLines p s var x → AreDerivationLines p s var y → x ≡ y
+givers_one p s var x y f g = f.2 ∙ (ap (λ (rules : List ℕ). map line.RuleDerives rules) (one_derivation p s var f.0 g.0 f.1 g.1) ∙ sym g.2)
 
 -- the lines of a cause
 abbrev lines_of : Parts → Run → Fact → ℕ → List Line → List Line
@@ -73,19 +65,11 @@ pub one_cause : (p : Parts) (run : Run) (fact : Fact) (a b : List Line) → IsCa
 one_cause p run fact a b x y = x.whole
     ∙ (ap (λ since. lines_of p run fact since x.givers) (one_since run fact.var x.since y.since x.last_change y.last_change)
     ∙ (ap (λ givers. lines_of p run fact y.since givers)
-    (givers_one (is_given p (last_state run) fact.var) p (last_state run) fact.var x.givers y.givers x.given y.given) ∙ sym y.whole))
+    (givers_one p (last_state run) fact.var x.givers y.givers x.given y.given) ∙ sym y.whole))
 
-some_givers : (b : Bool) (p : Parts) (s : List ℕ) (var : ℕ) → IsLayered p → IsSettled p s → (b ≡ true → is_given p s var ≡ true)
-    → (lines : List Line) × AreDerivationLines b p s var lines
-some_givers false p s var layered settled is = ([], refl)
-some_givers true p s var layered settled is =
-    let both = and_parts (is_some (layer_of p.variables var)) (differs p s var) (is refl) in
-    let on = on_some_layer p var both.0 in
-    let w = some_derivation p s on.0 var layered settled on.1 both.1 in
-    (map line.RuleDerives w.0, (w.0, w.1, refl))
-
-pub some_cause : (p : Parts) (run : Run) (fact : Fact) → IsLayered p → IsSettled p (last_state run) → 0 < length run.states → (lines : List Line) × IsCause p run fact lines
-some_cause p run fact layered settled some =
+pub some_cause : (p : Parts) (run : Run) (fact : Fact) → 0 < length run.states → (lines : List Line) × IsCause p run fact lines
+some_cause p run fact some =
     let since = some_since run fact.var some in
-    let givers = some_givers (is_given p (last_state run) fact.var) p (last_state run) fact.var layered settled (λ e. e) in
-    (lines_of p run fact since.0 givers.0, record { since = since.0; last_change = since.1; givers = givers.0; given = givers.1; whole = refl })
+    let w = some_derivation p (last_state run) fact.var in
+    let givers = map line.RuleDerives w.0 in
+    (lines_of p run fact since.0 givers, record { since = since.0; last_change = since.1; givers = givers; given = (w.0, w.1, refl); whole = refl })

@@ -1,10 +1,10 @@
 -- What functions report, one behind the other.
 use Rattle.std.proofs.Common.{arith}
 use Rattle.std.proofs.lemmas.Grind.{common_steps}
-use Rattle.sas_plan_reasons.proofs.Imports.{◌≡◌, ℕ, zero, suc, ◌+◌, ◌<◌, true, false, List, [], ◌∷◌, ◌++◌, length, get_or, set, map, take, refl, sym, ◌∙◌, ap, subst, append_assoc, Vec, Global, if◌then◌else◌, flat_map, slice_index, AllByRecursion, append-nil, map-append, take_more, flat_map-cons, flat_map-append, Fact, Parts, needs_rules, Line, with_lines, LineThen, Origins, PlanHistory, Report, AreOrigins, ReportsDerivation, IsBehind, lines_of_keepers, is_kept, IsReportOf, AddsLines, LinesOfEach, Run, last_state, IsDerivation, is_given, since_line, AreDerivationLines, can_be_given, keeping_lines, missing_lines, IsCause}
+use Rattle.sas_plan_reasons.proofs.Imports.{◌≡◌, ℕ, zero, suc, ◌+◌, ◌<◌, true, false, List, [], ◌∷◌, ◌++◌, length, get_or, set, map, take, refl, sym, ◌∙◌, ap, subst, append_assoc, if◌then◌else◌, flat_map, slice_index, AllByRecursion, append-nil, map-append, take_more, flat_map-cons, flat_map-append, Fact, Parts, needs_rules, Line, with_lines, LineThen, PlanHistory, Report, IsReport, ReportsGivers, IsBehind, lines_of_keepers, is_kept, IsReportOf, AddsLines, LinesOfEach, Run, last_state, IsDerivation, since_line, AreDerivationLines, can_be_given, keeping_lines, missing_lines, IsCause}
 use Rattle.sas_answers.specs.declared.line.Line.TheVariants as line
 use Rattle.sas_plan_reasons.proofs.Once.{IsPlain, lines_append, plain_lines}
-use Rattle.sas_plan_reasons.proofs.Adding.{plain_added, derivation_once, derivation_added, keepers_again, keepers_once, keepers_added}
+use Rattle.sas_plan_reasons.proofs.Adding.{plain_added, keepers_again, keepers_once, keepers_added}
 
 -- the fact that the variable has its value in a state
 abbrev pub actual_fact : List ℕ → ℕ → Fact
@@ -45,7 +45,7 @@ module _ (p : Parts) (history : PlanHistory) where
 
   pub cause_added : (report : Report) (new : List Line) (between after : Report) (fact : Fact) → fact.var < length p.variables
       → new ≡ report.lines ++ first_lines fact
-      → AddsLines p history (record report { lines = new }) between (λ run. AreDerivationLines (is_given p (last_state run) fact.var) p (last_state run) fact.var)
+      → AddsLines p history (record report { lines = new }) between (λ run. AreDerivationLines p (last_state run) fact.var)
       → AddsLines p history between after (λ run lines. lines ≡ missing_lines p (last_state run) fact)
       → AddsLines p history report after (λ run. IsCause p run fact)
   cause_added report new between after fact lt add givers missing run behind is =
@@ -69,19 +69,11 @@ module _ (p : Parts) (history : PlanHistory) where
 
   -- ---- rules that derive values
 
-  pub some_givers : (report : Report) (new : List Line) (origins : Origins) (next : Vec ℕ Global) (var : ℕ) → is_given p history.last var ≡ true
-      → ((s : List ℕ) → AreOrigins p s report.origins → ReportsDerivation p s var report.origins origins [] next.items)
-      → new ≡ report.lines ++ map line.RuleDerives next.items
-      → AddsLines p history report (record report { lines = new; origins = origins; next = next })
-      (λ run. AreDerivationLines (is_given p (last_state run) var) p (last_state run) var)
-  some_givers report new origins next var so decides add run behind is =
-      let t = decides history.last is.origins in (
-        map line.RuleDerives t.derivation,
-        subst (λ b. AreDerivationLines b p (last_state run) var (map line.RuleDerives t.derivation)) (sym (ap (λ s. is_given p s var) (sym behind.last) ∙ so))
-            (t.derivation, subst (λ s. IsDerivation p s var t.derivation) behind.last t.is, refl),
-        derivation_once p history.last report new origins next var t add is,
-        derivation_added p history.last report new origins next var t add is,
-      )
+  pub givers_behind : (old new : Report) (var : ℕ) → ((s : List ℕ) → IsReport p s old → ReportsGivers p s var old new)
+      → AddsLines p history old new (λ run. AreDerivationLines p (last_state run) var)
+  givers_behind old new var reports run behind is =
+      let t = reports history.last is in
+      (map line.RuleDerives t.rules, (t.rules, subst (λ s. IsDerivation p s var t.rules) behind.last t.are, refl), t.added, t.report)
 
   -- ---- rules that don't fire
 
@@ -132,7 +124,10 @@ module _ (p : Parts) (history : PlanHistory) {A : Type 0} (Are : Run → A → L
 
   pub one_more : (first old new : Report) (items : List A) (item : A) → AddsLines p history first old (λ run. LinesOfEach (Are run) items)
       → AddsLines p history old new (λ run. Are run item) → AddsLines p history first new (λ run. LinesOfEach (Are run) (items ++ item ∷ []))
-  one_more first old new items item before adds run behind is = grind (arith, each_more, with_lines, lines_append)
+  one_more first old new items item before adds run behind is =
+      let b = before run behind is in
+      let a = adds run behind b.3 in
+      (b.0 ++ a.0, each_more (Are run) items item b.0 a.0 b.1 a.1, a.2 ∙ (ap (λ (l : List Line). with_lines l a.0) b.2 ∙ sym (lines_append first.lines b.0 a.0)), a.3)
 
 -- ---- the lines of rules, one rule more
 

@@ -8,28 +8,29 @@ pub use Rattle.std.proofs.lemmas.Bool.Decides.{eqb_tells, Decides-eqb, Decides-n
 pub use Rattle.std.proofs.lemmas.Cmp.{nat_cmp_total, on_total, then_total}
 pub use Rattle.std.proofs.lemmas.Fn.{always_returns_same}
 pub use Rattle.std.proofs.lemmas.Grind.{flat_map-append, common_steps, same_number_lists}
-pub use Rattle.std.proofs.lemmas.List.{get_or_default, nil_from_length, get_or-set_same, get_or-set_other, length-set, append-nil, map-append, take_more, take_all, take-take, length-take-le, get_or-take, length-append, same_lists, length-replicate, get_or_append_left, get_or-map, length-map, get_or-append-add, get_or-replicate, get_or_past, take_at, drop_at, drop_all, length-drop}
+pub use Rattle.std.proofs.lemmas.List.{get_or_default, nil_from_length, get_or-set_same, get_or-set_other, length-set, get_or_at, take-append-le, get_or_push, drop_more, append-nil, map-append, take_more, take_all, take-take, length-take-le, get_or-take, length-append, same_lists, length-replicate, get_or_append_left, get_or-map, length-map, get_or-append-add, get_or-replicate, get_or_past, take_at, drop_at, drop_all, length-drop}
 pub use Rattle.std.proofs.lemmas.List.Concat.{flat_map-cons}
 pub use Rattle.std.proofs.lemmas.List.Elements.{All-nil, All-cons, All-contains, Contains-append_left, Contains-append_right, Contains-append_cases, Contains-get_or, All-head, All-tail, Contains-push, Contains-push_cases, filter-append, All-map, All-weaker, All-append, All-push, All-from_recursion, All-rest}
-pub use Rattle.std.proofs.lemmas.List.Folds.{Any-from_list_any, list_any_at, flat_map-map}
+pub use Rattle.std.proofs.lemmas.List.Folds.{Any-from_list_any, list_any_at, list_any-append, flat_map-map}
 pub use Rattle.std.proofs.lemmas.List.FromFn.{map-range_with_len_more, length-map-range_with_len, get_or-map-range_with_len}
 pub use Rattle.std.proofs.lemmas.List.Kept.{AllPairs-cons, AllPairs-filter}
 pub use Rattle.std.proofs.lemmas.List.Quantifiers.{all_pairs_push}
-pub use Rattle.std.proofs.lemmas.List.Sorted.{All-permutation, Contains-permutation, IsPermutation-sym, length_permutation, sorted_far, ranks_by, IsNonDecreasingBy-from_sort}
+pub use Rattle.std.proofs.lemmas.List.Sorted.{All-permutation, Contains-permutation, IsPermutation-sym, length_permutation, sorted_far, ranks_by, IsNonDecreasingBy-from_sort, IsNonDecreasingBy-from_sort_by_key}
 pub use Rattle.std.proofs.lemmas.List.Sums.{fails_before_first, passes_at_first}
 pub use Rattle.std.proofs.lemmas.Map.Keys.{IsDistinct-IsPermutation}
 pub use Rattle.std.proofs.lemmas.Map.Made.{AllPairs-from_IsDistinct, IsDistinct-from_AllPairs}
 pub use Rattle.std.proofs.lemmas.Option.{same_Some}
 pub use Rattle.std.proofs.lemmas.Result.{on_ok_weaker, IfOk-weaker}
 pub use Rattle.std.proofs.lemmas.Slice.Eq.{bytes_eq-Decides}
+pub use Rattle.std.specs.BinaryHeap.{heap_items, IsUpperBound}
 pub use Rattle.std.specs.Bool.{Decides}
 pub use Rattle.std.specs.Char.{to_ascii_lowercase}
 pub use Rattle.std.specs.Cmp.{IsTotalOrder}
 pub use Rattle.std.specs.List.{All, list_all, position_or_len, Contains, AllPairs, list_any, HoldsAt, AllByRecursion, range_with_len, count_by}
-pub use Rattle.std.specs.List.Sorted.{IsPermutation, IsNonDecreasing}
+pub use Rattle.std.specs.List.Sorted.{IsPermutation, IsNonDecreasing, IsNonDecreasingBy}
 pub use Rattle.std.specs.Option.{option_map_or, option_eq, unwrap_or}
 pub use Rattle.std.specs.Ordering.{nat_cmp, is_lt}
-pub use Rattle.std.specs.declared.cmp.Ordering.TheVariants.{Equal}
+pub use Rattle.std.specs.declared.cmp.Reverse.{Reverse}
 pub use Rattle.sas_answers.proofs.InitialLines.{initial_texts, initial_all, initial_next}
 pub use Rattle.sas_answers.proofs.Pushed.{pushes_then, pushes_lost}
 pub use Rattle.sas_answers.proofs.RuleLines.{same_is, is_same}
@@ -50,7 +51,7 @@ pub use Rattle.sas_answers.specs.declared.sink.Sink.{Sink}
 pub use Rattle.sas_answers.specs.declared.ending.Status.TheVariants.{Yes, No}
 pub use Rattle.sas_answers.specs.declared.line.Line.{Line}
 pub use Rattle.sas_answers.specs.declared.line.Line.TheVariants.{RuleDerives, RuleRequires, Requires, Actual, SinceStep, Step, ConflictingEffect, CouldBe, GoalFact, FailingGoalFacts}
-pub use Rattle.sas_axioms.proofs.RuleChanges.{same_option}
+pub use Rattle.sas_axioms.proofs.RuleChanges.{same_option, change_within, conditions_within}
 pub use Rattle.sas_axioms.proofs.RulesOf.{of_variable, can_of}
 pub use Rattle.sas_axioms.specs.Conditions.{IsFullIndex, IsOfRule, waiting_at, asking, occurrences, released}
 pub use Rattle.sas_axioms.specs.LayerRules.{IsRuleOn}
@@ -102,24 +103,24 @@ pub use Rattle.sas_run.specs.Stepping.{ListsChanges, HasFactOn}
 pub use Rattle.sas_run.specs.Verdicts.{IsFirstMissed, ComesTo, IsFaultOf}
 pub use Rattle.sas_run.specs.declared.plan_check.PlanFault.{PlanFault}
 pub use Rattle.sas_run.specs.declared.plan_check.PlanFault.TheVariants.{Memory, NoOperator, NotApplicable, Conflict, GoalMissed, CostDiffers}
-pub use Rattle.sas_plan_reasons.specs.Cause.{fails, needs_rules, is_given, AreDerivationLines, since_line, missing_lines, IsCause, value_at, IsSince, failing_lines, can_be_given, keeping_lines}
+pub use Rattle.sas_plan_reasons.specs.Cause.{fails, AreDerivationLines, since_line, missing_lines, IsCause, value_at, IsSince, failing_lines, can_be_given, keeping_lines}
 pub use Rattle.sas_plan_reasons.specs.Conflicts.{first_on, AgreesWithFirst, AreFirstEffects}
-pub use Rattle.sas_plan_reasons.specs.Derivation.{fires_with, reached, IsRank, HasLayerAndRank, FiresNext, IsGivenBy, DependsOn, Itself, Below, IsLess, ComesBefore, InDerivation, IsRuleOf, IsDerivation}
-pub use Rattle.sas_plan_reasons.specs.Report.{lines_of_keepers, is_kept, IsReport, IsBehind, ReportsOnce, IsReportOf, AddsLines}
+pub use Rattle.sas_plan_reasons.specs.Derivation.{needs_rules, has_rule, CanBeAdded, IsOrder, IsRuleOf, DependsOn, Own, Below, InDerivation, StandsBefore, IsDerivation}
+pub use Rattle.sas_plan_reasons.specs.Report.{lines_of_keepers, is_kept, ReportsGivers, IsReport, IsBehind, ReportsOnce, IsReportOf, AddsLines}
 pub use Rattle.sas_plan_reasons.specs.Lines.{with_line, with_lines, LineThen, LinesOfEach}
 pub use Rattle.sas_plan_reasons.specs.Lowest.{IsLowest, AreLowest}
 pub use Rattle.sas_plan_reasons.specs.MayMean.{after_spaces, squeezed, folded, similar_operator, IsOther, MayMean}
 pub use Rattle.sas_plan_reasons.specs.Retracing.{HavePlaces, NotedAt, LeftAt, Notes, change_text, ListCoversChanges, AreFirstChanges, IsOtherIfAny, Retraces, ComesUnambiguously, HaveSince}
-pub use Rattle.sas_plan_reasons.specs.Origins.{origin_at, origin_now, origin_with_rule, unreached, HaveOrigins, IsReached, OriginsUpToRound, value_in_round, IsOrigin, HavePassed, ReachesNow, InRound, ContinuesRound, AreAllRules, AreBefore, IsFirstOpen, HasLower, waiting_rules, requiring_at, AreAwaited, added, Reaches, HoldFrom, is_reported, AreOrigins, ReportsDerivation, nowhere, place_cmp, place_at, ArePlaces, AreInOrder, OriginsMatchState, HasRule, HasRuleBelow, IsReportedOf, AreReportedBelow, SameOrigins, unreported, AddsRules}
-pub use Rattle.sas_plan_reasons.specs.ReasonLaws.{replayed, RequiresLower, RequiresEarlier, IsAlike, IsLowestIfAny}
+pub use Rattle.sas_plan_reasons.specs.Origins.{is_met, open_with, IsReady, IsOrdered, HasNoneOpen, AreOpen, AreOpenAtFirst, unmet, work_left, Closes, CanMeetAll, MeetsAll, Meets, giver_at, AreGivers, IsDerivedOrder, Builds, IsOrderSoFar, IsNext, is_reported, ArePlaces, HasRule, OriginsMatchState, AreOrigins, HasRuleBelow, IsReportedOf, AreReportedBelow, SameOrigins, unreported, AddsRules, ReportsDerivation}
+pub use Rattle.sas_plan_reasons.specs.ReasonLaws.{replayed, RequiresLower, RestsOnEarlier, IsAlike, IsLowestIfAny}
 pub use Rattle.sas_plan_reasons.specs.Trace.{run_lines, changed, is_changed, change_line, change_lines, step_lines, step_line}
 pub use Rattle.sas_plan_reasons.specs.Traced.{EndsWith, TraceVerdict, IsTraced}
 pub use Rattle.sas_plan_reasons.specs.Verdict.{WhyVerdict, MakeAnswer}
 pub use Rattle.sas_plan_reasons.specs.WhyPlan.{ConflictsWith, AreFailedPreconditionLines, AreConflictLines, AreGoalFactLines, cost_hint, cost_lines, nameless_lines, AreCouldBeLines, AreFaultLines, IsWhy, AreOperatorLines, cost_lines_sum}
 pub use Rattle.sas_plan_reasons.specs.declared.changes.Changes.{Changes}
-pub use Rattle.sas_plan_reasons.specs.declared.origin_rounds.Origin.{Origin}
-pub use Rattle.sas_plan_reasons.specs.declared.origin_rounds.OriginRounds.{OriginRounds}
-pub use Rattle.sas_plan_reasons.specs.declared.origins.DerivationPlace.{DerivationPlace}
+pub use Rattle.sas_plan_reasons.specs.declared.order.DerivedOrder.{DerivedOrder}
+pub use Rattle.sas_plan_reasons.specs.declared.order.OpenConditions.{OpenConditions}
+pub use Rattle.sas_plan_reasons.specs.declared.order.OrderSoFar.{OrderSoFar}
 pub use Rattle.sas_plan_reasons.specs.declared.origins.Origins.{Origins}
 pub use Rattle.sas_plan_reasons.specs.declared.second_pass.OtherOperator.{OtherOperator}
 pub use Rattle.sas_plan_reasons.specs.declared.second_pass.PlanHistory.{PlanHistory}

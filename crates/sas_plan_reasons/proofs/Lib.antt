@@ -1,8 +1,8 @@
 pub mod Lowest
 pub mod Since
 pub mod FoldedNames
-pub mod ReachedRounds
 pub mod Derivation
+pub mod Orders
 pub mod Sorting
 pub mod Derivations
 pub mod SomeConflict
@@ -21,13 +21,9 @@ pub mod Composing
 pub mod Within
 pub mod Faulty
 pub mod Behind
-pub mod Requiring
-pub mod Reaching
-pub mod Origined
-pub mod RoundSteps
-pub mod RoundEnds
+pub mod OpenConditions
+pub mod Building
 pub mod ReportingSteps
-pub mod Placing
 pub mod ReportedRules
 mod Changing
 mod ChangedLists

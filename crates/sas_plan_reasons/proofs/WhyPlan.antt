@@ -162,12 +162,12 @@ module _ (p : Parts) (plan : PlanParts) (layered : IsLayered p) where
 
   some_inapplicable : (run : Run) → IsSettled p (last_state run) → 0 < length run.states → (operator : ℕ) → (lines : List Line) × AreFailedPreconditionLines p run operator lines
   some_inapplicable run settled some operator =
-      let causes = some_each (IsCause p run) (λ fact. some_cause p run fact layered settled some) (filter (fails (last_state run)) (preconditions (operator_at p operator))) in
+      let causes = some_each (IsCause p run) (λ fact. some_cause p run fact some) (filter (fails (last_state run)) (preconditions (operator_at p operator))) in
       (line.Operator operator ∷ causes.0, (causes.0, causes.1, refl))
 
   some_goal_fact : (run : Run) → IsSettled p (last_state run) → 0 < length run.states → (index : ℕ) → (lines : List Line) × AreGoalFactLines p run index lines
   some_goal_fact run settled some index =
-      let cause = some_cause p run (get_or p.goal index (record { var = 0; value = 0 })) layered settled some in
+      let cause = some_cause p run (get_or p.goal index (record { var = 0; value = 0 })) some in
       (line.GoalFact index ∷ cause.0, (cause.0, cause.1, refl))
 
   some_why_of : (fault : PlanFault) → IsFaultOf p plan fault → (lines : List Line) × IsWhy p plan fault lines

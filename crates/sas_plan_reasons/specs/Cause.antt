@@ -1,28 +1,21 @@
 -- The cause of a fact that doesn't hold in the last state of a run.
-use Rattle.std.specs.Prelude.{◌≡◌, ◌≢◌, ℕ, zero, suc, ◌+◌, ◌<◌, ◌≤◌, ◌==◌, ◌&&◌, Bool, true, false, not, if◌then◌else◌, is_some}
+use Rattle.std.specs.Prelude.{◌≡◌, ◌≢◌, ℕ, zero, suc, ◌+◌, ◌<◌, ◌≤◌, ◌==◌, ◌&&◌, Bool, not, if◌then◌else◌}
 use Rattle.std.specs.Prelude.{List, [], ◌∷◌, ◌++◌, map, flat_map, find, length, slice_index}
 use Rattle.std.specs.List.{list_any}
 use Rattle.std.specs.Option.{option_map_or}
 use Rattle.sas_core.specs.declared.parts.Fact.{Fact}
 use Rattle.sas_core.specs.declared.parts.Effect.{Effect}
 use Rattle.sas_core.specs.declared.parts.Parts.{Parts}
-use Rattle.sas_core.specs.Variables.{layer_of}
 use Rattle.sas_core.specs.Grounded.{rule_at}
-use Rattle.sas_meaning.specs.Layers.{default_of}
 use Rattle.sas_meaning.specs.Places.{places, can_give}
 use Rattle.sas_answers.specs.declared.line.Line.{Line}
 use Rattle.sas_answers.specs.declared.line.Line.TheVariants as line
 use Rattle.sas_run.specs.Runs.{Run, state_at, last_state}
-use Rattle.sas_plan_reasons.specs.Derivation.{IsDerivation}
+use Rattle.sas_plan_reasons.specs.Derivation.{needs_rules, IsDerivation}
 
 -- whether the fact doesn't hold
 abbrev pub fails : List ℕ → Fact → Bool
 fails s fact = not (slice_index s fact.var == fact.value)
-
--- whether the fact needs rules: its variable is derived, and its value isn't the default
-abbrev pub needs_rules : Parts → Fact → Bool
-needs_rules p fact =
-    is_some (layer_of p.variables fact.var) && not (fact.value == default_of p fact.var)
 
 -- ---- since when the variable has its value
 
@@ -46,14 +39,9 @@ since_line (suc before) = line.SinceStep (suc before)
 
 -- ---- the rules that give a derived variable its value
 
--- whether the variable is derived and differs from its default
-abbrev pub is_given : Parts → List ℕ → ℕ → Bool
-is_given p s var = needs_rules p (record { var = var; value = slice_index s var })
-
--- if this is so, a line for each rule of the variable's derivation; otherwise no lines
-abbrev pub AreDerivationLines : Bool → Parts → List ℕ → ℕ → List Line → Type 0
-AreDerivationLines false p s var lines = lines ≡ []
-AreDerivationLines true p s var lines =
+-- a line for each rule of the variable's derivation; none if it is basic or has its default
+abbrev pub AreDerivationLines : Parts → List ℕ → ℕ → List Line → Type 0
+AreDerivationLines p s var lines =
     (rules : List ℕ) × IsDerivation p s var rules × (lines ≡ map line.RuleDerives rules)
 
 -- ---- the rules that don't derive the required value
@@ -85,8 +73,7 @@ pub record IsCause (p : Parts) (run : Run) (fact : Fact) (lines : List Line) : T
   pub since : ℕ
   pub last_change : IsSince run fact.var since
   pub givers : List Line
-  pub given : AreDerivationLines (is_given p (last_state run) fact.var) p
-      (last_state run) fact.var givers
+  pub given : AreDerivationLines p (last_state run) fact.var givers
   pub whole : lines
       ≡ line.Requires fact
       ∷ line.Actual (record { var = fact.var; value = slice_index (last_state run) fact.var })

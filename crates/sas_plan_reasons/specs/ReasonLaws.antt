@@ -9,7 +9,7 @@ use Rattle.sas_meaning.specs.Layers.{IsOnLayer, default_of}
 use Rattle.sas_run.specs.Runs.{Run, state_at}
 use Rattle.sas_plan_reasons.specs.Lowest.{IsLowest}
 use Rattle.sas_plan_reasons.specs.MayMean.{folded}
-use Rattle.sas_plan_reasons.specs.Derivation.{ComesBefore}
+use Rattle.sas_plan_reasons.specs.Derivation.{IsRuleOf, StandsBefore}
 use Rattle.sas_plan_reasons.specs.Trace.{changed}
 
 -- ---- similar names
@@ -35,10 +35,14 @@ pub record RequiresLower (p : Parts) (var : ℕ) (condition : Fact) : Type 0 whe
   pub on_there : IsOnLayer p there condition.var
   pub lower : there < here
 
--- a condition requires a value other than the default of a variable that comes before this one
-pub record RequiresEarlier (p : Parts) (s : List ℕ) (var : ℕ) (condition : Fact) : Type 0 where
+-- a condition requires a value other than the default of a variable whose rule stands before this
+-- one
+pub record RestsOnEarlier (p : Parts) (order : List ℕ) (rule : ℕ) (condition : Fact)
+    : Type 0 where
   pub other : condition.value ≢ default_of p condition.var
-  pub earlier : ComesBefore p s condition.var var
+  pub earlier : ℕ
+  pub is : IsRuleOf p order condition.var earlier
+  pub before : StandsBefore order earlier rule
 
 -- ---- traces
 

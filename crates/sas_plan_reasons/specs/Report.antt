@@ -1,5 +1,5 @@
 -- The lines of reasons that are reported of a run.
-use Rattle.std.specs.Prelude.{◌≡◌, ℕ, ◌↔◌, Bool, true, false, IsTrue, List, [], flat_map, length, Contains, slice_index_or}
+use Rattle.std.specs.Prelude.{◌≡◌, ℕ, ◌↔◌, Bool, true, false, IsTrue, List, [], map, flat_map, length, Contains, slice_index_or}
 use Rattle.sas_core.specs.declared.parts.Fact.{Fact}
 use Rattle.sas_core.specs.declared.parts.Parts.{Parts}
 use Rattle.sas_core.specs.Grounded.{rule_at}
@@ -12,6 +12,7 @@ use Rattle.sas_axioms.specs.LayerRules.{AreRulesOf}
 use Rattle.sas_plan_reasons.specs.Lines.{with_lines}
 use Rattle.sas_run.specs.Runs.{Run, last_state, StepsSucceed}
 use Rattle.sas_plan_reasons.specs.Cause.{failing_lines}
+use Rattle.sas_plan_reasons.specs.Derivation.{IsDerivation}
 use Rattle.sas_plan_reasons.specs.declared.second_pass.PlanHistory.{PlanHistory}
 use Rattle.sas_plan_reasons.specs.declared.causes.Report.{Report}
 use Rattle.sas_plan_reasons.specs.Origins.{is_reported, AreOrigins}
@@ -58,6 +59,13 @@ AddsLines p history old new Are = (run : Run) → IsBehind p history run → IsR
     × Are run more
     × (new.lines ≡ with_lines old.lines more)
     × IsReport p history.last new
+
+-- a line is added for each rule of the variable's derivation, if it isn't among the lines
+pub record ReportsGivers (p : Parts) (s : List ℕ) (var : ℕ) (old new : Report) : Type 0 where
+  pub rules : List ℕ
+  pub are : IsDerivation p s var rules
+  pub added : new.lines ≡ with_lines old.lines (map RuleDerives rules)
+  pub report : IsReport p s new
 
 -- such lines, each line of a rule once
 abbrev pub ReportsOnce : List Line → (List Line → Type 0) → Type 0

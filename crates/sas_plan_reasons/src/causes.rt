@@ -1,12 +1,12 @@
 // The causes of facts that fail.
-ghost use Rattle.std.specs.Prelude.{◌≡◌, ◌<◌, ℕ, [], ◌∷◌, ◌++◌, length, map, flat_map, find, OnOk, All, slice_index, IfOk};
+ghost use Rattle.std.specs.Prelude.{◌≡◌, ◌<◌, ℕ, [], ◌∷◌, ◌++◌, List, length, map, flat_map, find, OnOk, All, slice_index, IfOk};
 ghost use Rattle.sas_core.specs.declared.parts.Fact.{Fact};
 ghost use Rattle.sas_core.specs.Variables.{IsState};
 ghost use Rattle.sas_meaning.specs.Places.{places, can_give};
 ghost use Rattle.sas_meaning.specs.Settled.{IsSettled};
 ghost use Rattle.sas_run.specs.Runs.{last_state};
-ghost use Rattle.sas_plan_reasons.specs.Cause.{fails, is_given, since_line, failing_lines, AreDerivationLines, can_be_given, keeping_lines, IsCause};
-ghost use Rattle.sas_plan_reasons.specs.Report.{IsReport, IsReportOf, AddsLines};
+ghost use Rattle.sas_plan_reasons.specs.Cause.{fails, since_line, failing_lines, can_be_given, keeping_lines, IsCause};
+ghost use Rattle.sas_plan_reasons.specs.Report.{IsReport, IsReportOf, AddsLines, ReportsGivers};
 
 use crate::origins::{Origins, requires_rules};
 use crate::second_pass::PlanHistory;
@@ -66,7 +66,7 @@ pub fn report_cause<T: Grounded>(
         (λ run. IsCause task.now run fact)) }
 {
     report_values(history, fact, &mut report.lines)?;
-    report_givers(task, history, fact.var, report)?;
+    report_givers(task, fact.var, report)?;
     if requires_rules(task, fact) {
         report_keepers(task, history, fact, report)
     } else {
@@ -107,21 +107,14 @@ fn report_values(
 /// Reports which rules derive a variable's value, if it isn't its default.
 fn report_givers<T: Grounded>(
     task: &Layered<T>,
-    history: &PlanHistory,
     var: u32,
     report: &mut Report,
 ) -> Result<(), AllocError>
     requires var { var < length task.now.variables }
-    requires report { IsReportOf task.now history.now report.old }
-    ensures { OnOk result (AddsLines task.now history.now report.old report.new
-        (λ run. AreDerivationLines
-        (is_given task.now (last_state run) var) task.now (last_state run) var)) }
+    requires report { (s : List ℕ) × IsReport task.now s report.old }
+    ensures { OnOk result ((s : List ℕ) → IsReport task.now s report.old
+        → ReportsGivers task.now s var report.old report.new) }
 {
-    let value = history.last.value(var);
-    if !requires_rules(task, Fact { var, value }) {
-        return Ok(());
-    }
-    report.next.clear();
     report
         .origins
         .report_derivation(task, var, &mut report.next)?;

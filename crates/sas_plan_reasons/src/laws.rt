@@ -1,5 +1,5 @@
 // Laws of reasons.
-ghost use Rattle.std.specs.Prelude.{◌≡◌, ◌≢◌, ◌⊎◌, ◌↔◌, ℕ, ◌<◌, ◌≤◌, IsTrue, List, [], ◌∷◌, ◌++◌, length, Some, bytes_eq, filter, find, All, AllPairs, Contains, slice_index, sum_by};
+ghost use Rattle.std.specs.Prelude.{◌≡◌, ◌≢◌, ◌⊎◌, ◌↔◌, ℕ, ◌<◌, ◌≤◌, IsTrue, IsFalse, List, [], ◌∷◌, ◌++◌, length, Some, bytes_eq, filter, find, All, AllPairs, Contains, slice_index, sum_by};
 ghost use Rattle.sas_core.specs.declared.parts.Operator.{Operator};
 ghost use Rattle.sas_core.specs.declared.parts.Parts.{Parts};
 ghost use Rattle.sas_core.specs.PlanParts.{PlanParts};
@@ -18,7 +18,7 @@ ghost use Rattle.sas_run.specs.Verdicts.{IsFirstMissed, IsFaultOf};
 ghost use Rattle.sas_run.specs.Runs.{Run, state_at, StepsSucceed};
 ghost use Rattle.sas_plan_reasons.specs.Lowest.{AreLowest};
 ghost use Rattle.sas_plan_reasons.specs.MayMean.{folded, similar_operator, IsOther, MayMean};
-ghost use Rattle.sas_plan_reasons.specs.Derivation.{IsRank, IsGivenBy, InDerivation, ComesBefore, IsDerivation};
+ghost use Rattle.sas_plan_reasons.specs.Derivation.{has_rule, IsOrder, IsRuleOf, StandsBefore, IsDerivation};
 ghost use Rattle.sas_answers.specs.declared.line.Line.{Line};
 ghost use Rattle.sas_answers.specs.Line.{is_rule_line};
 ghost use Rattle.sas_plan_reasons.specs.Lines.{with_lines};
@@ -30,7 +30,7 @@ ghost use Rattle.sas_answers.specs.declared.ending.Status.TheVariants.{Yes};
 ghost use Rattle.sas_answers.specs.Ending.{Output};
 ghost use Rattle.sas_answers.specs.Answers.{VerdictAnswer};
 ghost use Rattle.sas_plan_reasons.specs.Traced.{TraceVerdict};
-ghost use Rattle.sas_plan_reasons.specs.ReasonLaws.{IsAlike, IsLowestIfAny, RequiresLower, RequiresEarlier, replayed};
+ghost use Rattle.sas_plan_reasons.specs.ReasonLaws.{IsAlike, IsLowestIfAny, RequiresLower, RestsOnEarlier, replayed};
 
 /// Ensures the laws of changes. In a run each variable has exactly one last change, and keeps its value from there on.
 pub fn since_laws()
@@ -62,43 +62,39 @@ pub fn name_laws()
 {}
 
 /// Ensures the laws of derivations, in a settled state of a layered task.
-/// - A derived variable has a rank exactly if it differs from its default, and at most one rank.
-/// - In this case exactly one rule gives the variable its value: its conditions hold in the state, and it sets this value.
+/// - There is exactly one order of derived values. No two of its rules stand before each other.
+/// - A derived variable has a rule in the order exactly if it differs from its default, and at most one. The conditions of this rule hold in
+///   the state, and it sets the variable to its value.
 /// - Each condition of this rule is on a basic variable, or requires the default of a variable on a lower layer, or requires another value
-///   of a variable that comes before.
-/// - In a derivation each variable differs from its default, and all other variables come before the one that is derived. No variable comes
-///   before itself.
-/// - A derived variable that differs from its default has exactly one derivation, whose last rule gives it its value.
+///   of a variable whose rule stands before.
+/// - Each variable has exactly one derivation. If it has no rule, this is empty. Otherwise its rule is the last one.
 pub fn derivation_laws()
-    ensures rank { (p : Parts) (s : List ℕ) (layer var : ℕ) → IsLayered p → IsSettled p s
-        → IsOnLayer p layer var → ((rank : ℕ) × IsRank p layer s var rank)
-        ↔ IsTrue (differs p s var) }
-    ensures one_rank { (p : Parts) (s : List ℕ) (layer var a b : ℕ) → IsRank p layer s var a
-        → IsRank p layer s var b → a ≡ b }
-    ensures some_rule { (p : Parts) (s : List ℕ) (layer var : ℕ) → IsLayered p → IsSettled p s
-        → IsOnLayer p layer var → IsTrue (differs p s var) → (rule : ℕ) × IsGivenBy p s var rule }
-    ensures one_rule { (p : Parts) (s : List ℕ) (var a b : ℕ) → IsGivenBy p s var a
-        → IsGivenBy p s var b → a ≡ b }
-    ensures fires { (p : Parts) (s : List ℕ) (var rule : ℕ) → IsLayered p → IsSettled p s
-        → IsGivenBy p s var rule → AllHold (slice_index s) (rule_at p rule).conditions
-        × ((rule_at p rule).var ≡ var) × ((rule_at p rule).new ≡ slice_index s var) }
-    ensures looks_down { (p : Parts) (s : List ℕ) (var rule : ℕ) → IsLayered p → IsSettled p s
-        → IsGivenBy p s var rule
-        → All (λ (c : Fact). IsBasic p c.var ⊎ (RequiresLower p var c ⊎ RequiresEarlier p s var c))
+    ensures some_order { (p : Parts) (s : List ℕ) → (order : List ℕ) × IsOrder p s order }
+    ensures one_order { (p : Parts) (s a b : List ℕ) → IsOrder p s a → IsOrder p s b → a ≡ b }
+    ensures no_circle { (p : Parts) (s order : List ℕ) (a b : ℕ) → IsOrder p s order
+        → StandsBefore order a b → StandsBefore order b a → ⊥ }
+    ensures some_rule { (p : Parts) (s order : List ℕ) (layer var : ℕ) → IsLayered p
+        → IsSettled p s → IsOrder p s order → IsOnLayer p layer var
+        → IsTrue (has_rule p order var) ↔ IsTrue (differs p s var) }
+    ensures one_rule { (p : Parts) (s order : List ℕ) (var a b : ℕ) → IsOrder p s order
+        → IsRuleOf p order var a → IsRuleOf p order var b → a ≡ b }
+    ensures fires { (p : Parts) (s order : List ℕ) (var rule : ℕ) → IsLayered p → IsSettled p s
+        → IsOrder p s order → IsRuleOf p order var rule
+        → AllHold (slice_index s) (rule_at p rule).conditions
+        × ((rule_at p rule).new ≡ slice_index s var) }
+    ensures looks_down { (p : Parts) (s order : List ℕ) (var rule : ℕ) → IsLayered p
+        → IsSettled p s → IsOrder p s order → IsRuleOf p order var rule
+        → All (λ (c : Fact). IsBasic p c.var
+        ⊎ (RequiresLower p var c ⊎ RestsOnEarlier p order rule c))
         (rule_at p rule).conditions }
-    ensures last { (p : Parts) (s : List ℕ) (var other : ℕ) → IsLayered p → IsSettled p s
-        → InDerivation p s var other → (other ≡ var) ⊎ ComesBefore p s other var }
-    ensures no_circle { (p : Parts) (s : List ℕ) (a b : ℕ) → ComesBefore p s a b
-        → ComesBefore p s b a → ⊥ }
-    ensures differ { (p : Parts) (s : List ℕ) (var other : ℕ) → IsLayered p → IsSettled p s
-        → IsTrue (differs p s var) → InDerivation p s var other → IsTrue (differs p s other) }
-    ensures some_derivation { (p : Parts) (s : List ℕ) (layer var : ℕ) → IsLayered p → IsSettled p s
-        → IsOnLayer p layer var → IsTrue (differs p s var) → (rules : List ℕ)
+    ensures some_derivation { (p : Parts) (s : List ℕ) (var : ℕ) → (rules : List ℕ)
         × IsDerivation p s var rules }
     ensures one_derivation { (p : Parts) (s : List ℕ) (var : ℕ) (a b : List ℕ)
         → IsDerivation p s var a → IsDerivation p s var b → a ≡ b }
-    ensures own_last { (p : Parts) (s : List ℕ) (var rule : ℕ) (rules : List ℕ) → IsLayered p
-        → IsSettled p s → IsDerivation p s var rules → IsGivenBy p s var rule → (front : List ℕ)
+    ensures none { (p : Parts) (s : List ℕ) (var : ℕ) (rules : List ℕ)
+        (d : IsDerivation p s var rules) → IsFalse (has_rule p d.order var) → rules ≡ [] }
+    ensures own_last { (p : Parts) (s : List ℕ) (var rule : ℕ) (rules : List ℕ)
+        (d : IsDerivation p s var rules) → IsRuleOf p d.order var rule → (front : List ℕ)
         × (rules ≡ front ++ rule ∷ []) }
 {}
 

@@ -8,7 +8,7 @@ mod conflicts;
 mod faults;
 mod laws;
 mod likeness;
-mod origin_rounds;
+mod order;
 mod origins;
 mod second_pass;
 mod tracing;
