@@ -4,13 +4,13 @@
 `rt ci` proves and builds everything and tries each edit that must fail. What an earlier run on this machine proved of the same files is
 kept. An edit that doesn't apply or compile shows nothing: `rt ci` passes it, and here it is a failure. The lines of all edits that weren't
 refused stand once more at the end; cases/edits.py shows that they are noticed. Then docs/READING.md is held against the definitions,
-docs/PROMISES.md against contracts and edits, pages and completions against the program, the commands that documents show are run, those
-for clusters with GNU parallel and Slurm too, each allocation is refused in turn,
-the calls of the crates are made, the program is run, with closed streams too, the library is built and called, its answers are read as
-values, it is used from Python and by way of CMake, pkg-config, cargo and pip, a release and a package of Debian are packed and tried,
-reports are opened in browsers, and release and package are made for 64-bit ARM, for which two crates are proved once more, and run under
-an emulator. The last line is 'N passed, M failed' of all together, and the exit status is 0 exactly if M is 0. A command that doesn't end
-as its own last line says counts as one failure. gate.log keeps the last line for releases, with the commit and the toolchain.
+docs/PROMISES.md against contracts and edits, pages and completions against the program, the commands that documents show are run, those for
+clusters with GNU parallel and Slurm too, each allocation is refused in turn, the calls of the crates are made, the program is run, with
+closed streams too, its instructions are counted, the library is built and called, its answers are read as values, it is used from Python
+and by way of CMake, pkg-config, cargo and pip, a release and a package of Debian are packed and tried, reports are opened in browsers, and
+release and package are made for 64-bit ARM, for which two crates are proved once more, and run under an emulator. The last line is 'N
+passed, M failed' of all together, and the exit status is 0 exactly if M is 0. A command that doesn't end as its own last line says counts
+as one failure. gate.log keeps the last line for releases, with the commit and the toolchain.
 """
 import glob
 import os
@@ -33,6 +33,7 @@ CASES = [
         ["cases/calls.py", *PROGRAMS],
         ["cases/run.py", "sas"],
         ["cases/streams.py", "sas"],
+        ["bench/count.py", "sas", "bench/out", "--compare"],
     ],
     [
         ["cases/library.py", "sas", "library/out"],
