@@ -2,6 +2,8 @@
 """Counts the instructions that ./sas takes, over inputs that are made in FOLDER if they aren't there.
 
     bench/count.py ./sas FOLDER [--beside PROGRAM] [--only TEXT] [--scale F]
+    bench/count.py ./sas FOLDER --compare [--only TEXT]
+    bench/count.py ./sas FOLDER --write
 
 A count is the same on a quiet machine and on a loaded one, so it shows what a change did where times are noise. It is
 no time: a program that waits for memory takes longer than its count shows.
@@ -11,9 +13,20 @@ instructions, and those a line and a byte; then what each further byte costs fro
 growth, the second over the first. Growth near 1 is linear. PROGRAM takes the same words, an older build for example;
 ./sas / PROGRAM is printed for the largest scale.
 
-Needs valgrind (apt-get install valgrind).
+--compare counts each case at one scale, the one that counts.json names, and prints its instructions over those that stand there. A row
+that differs by more than 2 % fails, in either direction: a table that is too high would hide the next change. The last line is
+'N passed, M failed', and the exit status is 0 where none failed. --write writes the table anew, with the reason in its commit.
+
+The count of a program is the same wherever it runs, but for two things, which are held fast here. The C library picks its functions for
+copying and comparing by what the processor can do: GLIBC_TUNABLES has it pick those that every x86-64 processor has, with limits that
+don't depend on caches; without that, rows differ by up to 9 %. The environment is on the stack, and is looked through at the start: it has
+nothing else. What is left, another version of the C library or of valgrind, is what the 2 % are for; on one machine a row that differs at
+all is a change. The names of the tunables are those of glibc 2.33 and later.
+
+Needs valgrind (apt-get install valgrind); where it isn't there, --compare says so and ends with status 0.
 """
 import argparse
+import json
 import os
 import re
 import shutil
@@ -27,6 +40,16 @@ from cases import chosen, files_of
 from make import case_input
 
 VALGRIND = ["valgrind", "--tool=cachegrind", "--cache-sim=no", "--cachegrind-out-file=/dev/null"]
+# the C library's plain functions, and its limits on when it copies in another way
+TUNABLES = ":".join((
+    "glibc.cpu.hwcaps=-AVX2,-AVX512F,-AVX512VL,-AVX512BW,-ERMS,-FSRM,-AVX_Fast_Unaligned_Load,-Prefer_ERMS,-Prefer_FSRM,Fast_Unaligned_Copy",
+    "glibc.cpu.x86_non_temporal_threshold=0xc0000",
+    "glibc.cpu.x86_rep_movsb_threshold=2048",
+    "glibc.cpu.x86_rep_stosb_threshold=2048",
+))
+# the counts that --compare expects, at which scale, and by how much a count may differ
+TABLE = os.path.join(os.path.dirname(os.path.abspath(__file__)), "counts.json")
+SCALE, MAY_DIFFER = 0.04, 0.02
 TIMES = (1, 2, 4)
 # what is no longer put down to tables that double and to chance
 LINEAR = 1.15
@@ -37,7 +60,8 @@ Size = namedtuple("Size", "bytes lines")
 
 def counted(command):
     """Runs a command once, and counts its instructions."""
-    run = subprocess.run([*VALGRIND, *command], stdin=subprocess.DEVNULL, capture_output=True)
+    env = {"PATH": os.environ["PATH"], "GLIBC_TUNABLES": TUNABLES}
+    run = subprocess.run([*VALGRIND, *command], env=env, stdin=subprocess.DEVNULL, capture_output=True)
     found = re.search(rb"I +refs: +([\d,]+)", run.stderr)
     if not found:
         sys.exit("count.py: valgrind printed no count: " + run.stderr.decode(errors="replace")[-500:])
@@ -89,6 +113,40 @@ def heads(beside):
     return cells + ["beside, millions", "ratio", "answers"] if beside else cells
 
 
+def counts_at(given, scale):
+    """Yields each case with its instructions at a scale, and whether the answer is right."""
+    for case in chosen(given.only):
+        made = case_input(given.folder, case, scale * case.enlarged)
+        count = counted([given.sas, case.request, *files_of(case, made)])
+        yield case.name, count.instructions, answer_word(count, expected_digest(case.request, made))
+
+
+def compare(given):
+    """Holds the counts against the table, and prints a row for each. Returns the exit status."""
+    with open(TABLE, encoding="utf-8") as file:
+        table = json.load(file)
+    passed = failed = 0
+    for name, count, word in counts_at(given, table["scale"]):
+        expected = table["instructions"].get(name)
+        ratio = count / expected if expected else 0.0
+        well = word == "right" and abs(ratio - 1) <= MAY_DIFFER
+        passed, failed = passed + well, failed + (not well)
+        print("%s%s: %d instructions, %.4f of %s, %s" % ("" if well else "FAILED ", name, count, ratio, expected, word), flush=True)
+    print("%d passed, %d failed" % (passed, failed))
+    return 1 if failed else 0
+
+
+def write(given):
+    """Writes the table anew. Returns the exit status."""
+    rows = list(counts_at(given, SCALE))
+    if any(word != "right" for *_, word in rows):
+        sys.exit("count.py: an answer is wrong, so nothing is written")
+    with open(TABLE, "w", encoding="utf-8") as file:
+        json.dump({"scale": SCALE, "instructions": {name: count for name, count, _ in rows}}, file, indent=1)
+        file.write("\n")
+    return 0
+
+
 def read_words():
     words = argparse.ArgumentParser(description=__doc__, formatter_class=argparse.RawDescriptionHelpFormatter)
     words.add_argument("sas")
@@ -96,13 +154,20 @@ def read_words():
     words.add_argument("--beside", metavar="PROGRAM")
     words.add_argument("--only", default="", metavar="TEXT")
     words.add_argument("--scale", type=float, default=0.01, metavar="F")
+    words.add_argument("--compare", action="store_true")
+    words.add_argument("--write", action="store_true")
     return words.parse_args()
 
 
 def main():
     given = read_words()
     if not shutil.which("valgrind"):
+        if given.compare:
+            print("without valgrind: no instructions are counted\n0 passed, 0 failed")
+            return
         sys.exit("count.py: valgrind isn't there; on Debian and Ubuntu: apt-get install valgrind")
+    if given.compare or given.write:
+        sys.exit(compare(given) if given.compare else write(given))
     print("\n".join(machine.header(given.sas, given.beside)))
     scales = ", ".join("%g" % (given.scale * times) for times in TIMES)
     print("Counted at the scales %s, small cases at larger ones" % scales, flush=True)
