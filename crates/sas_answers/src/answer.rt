@@ -25,7 +25,7 @@ impl Answer {
         Ok(self.status)
     }
 
-    /// Does the same, whole lines at a time, which a pipe doesn't mix with those of other writers.
+    /// Writes the text as `write` does, but whole lines at a time, which a pipe doesn't mix with those of other writers.
     pub fn write_lines<W: Write>(&self, out: &mut Watched<W>) -> Result<Status, ToolFault>
         requires { out.old.failed ≡ false }
         ensures writes { Writes W.contents (Ends (λ output. output ≡ Some (output_of self.now)))
