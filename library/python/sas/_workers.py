@@ -106,6 +106,8 @@ class Team(Generic[W, R]):
 
     def results(self, count: int) -> Generator[R, None, None]:
         """Yields the results of each work, in order, each as soon as it comes. So many processes work meanwhile."""
+        # where this signal is ignored, nothing tells how a process ended
+        signal.signal(signal.SIGCHLD, signal.SIG_DFL)
         try:
             for _ in range(min(count, len(self.works))):
                 self._begin()
