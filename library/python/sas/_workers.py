@@ -37,12 +37,11 @@ class _Process:
         """Begins a process. These ends of others stay open in this one alone."""
         self.work, self.count = -1, 0
         self.end, other = multiprocessing.Pipe()
+        kept = self.end, *ends
         with uninterrupted():
             self._number = _forked()
             if self._number == 0:
-                for end in (self.end, *ends):
-                    end.close()
-                _do_each(do, other)
+                _do_each(do, other, kept)
         other.close()
 
     def give(self, number: int, work: Any) -> None:
@@ -71,10 +70,12 @@ def _forked() -> int:
         raise OSError(fault.errno, f"cannot start a process: {fault.strerror}") from fault
 
 
-def _do_each(do: Callable[[Any], Iterable[Any]], end: Any) -> NoReturn:
-    """Does each work that is sent. Sends its results one by one, and then None."""
+def _do_each(do: Callable[[Any], Iterable[Any]], end: Any, others: Iterable[Any]) -> NoReturn:
+    """Does each work that is sent. Sends its results one by one, and then None. The other ends aren't its own."""
     status = FAULT
     try:
+        for other in others:
+            other.close()
         while True:
             for result in do(end.recv()):
                 end.send(result)
