@@ -71,21 +71,30 @@ def _forked() -> int:
 
 
 def _do_each(do: Callable[[Any], Iterable[Any]], end: Any, others: Iterable[Any]) -> NoReturn:
-    """Does each work that is sent. Sends its results one by one, and then None. The other ends aren't its own."""
+    """Does each work that is sent, in a process of its own. It closes the ends of others."""
     status = FAULT
     try:
-        for other in others:
-            other.close()
+        _close(others)
         while True:
-            for result in do(end.recv()):
-                end.send(result)
-            end.send(None)
+            _do_next(do, end)
     except (EOFError, ConnectionError):
         status = YES
     except Exception as fault:  # pylint: disable=broad-except
         write_error(f"sas: {said(fault)}")
     finally:
         os._exit(status)
+
+
+def _close(ends: Iterable[Any]) -> None:
+    for end in ends:
+        end.close()
+
+
+def _do_next(do: Callable[[Any], Iterable[Any]], end: Any) -> None:
+    """Does the next work that is sent, and sends its results one by one, and then None."""
+    for result in do(end.recv()):
+        end.send(result)
+    end.send(None)
 
 
 class Team(Generic[W, R]):
