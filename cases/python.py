@@ -595,6 +595,14 @@ def crash_tests(_, sas, folder):
     for name, (code, said) in CRASHES.items():
         ran = ended(sys.executable, "-c", f"{code}\n{BY_PATH}", package, "table", *FUSES_FILES, env=environment(sas))
         yield f"a crash, {name}", [] if is_line(ran, f"sas: {said}\n") else [f"{ran}"]
+    code = f"{RAISE}LookupError\nit._row = crash\n{BY_PATH}"
+    ran = ended(sys.executable, "-c", code, package, "table", *FUSES_FILES, env=environment(sas))
+    row = f"{COLUMNS}\n{','.join(FUSES_FILES)},{NO_ANSWER},,,,the process ended with status 3\n".encode()
+    said = b"sas: LookupError\n1 rows of 1 tasks: 0 valid, 0 invalid, 0 refused, 1 without an answer\n"
+    yield "a crash of a process that judges", [] if (ran.returncode, ran.stdout, ran.stderr) == (3, row, said) else [f"{ran}"]
+    ran = ended("env", "--ignore-signal=CHLD", sys.executable, "-m", "sas", "table", *FUSES_FILES, env=environment(sas))
+    row = f"{COLUMNS}\n{','.join(FUSES_FILES)},valid,,4,4,\n".encode()
+    yield "where ends of processes are ignored", differs((ran.returncode == 0, ran.stdout), (True, row))
     yield from deep_tests(sas, folder)
 
 

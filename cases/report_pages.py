@@ -265,7 +265,9 @@ def signals(reports):
         wrong += differs(f"SIG{name}", ran.returncode, -getattr(signal, f"SIG{name}"))
         wrong += differs(f"what SIG{name} leaves", os.listdir(place), [])
         wrong += differs("what sas was given", bytes_of_file(os.path.join(folder, "seen")), b"".join(example("valid")))
-    return wrong
+    command = ["env", "--ignore-signal=CHLD", *reports.command, task, plan, "--sas", "/bin/false"]
+    ran = subprocess.run(command, capture_output=True, check=False, timeout=60)
+    return wrong + differs("SIGCHLD is ignored", ran.stderr, b"sas-report: /bin/false: it ended with status 1\n")
 
 
 def limits(reports):

@@ -37,12 +37,11 @@ class _Process:
         """Begins a process. These ends of others stay open in this one alone."""
         self.work, self.count = -1, 0
         self.end, other = multiprocessing.Pipe()
+        kept = self.end, *ends
         with uninterrupted():
             self._number = _forked()
             if self._number == 0:
-                for end in (self.end, *ends):
-                    end.close()
-                _do_each(do, other)
+                _do_each(do, other, kept)
         other.close()
 
     def give(self, number: int, work: Any) -> None:
@@ -71,20 +70,31 @@ def _forked() -> int:
         raise OSError(fault.errno, f"cannot start a process: {fault.strerror}") from fault
 
 
-def _do_each(do: Callable[[Any], Iterable[Any]], end: Any) -> NoReturn:
-    """Does each work that is sent. Sends its results one by one, and then None."""
+def _do_each(do: Callable[[Any], Iterable[Any]], end: Any, others: Iterable[Any]) -> NoReturn:
+    """Does each work that is sent, in a process of its own. It closes the ends of others."""
     status = FAULT
     try:
+        _close(others)
         while True:
-            for result in do(end.recv()):
-                end.send(result)
-            end.send(None)
+            _do_next(do, end)
     except (EOFError, ConnectionError):
         status = YES
     except Exception as fault:  # pylint: disable=broad-except
         write_error(f"sas: {said(fault)}")
     finally:
         os._exit(status)
+
+
+def _close(ends: Iterable[Any]) -> None:
+    for end in ends:
+        end.close()
+
+
+def _do_next(do: Callable[[Any], Iterable[Any]], end: Any) -> None:
+    """Does the next work that is sent, and sends its results one by one, and then None."""
+    for result in do(end.recv()):
+        end.send(result)
+    end.send(None)
 
 
 class Team(Generic[W, R]):
@@ -106,6 +116,8 @@ class Team(Generic[W, R]):
 
     def results(self, count: int) -> Generator[R, None, None]:
         """Yields the results of each work, in order, each as soon as it comes. So many processes work meanwhile."""
+        # where this signal is ignored, nothing tells how a process ended
+        signal.signal(signal.SIGCHLD, signal.SIG_DFL)
         try:
             for _ in range(min(count, len(self.works))):
                 self._begin()
