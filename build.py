@@ -4,6 +4,7 @@
     python3 build.py CRATE [PROCESSORS [PLATFORM]]
     python3 build.py CRATE --check [FLAG ..]
     python3 build.py CRATE --edit EDIT [FLAG ..]
+    python3 build.py CRATE --unproved
 
 CRATE is a program, as sas, or a static library, as sas_c. PROCESSORS is how many to use; all, if left out. A check takes one to four GB.
 PLATFORM is x86_64-linux, if left out, or aarch64-linux. For another platform only CRATE is proved again, and nothing is linked: the object
@@ -17,7 +18,8 @@ the top load for minutes. A crate whose files and crates below are those of the 
 --check proves any crate over what the last run left of those below, and keeps its work in the crate's out/incremental, so that the next
 check is short. Flags are those of `rattle check`, such as `--only FUNCTION`, `--allow-holes` or `--jobs 1`.
 
---edit tries an edit that must fail, as `must-fail/X.edit`, on a copy, in the same way. It says what refuses it (edits.py).
+--edit tries an edit that must fail, as `must-fail/X.edit`, on a copy, in the same way. It says what refuses it (edits.py). --unproved
+builds a program as CRATE-unproved, at the top of the repository, from the code alone (unproved.py).
 """
 import concurrent.futures
 import functools
@@ -230,10 +232,14 @@ def main():
         print(ended.stdout, end="")
         sys.exit(ended.returncode)
     if sys.argv[2:3] == ["--edit"]:
-        # it takes this file as a module
+        # this and the next one take this file as a module
         import edits
 
         sys.exit(edits.try_edit(sys.argv[1], *sys.argv[3:]))
+    if sys.argv[2:3] == ["--unproved"]:
+        import unproved
+
+        sys.exit(unproved.build(sys.argv[1]))
     crate, processors = sys.argv[1], int(sys.argv[2]) if sys.argv[2:] else os.cpu_count()
     platform = known(sys.argv[3]) if sys.argv[3:] else NATIVE
     os.makedirs(LIBRARIES, exist_ok=True)

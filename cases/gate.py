@@ -3,7 +3,7 @@
 
 `rt ci` proves and builds everything and tries each edit that must fail. What an earlier run on this machine proved of the same files is
 kept. An edit that doesn't apply or compile shows nothing: `rt ci` passes it, and here it is a failure. The lines of all edits that weren't
-refused stand once more at the end; cases/edits.py shows that they are noticed. Then docs/READING.md is held against the definitions,
+refused stand once more at the end; cases/bad_edits.py shows that they are noticed. Then docs/READING.md is held against the definitions,
 docs/PROMISES.md against contracts and edits, pages and completions against the program, the commands that documents show are run, those for
 clusters with GNU parallel and Slurm too, each allocation is refused in turn, the calls of the crates are made, the program is run, with
 closed streams too, its instructions are counted, the library is built and called, its answers are read as values, it is used from Python
@@ -45,7 +45,7 @@ CASES = [
         ["cases/debian.py", "sas"],
     ],
     [
-        ["cases/edits.py"],
+        ["cases/bad_edits.py"],
         ["cases/reading.py"],
         ["cases/promises.py"],
         ["cases/pages.py", "sas"],

@@ -1,7 +1,7 @@
 #!/usr/bin/env python3
 """Tests that edits which must fail, but show nothing, are noticed: over a crate of its own, with the toolchain as it is.
 
-    python3 cases/edits.py
+    python3 cases/bad_edits.py
 
 The crate is made by `rt new` in a temporary folder. It has an edit of each kind that there is: one that a promise refuses, one that is
 still proved, one that can't be read, and several that aren't edits of the crate. What the gate says of the lines that `rt ci` prints has to
