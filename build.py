@@ -135,7 +135,7 @@ def is_proved(crate):
 
 
 def run(crate, verb, folders, *more, copy=None):
-    """Has the prover check or build a crate, or its copy, over the libraries in these folders. Returns how it ended, with what it printed."""
+    """Has the prover check or build a crate, or a copy of it, over the libraries in these folders. Returns how that ended."""
     root = "main" if is_program(crate) else "lib"
     words = [f"{KIT}/bin/rattle", verb, "--crate-name", crate, f"src/{root}.rt", "--links", f"{crate}="]
     words += ["--antt-project", f"{KIT}/rattle/logic/antt-project.json", "--logic-built", f"{KIT}/logic_built"]

@@ -42,7 +42,8 @@ from make import case_input
 VALGRIND = ["valgrind", "--tool=cachegrind", "--cache-sim=no", "--cachegrind-out-file=/dev/null"]
 # the C library's plain functions, and its limits on when it copies in another way
 TUNABLES = ":".join((
-    "glibc.cpu.hwcaps=-AVX2,-AVX512F,-AVX512VL,-AVX512BW,-ERMS,-FSRM,-AVX_Fast_Unaligned_Load,-Prefer_ERMS,-Prefer_FSRM,Fast_Unaligned_Copy",
+    "glibc.cpu.hwcaps=-AVX2,-AVX512F,-AVX512VL,-AVX512BW,-AVX_Fast_Unaligned_Load,-ERMS,-FSRM,-Prefer_ERMS,-Prefer_FSRM,"
+    "Fast_Unaligned_Copy",
     "glibc.cpu.x86_non_temporal_threshold=0xc0000",
     "glibc.cpu.x86_rep_movsb_threshold=2048",
     "glibc.cpu.x86_rep_stosb_threshold=2048",

@@ -34,6 +34,7 @@ CASES = [
         ["cases/run.py", "sas"],
         ["cases/streams.py", "sas"],
         ["bench/count.py", "sas", "bench/out", "--compare"],
+        ["cases/name_groups.py", "sas"],
     ],
     [
         ["cases/library.py", "sas", "library/out"],
@@ -75,7 +76,7 @@ def counts(command, show):
     return passed, failed if agrees else failed + 1
 
 
-def counts_of_proofs(words=("rt", "ci")):
+def counts_of_proofs():
     """Runs `rt ci`. Gives its counts, where a bad edit is a failure too, and the lines of all edits that weren't refused."""
     lines = []
 
@@ -83,7 +84,7 @@ def counts_of_proofs(words=("rt", "ci")):
         print(line, flush=True)
         lines.append(line)
 
-    passed, failed = counts(words, show)
+    passed, failed = counts(["rt", "ci"], show)
     wrong = [found for found in map(WRONG_EDIT.match, lines) if found]
     return passed, failed + sum(found[1] == "BAD EDIT" for found in wrong), [found.string for found in wrong]
 
