@@ -17,11 +17,11 @@ growth, the second over the first. Growth near 1 is linear. PROGRAM takes the sa
 that differs by more than 2 % fails, in either direction: a table that is too high would hide the next change. The last line is
 'N passed, M failed', and the exit status is 0 where none failed. --write writes the table anew, with the reason in its commit.
 
-The count of a program is the same wherever it runs, but for two things, which are held fast here. The C library picks its functions for
-copying and comparing by what the processor can do: GLIBC_TUNABLES has it pick those that every x86-64 processor has, with limits that
-don't depend on caches; without that, rows differ by up to 9 %. The environment is on the stack, and is looked through at the start: it has
-nothing else. What is left, another version of the C library or of valgrind, is what the 2 % are for; on one machine a row that differs at
-all is a change. The names of the tunables are those of glibc 2.33 and later.
+Two things would let one program's count differ from machine to machine, and are held fast. The C library picks its functions for copying
+and comparing by what the processor can do: GLIBC_TUNABLES has it pick those that every x86-64 processor has, with limits that don't depend
+on caches. That changes rows by up to 9 %. The environment, which is looked through at the start, has nothing else. What is left, such as
+another version of the C library, is what the 2 % are for. On one machine a row stays within a millionth. The names of the tunables are
+those of glibc 2.33 and later; the table was made on a machine with AVX-512 and glibc 2.36, and no other was tried.
 
 Needs valgrind (apt-get install valgrind); where it isn't there, --compare says so and ends with status 0.
 """
