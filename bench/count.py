@@ -118,7 +118,7 @@ def counts_at(given, scale):
     """Yields each case with its instructions at a scale, and whether the answer is right."""
     for case in chosen(given.only):
         made = case_input(given.folder, case, scale * case.enlarged)
-        count = counted([given.sas, case.request, *files_of(case, made)])
+        count = counted([os.path.abspath(given.sas), case.request, *files_of(case, made)])
         yield case.name, count.instructions, answer_word(count, expected_digest(case.request, made))
 
 
