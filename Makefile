@@ -57,4 +57,4 @@ bench:
 	@python3 bench/run.py ./sas bench/out --scale 0.02 --rounds 3
 
 clean:
-	rm -rf crates/*/out out bench/out library/out* library/rust/target sas build.log gate.log sas-*.tar.gz sas_*.deb
+	rm -rf crates/*/out out bench/out library/out* library/rust/target sas *-unproved build.log gate.log sas-*.tar.gz sas_*.deb

@@ -4,6 +4,7 @@
     python3 build.py CRATE [PROCESSORS [PLATFORM]]
     python3 build.py CRATE --check [FLAG ..]
     python3 build.py CRATE --edit EDIT [FLAG ..]
+    python3 build.py CRATE --unproved
 
 CRATE is a program, as sas, or a static library, as sas_c. PROCESSORS is how many to use; all, if left out. A check takes one to four GB.
 PLATFORM is x86_64-linux, if left out, or aarch64-linux. For another platform only CRATE is proved again, and nothing is linked: the object
@@ -18,7 +19,8 @@ the top load for minutes. A crate whose files and crates below are those of the 
 --check proves any crate over what the last run left of those below, and keeps its work in the crate's out/incremental, so that the next
 check is short. Flags are those of `rattle check`, such as `--only FUNCTION`, `--allow-holes` or `--jobs 1`.
 
---edit tries an edit that must fail, as `must-fail/X.edit`, on a copy, in the same way. It says what refuses it (edits.py).
+--edit tries an edit that must fail, as `must-fail/X.edit`, on a copy, in the same way. It says what refuses it (edits.py). --unproved
+builds a program as CRATE-unproved, at the top of the repository, from the code alone (unproved.py).
 """
 import concurrent.futures
 import functools
@@ -158,7 +160,7 @@ def is_proved(crate):
 
 
 def run(crate, verb, folders, *more, copy=None):
-    """Has the prover check or build a crate, or its copy, over the libraries in these folders. Returns how it ended, with what it printed."""
+    """Has the prover check or build a crate, or a copy of it, over the libraries in these folders. Returns how that ended."""
     root = "main" if is_program(crate) else "lib"
     words = [f"{kit()}/bin/rattle", verb, "--crate-name", crate, f"src/{root}.rt", "--links", f"{crate}="]
     words += ["--antt-project", f"{kit()}/rattle/logic/antt-project.json", "--logic-built", f"{kit()}/logic_built"]
@@ -284,10 +286,14 @@ def main():
         print(ended.stdout, end="")
         sys.exit(ended.returncode)
     if sys.argv[2:3] == ["--edit"]:
-        # it takes this file as a module
+        # this and the next one take this file as a module
         import edits
 
         sys.exit(edits.try_edit(sys.argv[1], *sys.argv[3:]))
+    if sys.argv[2:3] == ["--unproved"]:
+        import unproved
+
+        sys.exit(unproved.build(sys.argv[1]))
     kit()
     crate, processors = sys.argv[1], int(sys.argv[2]) if sys.argv[2:] else os.cpu_count()
     platform = known(sys.argv[3]) if sys.argv[3:] else NATIVE

@@ -23,7 +23,9 @@ import build as proving
 
 PARTS = ("src", "specs", "proofs")
 # a line of the prover that names a goal or a function that isn't proved, or the clauses in a goal, and so long as it is shown
-REASON = re.compile(r"(?:note: )?\S+:\d+:\d+: (?:error: |it is not proved)|fn \S+: (?:not proved|no proof: (?!it calls))|note: .* must prove: record \{")
+REASON = re.compile(
+    r"(?:note: )?\S+:\d+:\d+: (?:error: |it is not proved)|fn \S+: (?:not proved|no proof: (?!it calls))|note: .* must prove: record \{"
+)
 LONGEST = 240
 # how `rt must-fail` says that an edit is refused, before its first reason, and if need be why that shows little
 REFUSAL = re.compile(r"refused, as it must be(?: \([^)]*\))?")

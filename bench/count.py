@@ -17,11 +17,11 @@ growth, the second over the first. Growth near 1 is linear. PROGRAM takes the sa
 that differs by more than 2 % fails, in either direction: a table that is too high would hide the next change. The last line is
 'N passed, M failed', and the exit status is 0 where none failed. --write writes the table anew, with the reason in its commit.
 
-The count of a program is the same wherever it runs, but for two things, which are held fast here. The C library picks its functions for
-copying and comparing by what the processor can do: GLIBC_TUNABLES has it pick those that every x86-64 processor has, with limits that
-don't depend on caches; without that, rows differ by up to 9 %. The environment is on the stack, and is looked through at the start: it has
-nothing else. What is left, another version of the C library or of valgrind, is what the 2 % are for; on one machine a row that differs at
-all is a change. The names of the tunables are those of glibc 2.33 and later.
+Two things would let one program's count differ from machine to machine, and are held fast. The C library picks its functions for copying
+and comparing by what the processor can do: GLIBC_TUNABLES has it pick those that every x86-64 processor has, with limits that don't depend
+on caches. That changes rows by up to 9 %. The environment, which is looked through at the start, has nothing else. What is left, such as
+another version of the C library, is what the 2 % are for. On one machine a row stays within a millionth. The names of the tunables are
+those of glibc 2.33 and later; the table was made on a machine with AVX-512 and glibc 2.36, and no other was tried.
 
 Needs valgrind (apt-get install valgrind); where it isn't there, --compare says so and ends with status 0.
 """
@@ -42,7 +42,8 @@ from make import case_input
 VALGRIND = ["valgrind", "--tool=cachegrind", "--cache-sim=no", "--cachegrind-out-file=/dev/null"]
 # the C library's plain functions, and its limits on when it copies in another way
 TUNABLES = ":".join((
-    "glibc.cpu.hwcaps=-AVX2,-AVX512F,-AVX512VL,-AVX512BW,-ERMS,-FSRM,-AVX_Fast_Unaligned_Load,-Prefer_ERMS,-Prefer_FSRM,Fast_Unaligned_Copy",
+    "glibc.cpu.hwcaps=-AVX2,-AVX512F,-AVX512VL,-AVX512BW,-AVX_Fast_Unaligned_Load,-ERMS,-FSRM,-Prefer_ERMS,-Prefer_FSRM,"
+    "Fast_Unaligned_Copy",
     "glibc.cpu.x86_non_temporal_threshold=0xc0000",
     "glibc.cpu.x86_rep_movsb_threshold=2048",
     "glibc.cpu.x86_rep_stosb_threshold=2048",
@@ -117,7 +118,7 @@ def counts_at(given, scale):
     """Yields each case with its instructions at a scale, and whether the answer is right."""
     for case in chosen(given.only):
         made = case_input(given.folder, case, scale * case.enlarged)
-        count = counted([given.sas, case.request, *files_of(case, made)])
+        count = counted([os.path.abspath(given.sas), case.request, *files_of(case, made)])
         yield case.name, count.instructions, answer_word(count, expected_digest(case.request, made))
 
 

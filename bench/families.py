@@ -23,7 +23,7 @@ from count import LINEAR, answer_word, counted, size_of
 from groups import Chained, Effects, Excluded, Parted, Relying, Repeated, Resting, Shared, Single, Spoiled, Ungrouped
 from idle import Below, Layers, Ruled, Turned, Unruled
 from make import made_input
-from names import Alike, Names
+from names import Alike, Gathered, Names
 from tables import Tables
 from wide import Timed
 
@@ -52,6 +52,7 @@ FAMILIES = [
     Family("effects beside a group", "mutex", Effects, 5000),
     Family("effects and no group", "mutex", Ungrouped, 5000),
     Family("names that end alike", "plan", Names, 10000, 1),
+    Family("names that begin in one group of the map", "plan", Gathered, 750, 1),
     Family("operators of one name", "plan", Alike, 2000, 1),
     Family("effects with many conditions", "check", Timed, 300),
 ]

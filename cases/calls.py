@@ -4,7 +4,8 @@
     python3 cases/calls.py PROGRAM .. [WORD ..]
 
 The programs are those that the crates `test_core`, `test_files`, `test_verdicts` and `test_requests` are built to, and have
-their names. Only the calls of the programs given are made, and of these, where words are given, only those whose names contain one.
+their names, or end in `-unproved`. Only the calls of the programs given are made, and of these, where words are given, only those whose
+names contain one.
 
 calls.json: for each program what its calls print, in groups of the same call.
 
@@ -415,7 +416,7 @@ def main():
     if len(sys.argv) < 2:
         sys.exit(__doc__)
     paths = list(filter(os.path.isfile, sys.argv[1:]))
-    programs = {os.path.basename(path): os.path.abspath(path) for path in paths}
+    programs = {os.path.basename(path).removesuffix("-unproved"): os.path.abspath(path) for path in paths}
     words = [word for word in sys.argv[1:] if word not in paths]
     calls = report.chosen((call for call in cases() if call["program"] in programs), words)
     calls = sorted(calls, key=lambda call: call["program"])

@@ -3,7 +3,7 @@
 
 `rt ci` proves and builds everything and tries each edit that must fail. What an earlier run on this machine proved of the same files is
 kept. An edit that doesn't apply or compile shows nothing: `rt ci` passes it, and here it is a failure. The lines of all edits that weren't
-refused stand once more at the end; cases/edits.py shows that they are noticed. Then the lists of CASES run side by side: documents against
+refused stand once more at the end; cases/bad_edits.py shows that they are noticed. Then the lists of CASES run side by side: documents against
 definitions, contracts, edits and the program, and what the crates' calls, the program, the library, its wrappers, packages and reports do.
 The first lines of each script say what it tries. For 64-bit ARM two crates are proved once more.
 
@@ -32,6 +32,7 @@ CASES = [
         ["cases/run.py", "sas"],
         ["cases/streams.py", "sas"],
         ["bench/count.py", "sas", "bench/out", "--compare"],
+        ["cases/name_groups.py", "sas"],
     ],
     [
         ["cases/library.py", "sas", "library/out"],
@@ -43,7 +44,7 @@ CASES = [
         ["cases/debian.py", "sas"],
     ],
     [
-        ["cases/edits.py"],
+        ["cases/bad_edits.py"],
         ["cases/reading.py"],
         ["cases/promises.py"],
         ["cases/pages.py", "sas"],
@@ -75,7 +76,7 @@ def counts(command, show):
     return passed, failed if agrees else failed + 1
 
 
-def counts_of_proofs(words=("rt", "ci")):
+def counts_of_proofs():
     """Runs `rt ci`. Gives its counts, where a bad edit is a failure too, and the lines of all edits that weren't refused."""
     lines = []
 
@@ -83,7 +84,7 @@ def counts_of_proofs(words=("rt", "ci")):
         print(line, flush=True)
         lines.append(line)
 
-    passed, failed = counts(words, show)
+    passed, failed = counts(["rt", "ci"], show)
     wrong = [found for found in map(WRONG_EDIT.match, lines) if found]
     return passed, failed + sum(found[1] == "BAD EDIT" for found in wrong), [found.string for found in wrong]
 

@@ -1,4 +1,5 @@
-"""How a run of cases is chosen and ends: a line for each that failed, as soon as that is known, and the last line is 'N passed, M failed'."""
+"""How cases are chosen, and how a run of them ends: a line for each that failed, as soon as that is known, and the last line is 'N passed,
+M failed'."""
 import sys
 
 # after so many cases a run says how far it is

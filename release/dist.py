@@ -33,6 +33,8 @@ import bill
 import build as proving  # the file at the top
 
 PROGRAM = "sas"
+# what the prover notes in a program: the logic in which it is proved
+PROVED = b"rattle logic="
 # what `make test` notes at its end: the commit, the toolchain, the last line
 GATE = f"{TOP}/gate.log"
 # the C code of a program for another platform than the native one
@@ -89,7 +91,8 @@ def linked(platform, folder, *words):
     others = proving.archives(PROGRAM) if platform == proving.NATIVE else ["-O2", *(f"{TOP}/{it}" for it in IN_C)]
     words = [*(words or ["-static"]), "-s", "-Wl,--build-id=none", proving.path_of(PROGRAM, platform), *others]
     run(*proving.compiler_for(platform), *words, "-o", f"{folder}/sas")
-    return bytes_of(f"{folder}/sas")
+    made = bytes_of(f"{folder}/sas")
+    return made if PROVED in made else sys.exit(f"not packed: {proving.path_of(PROGRAM, platform)} isn't proved")
 
 
 def built_with(platform):

@@ -1,7 +1,7 @@
 #!/usr/bin/env python3
 """Tests that edits which must fail, but show nothing, are noticed: over a crate of its own, with the toolchain as it is.
 
-    python3 cases/edits.py
+    python3 cases/bad_edits.py
 
 The crate is made by `rt new` in a temporary folder. It has an edit of each kind that there is: one that a promise refuses, one that is
 still proved, one that can't be read, and several that aren't edits of the crate. What the gate says of the lines that `rt ci` prints has to
@@ -87,7 +87,8 @@ def gate_tests(top):
     wrong = [name for name, edit in EDITS.items() if edit[-1] != REFUSED]
     # the crate itself, and the edit that is refused
     expected = (2, len(wrong), len(wrong))
-    yield "counts", [] if (passed, failed, len(lines)) == expected else [f"{(passed, failed, len(lines))}, not {expected}", printed.getvalue()]
+    wrong = differs((passed, failed, len(lines)), expected)
+    yield "counts", [*wrong, printed.getvalue()] if wrong else []
     for name, (*_, kind) in EDITS.items():
         said = [line for line in lines if re.search(rf"/{re.escape(name)}: {kind}: ", line)]
         yield name, [] if len(said) == (kind != REFUSED) else [f"{len(said)} lines say {kind}: {lines}"]
