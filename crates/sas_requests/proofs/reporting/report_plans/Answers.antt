@@ -22,7 +22,7 @@ returns-clause-judges g c =
       | then-tally-count w ↦ inl (w.if-tally-count.true ∙ count, w.status-is)
       | else-tally-count w ↦ inr (λ e. w.if-tally-count.false (e ∙ sym count), w.status-is)
     ])
-    _ c.write.result c.write.ensures.write c.write.ensures.writes.ends)
+    _ c.write_lines.result c.write_lines.ensures.write c.write_lines.ensures.writes.ends)
 
 pub returns-in_err-loaded-clause-judges : goal.returns-in_err-loaded-clause-judges
 returns-in_err-loaded-clause-judges g c =
@@ -50,10 +50,10 @@ returns-in_err-tally-clause-opens g c =
     rw (p.1, p.2) c.in_err-tally.ensures.fault
 
 pub returns-clause-opens : goal.returns-clause-opens
-returns-clause-opens g c = λ task. rw c.judge_ended.ensures (in_turn_written g.S.PlanInputs.open_gives task _ _ _ c.write.result c.write.ensures.write c.in_ok-tally.ensures.opened)
+returns-clause-opens g c = λ task. rw c.judge_ended.ensures (in_turn_written g.S.PlanInputs.open_gives task _ _ _ c.write_lines.result c.write_lines.ensures.write c.in_ok-tally.ensures.opened)
 
 pub returns-clause-nothing : goal.returns-clause-nothing
-returns-clause-nothing g c = rw c.judge_ended.ensures (tool_stopped _ c.write.result c.write.ensures.write)
+returns-clause-nothing g c = rw c.judge_ended.ensures (tool_stopped _ c.write_lines.result c.write_lines.ensures.write)
 
 pub returns-clause-writes : goal.returns-clause-writes
-returns-clause-writes g c = rw c.judge_ended.ensures (tool_written _ c.write.result c.write.ensures.writes.writes)
+returns-clause-writes g c = rw c.judge_ended.ensures (tool_written _ c.write_lines.result c.write_lines.ensures.writes.writes)
