@@ -1,5 +1,5 @@
 // How an answer goes into the caller's memory.
-ghost use Rattle.std.specs.Prelude.{◌≡◌, ◌<◌, ⊥, length, take, drop, IfErr, IfOk, IsTrue, IsFalse, Some};
+ghost use Rattle.std.specs.Prelude.{◌≡◌, ◌<◌, length, take, drop, IfErr, IfOk, IsTrue, IsFalse, Some};
 ghost use Rattle.sas_answers.specs.Ending.{output_of};
 ghost use Rattle.sas_c.specs.Reporting.{Returns, number_of_fault};
 ghost use Rattle.sas_c.specs.Written.{IsAnswered, IsWritten};
