@@ -17,6 +17,7 @@ lines that came before.
 """
 import random
 import re
+from collections import namedtuple
 
 import texts
 from texts import as_bytes, bytes_of_file, table
@@ -263,26 +264,21 @@ def slots_by(what):
     return task_slots() if what == "task" else plan_slots()
 
 
-def hints(what, text, line, kind, found):
-    """Yields the hints for a fault of a file; the first one is given."""
-    if line == 1 and text.startswith(COMPRESSED):
-        yield "the file is compressed"
-    if line == 1 and text.startswith(BYTE_ORDER_MARK):
-        yield "the file begins with a byte order mark"
-    if (what, line, kind, found) == ("plan", 1, "keyword", b"begin_version"):
-        yield "this is a task: the order is TASK PLAN"
-    if (what, line, kind) == ("task", 1, "keyword") and found.startswith((b"(", b";")):
-        yield "this is a plan or PDDL: the task is the file output.sas"
-    if (what, line, kind) == ("task", 2, "value"):
-        yield "only version 3 is read"
-    if (what, kind) == ("plan", "keyword") and found.startswith(b";"):
-        yield "comments aren't read"
-    if kind == "end" and first_fault(slots_by(what), text + b"\n") is None:
-        yield "only the last line end is missing"
-    if (what, kind, found) == ("plan", "end", b"") and line > 1:
-        yield "the cost line is missing"
-    if kind == "end" and text:
-        yield "the file is cut off"
+# a file that is refused: "task" or "plan", its bytes, and the line, the kind and the text of its fault
+Refused = namedtuple("Refused", "what text line kind found")
+# the hints, each with what it is for; the first that applies is given
+HINTS = {
+    "the file is compressed": lambda it: it.line == 1 and it.text.startswith(COMPRESSED),
+    "the file begins with a byte order mark": lambda it: it.line == 1 and it.text.startswith(BYTE_ORDER_MARK),
+    "this is a task: the order is TASK PLAN": lambda it: (it.what, it.line, it.kind, it.found) == ("plan", 1, "keyword", b"begin_version"),
+    "this is a plan or PDDL: the task is the file output.sas":
+        lambda it: (it.what, it.line, it.kind) == ("task", 1, "keyword") and it.found.startswith((b"(", b";")),
+    "only version 3 is read": lambda it: (it.what, it.line, it.kind) == ("task", 2, "value"),
+    "comments aren't read": lambda it: (it.what, it.kind) == ("plan", "keyword") and it.found.startswith(b";"),
+    "only the last line end is missing": lambda it: it.kind == "end" and first_fault(slots_by(it.what), it.text + b"\n") is None,
+    "the cost line is missing": lambda it: (it.what, it.kind, it.found) == ("plan", "end", b"") and it.line > 1,
+    "the file is cut off": lambda it: it.kind == "end" and it.text != b"",
+}
 
 
 def shown(text):
@@ -304,8 +300,9 @@ def refusal(what, text):
         return None
     line, kind, place, expected, words, found = fault
     shown = [f"at {place}", f"expected {expected}", *words] if what == "task" else [f"expected {PLAN_EXPECTED[kind]}"]
-    hint = next((f"hint {words}" for words in hints(what, text, line, kind, found)), None)
-    said = [*shown, found_line(kind, found), *([hint] if hint else [])]
+    refused = Refused(what, text, line, kind, found)
+    hint = [f"hint {words}" for words, applies in HINTS.items() if applies(refused)][:1]
+    said = [*shown, found_line(kind, found), *hint]
     return [f"{what} refused: line {line}: {kind}", *(f"  {it}" for it in said)]
 
 

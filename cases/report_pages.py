@@ -38,6 +38,7 @@ from axioms import text_of as task_text
 from browsers import Browser, Chromium, Firefox
 from large import turning_files
 from pages import is_there
+from refusals import HINTS
 from steps import cost_of
 from texts import TOP, as_bytes, bytes_of_file, text_of, with_line
 from traces import folded
@@ -61,7 +62,7 @@ HARM = "</script><script>document.title='harm'</script><img src=x onerror=\"docu
 NAMES = (HARM, "&lt;b&gt;", "a\u202eb\u2066c", "\x1b[31mred", "'\"`${1}{{data}}", "constructor", "__proto__", "x" * 300, "é ✓", "%s \\1")
 
 # the forms of lines that docs/MEANING.md, docs/WHY.md and docs/FORMATS.md list
-FORMS = """\
+FORMS = [*"""\
 plan valid: S steps, cost C
 plan invalid: step S: no operator of that name
 plan invalid: step S: not applicable
@@ -113,16 +114,7 @@ number K must be A to B
 found TEXT
 empty line
 end of file
-unfinished TEXT
-hint the file is compressed
-hint the file begins with a byte order mark
-hint this is a task: the order is TASK PLAN
-hint this is a plan or PDDL: the task is the file output.sas
-hint only version 3 is read
-hint comments aren't read
-hint only the last line end is missing
-hint the cost line is missing
-hint the file is cut off"""
+unfinished TEXT""".splitlines(), *(f"hint {words}" for words in HINTS)]
 
 
 def example(name):
@@ -338,7 +330,7 @@ def damaged():
 def answers(reports):
     """Returns files with the lines that `plan --why` prints of them, of which each has a form of line that those before lack; and the
     forms that none has."""
-    forms = {form: re.compile(re.sub(r"\b[A-Z]+\b", ".+", re.escape(form).replace("PDDL", "pddl"))) for form in FORMS.splitlines()}
+    forms = {form: re.compile(re.sub(r"\b[A-Z]+\b", ".+", re.escape(form).replace("PDDL", "pddl"))) for form in FORMS}
     kinds = why.written_cases(), why.verdict_cases(), why.refused_cases(), why.walked_cases(), itertools.islice(why.random_cases(), 4000)
     listed = (case for case in itertools.chain(*kinds) if case["words"][1] == "--why" and case["status"] == 1)
     given = ((case["files"]["t.sas"], case["files"]["p.txt"]) for case in listed)
@@ -360,7 +352,7 @@ def every_line(reports, chosen, missing):
     """Each form of a line that the documents list occurs. The page of each has all that `sas` printed, without a script too."""
     documents = "".join(text_of(f"{TOP}/docs/{name}.md") for name in ("MEANING", "WHY", "FORMATS"))
     wrong = [f"no case has the line {form}" for form in missing]
-    wrong += [f"no document lists {form}" for form in FORMS.splitlines() if f"{form}`" not in documents]
+    wrong += [f"no document lists {form}" for form in FORMS if f"{form}`" not in documents]
     for _, _, lines, path, status in chosen:
         page = text_of(path).partition("<article")[2]
         lead, printed = (re.search(f"<{tag}>(.*?)</{tag[:3].split(' ')[0]}", page, re.S) for tag in ("h1", 'pre class="printed"'))

@@ -14,7 +14,7 @@ line; that is tried with `print`, and with `check` where the file is small.
     file         the file, a path from the top of the repository
     check        what `check` prints of it
     mutex        the lines that `mutex` prints of it
-    show         the lines of its summary
+    show         the lines of its summary, by hand, which summaries.py has to compute, too; left out: what it computes
 
 lines.json: lines of these files, and texts in their place. Rows are [LINE, TEXT, ANSWER]; or each of `texts` stands in
 each of `lines` with the same answer. It is `kept`, where the file is printed as changed; a word, where `print`, `show` and
@@ -135,7 +135,8 @@ def whole_cases():
     for task in table("tasks.json"):
         name, held = task["file"], as_bytes({"file": task["file"]})
         returns = held.replace(b"\n", b"\r\n")
-        shown, groups = lines_of(task["show"]), lines_of(task["mutex"])
+        shown, groups = as_bytes({"summary": {"file": name}}), lines_of(task["mutex"])
+        assert "show" not in task or lines_of(task["show"]) == shown, (name, shown)
         layered = 0 if task["check"] == "task layered" else 1
         exclusive = 0 if all(line.endswith(" exclusive") for line in task["mutex"]) else 1
         for ends, given in (("LF", held), ("CR LF", returns)):
