@@ -18,7 +18,7 @@ The calls of `run` and `judge` are made once more with writers of each room up t
 be opened or that fail after each of their bytes.
 
 The calls over the files of tasks.json, lines.json, plans.json, verdicts.json and groups.json are made here, and those over
-the tasks of axioms.py, walks.py, following.py, families.py and large.py, and over devices that go on after a failure.
+the tasks of layered.py, walks.py, following.py, grouped.py and large.py, and over devices that go on after a failure.
 texts.py defines what a text is. Each case that fails has a line, and the last line is 'N passed, M failed'. The exit status is
 0 where none failed.
 """
@@ -30,12 +30,13 @@ import sys
 from concurrent.futures import ThreadPoolExecutor
 
 import report
-from axioms import settled_tasks, spoiled_tasks, text_of
-from families import grouped_tasks
 from following import called_runs
+from grouped import grouped_tasks
 from large import plan_text, wide_groups, wide_plans, wide_task
-from refusals import answer_of_call
-from steps import initial, state_line, verdict
+from layered import settled_tasks, spoiled_tasks
+from oracles.refusals import answer_of_call
+from oracles.steps import initial, state_line, verdict
+from oracles.tasks import text_of
 from texts import as_bytes, changed_lines, early_end, table
 from walks import walked_calls, walked_plans
 from why import written_plans

@@ -21,7 +21,7 @@ import tempfile
 
 import report
 from pages import is_there, link_cases
-from release import BILL, INSTALLED, LIBRARY, NOTES, PYTHON, REPORT, bill_tests, bytes_of, differs, ended, files_below, mark_tests
+from release import BILL, INSTALLED, LIBRARY, NOTES, PYTHON, REPORT, bill_tests, differs, ended, files_below, mark_tests
 from release import named_files, pack_twice, python_tests
 from texts import TOP, text_of
 

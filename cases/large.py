@@ -9,9 +9,9 @@ each, and where it is a border, one has exactly as many.
 
 Each answer is said here from how the task was made. For narrow tasks it is compared with what the meaning of a task gives.
 """
-from axioms import text_of
-from families import line_of, verdicts
-from steps import verdict
+from oracles.families import line_of, verdicts
+from oracles.steps import verdict
+from oracles.tasks import text_of
 from texts import as_bytes, with_line
 
 WIDTHS = (65, 130, 513, 1_024, 1_025)
@@ -53,7 +53,7 @@ def plan_text(names, cost):
 
 
 def value_name(var, value):
-    """The name of a value in the file of a task, as axioms.py makes it."""
+    """The name of a value in the file of a task, as oracles/tasks.py makes it."""
     return f"Atom v{var}({value})"
 
 

@@ -7,9 +7,9 @@ once, takes a second or two. In those of long texts the program has less memory 
 A maker returns for a size the task, the names of a plan's steps, its cost, and what is printed, line by line. For a small size
 that is compared with what the meaning of reasons gives.
 """
-from axioms import operator_line, text_of, value_name
 from large import STACK, case, plan_text, task_with
-from reasons import reasons
+from oracles.reasons import reasons
+from oracles.tasks import operator_line, text_of, value_name
 
 # how many steps a plan has; how many facts, rules, operators or effects there are, or more where a step over each pair of them is
 # quick; how many variables a tree has that is whole

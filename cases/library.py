@@ -35,8 +35,8 @@ from concurrent.futures import ThreadPoolExecutor
 
 import report
 import run
-from axioms import text_of
 from large import plan_text, wide_plans, wide_task
+from oracles.tasks import text_of
 from texts import TOP, as_bytes, changed_lines, table
 
 YES, NO, ROOM_TOO_SHORT, OUT_OF_MEMORY, INPUT_TOO_LONG, NO_TASK = range(6)

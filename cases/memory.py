@@ -12,7 +12,7 @@ SAS is the program itself, with requests over a task of the examples and over on
 allocation of it is refused in turn, until a run meets no refusal. With one refused it prints `sas: out of memory` on standard
 error, writes nothing on standard output and ends with status 3; or it does without and answers as ever. So it is with `--why`,
 for each kind of answer about a plan and about groups, with `trace` and with `plans`: there the answer is what reasons.py, traces.py and
-many.py compute.
+plans.py of oracles/ compute.
 
 The library that refuses is made of refuse.c, with $CC or cc. Each call that fails has a line, and the last line is
 'N passed, M failed'. The exit status is 0 where none failed.
@@ -27,15 +27,15 @@ import tempfile
 from concurrent.futures import ThreadPoolExecutor
 
 import report
-from axioms import text_of
-from group_reasons import with_all_reasons
 from large import plan_text, wide_plans, wide_task
-from layers import after_refusal
-from many import lines_of, status_of
-from reasons import reasons
-from refusals import answer_of_call
+from oracles.group_reasons import with_all_reasons
+from oracles.layers import after_refusal
+from oracles.plans import lines_of, status_of
+from oracles.reasons import reasons
+from oracles.refusals import answer_of_call
+from oracles.tasks import text_of
+from oracles.traces import traced
 from texts import CASES, TOP, as_bytes, table
-from traces import traced
 
 # no run of these makes more allocations
 MOST = 1000

@@ -17,9 +17,9 @@ import re
 import sys
 
 import report
-from axioms import text_of
 from large import plan_text, wide_plans, wide_task
 from library import AROUND, GUARD, NO, NO_TASK, ROOM_TOO_SHORT, YES, Held
+from oracles.tasks import text_of
 from texts import TOP, as_bytes, table
 
 # the room of a line

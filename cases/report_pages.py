@@ -18,7 +18,6 @@ import functools
 import gzip
 import html
 import importlib.util
-import io
 import itertools
 import os
 import random
@@ -34,14 +33,13 @@ import urllib.parse
 
 import report
 import why
-from axioms import text_of as task_text
 from browsers import Browser, Chromium, Firefox
 from large import turning_files
+from oracles.tasks import plan_text, text_of as task_text
+from oracles.traces import folded
 from pages import is_there
-from steps import cost_of
 from texts import TOP, as_bytes, bytes_of_file, text_of, with_line
-from traces import folded
-from walks import operated_task, plan_text, walk
+from walks import operated_task, walk
 
 sys.path.insert(0, os.path.join(TOP, "bench"))
 from gripper import Gripper

@@ -38,7 +38,7 @@ large.py, idle.py, crowded.py, lengthy.py and plenty.py make large tasks and pla
 damaged ones, with `--why`.
 
 groups.json: tasks. Each is given to `mutex` as a file and as standard input, and there with CR LF at the end of each line
-too; those that families.py makes at random, and its larger ones, as standard input.
+too; those that grouped.py makes at random, and its larger ones, as standard input.
 
     task         the file, as a text
     output       standard output, exactly
@@ -81,14 +81,14 @@ from concurrent.futures import ThreadPoolExecutor
 
 import report
 from crowded import crowded_cases
-from families import grouped_tasks, idle_effects, long_chains
 from following import long_runs
-from group_reasons import reason_cases, with_all_reasons
+from grouped import grouped_tasks, idle_effects, long_chains, reason_cases
 from idle import idle_cases, nets_cases
 from large import large_cases
-from layers import layer_cases
+from layered import layer_cases
 from lengthy import lengthy_cases
 from many import plans_cases
+from oracles.group_reasons import with_all_reasons
 from plenty import plenty_cases
 from refusals import refusal_cases
 from texts import TOP, as_bytes, changed_lines, early_end, table
