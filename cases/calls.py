@@ -22,14 +22,13 @@ the tasks of layered.py, walks.py, following.py, grouped.py and large.py, and ov
 texts.py defines what a text is. Each case that fails has a line, and the last line is 'N passed, M failed'. The exit status is
 0 where none failed.
 """
+import functools
 import itertools
 import os
 import re
 import subprocess
-import sys
-from concurrent.futures import ThreadPoolExecutor
 
-import report
+import harness
 from following import called_runs
 from grouped import grouped_tasks
 from large import plan_text, wide_groups, wide_plans, wide_task
@@ -394,7 +393,7 @@ def answers(programs, batch):
     program = programs[batch[0]["program"]]
     given = SEPARATOR.join(call["input"] for call in batch)
     try:
-        ran = subprocess.run([program], input=given, capture_output=True, timeout=SECONDS, check=False)
+        ran = harness.ended(program, input=given, timeout=SECONDS)
     except subprocess.TimeoutExpired:
         return f"no end within {SECONDS} seconds"
     *printed, last = ran.stdout.split(SEPARATOR)
@@ -412,18 +411,15 @@ def faults(programs, batch):
     return [[] if said == call["answer"] else [f"{said[:300]!r}, not {call['answer'][:300]!r}"] for said, call in pairs]
 
 
-def main():
-    if len(sys.argv) < 2:
-        sys.exit(__doc__)
-    paths = list(filter(os.path.isfile, sys.argv[1:]))
-    programs = {os.path.basename(path): os.path.abspath(path) for path in paths}
-    words = [word for word in sys.argv[1:] if word not in paths]
-    calls = report.chosen((call for call in cases() if call["program"] in programs), words)
+def tests(program, *words):
+    """Yields the calls of this program and of those among the words, but those alone whose names contain one of the other words."""
+    programs = {os.path.basename(it): os.path.abspath(it) for it in (program, *filter(os.path.isfile, words))}
+    calls = (call for call in cases() if call["program"] in programs)
+    calls = harness.chosen(calls, [it for it in words if not os.path.isfile(it)])
     calls = sorted(calls, key=lambda call: call["program"])
-    with ThreadPoolExecutor(os.cpu_count()) as pool:
-        wrong = pool.map(lambda batch: faults(programs, batch), batches(calls))
-        report.end(calls, itertools.chain.from_iterable(wrong))
+    for batch, found in harness.side_by_side(functools.partial(faults, programs), batches(calls)):
+        yield from zip((call["name"] for call in batch), found, strict=True)
 
 
 if __name__ == "__main__":
-    main()
+    harness.main(tests)

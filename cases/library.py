@@ -16,7 +16,6 @@ import array
 import contextlib
 import copy
 import ctypes
-import functools
 import glob
 import importlib
 import mmap
@@ -25,18 +24,18 @@ import pathlib
 import pickle
 import random
 import re
-import shlex
 import shutil
 import signal
-import subprocess
 import sys
 import tempfile
 from concurrent.futures import ThreadPoolExecutor
 
-import report
+import harness
+from harness import c_compiler, differs, ended, is_there
 import run
 from large import plan_text, wide_plans, wide_task
 from oracles.tasks import text_of
+from shown import section_of, transcripts
 from texts import TOP, as_bytes, changed_lines, table
 
 YES, NO, ROOM_TOO_SHORT, OUT_OF_MEMORY, INPUT_TOO_LONG, NO_TASK = range(6)
@@ -131,11 +130,6 @@ def inputs_of(request, task, plan):
     return [plan] if request in OVER_PLAN else [task] if request in OVER_TASK else [task, plan]
 
 
-def differs(got, expected):
-    """Returns what is wrong with an answer: whether it is yes, and its text."""
-    return [] if got == expected else [f"{got[0]}, {got[1][:200]!r}, not {expected[0]}, {expected[1][:200]!r}"]
-
-
 def answer_of(sas, request, *files):
     """Returns the answer of the wrapper in Python to a request."""
     return getattr(sas, "print_task" if request == "print" else request)(*files)
@@ -149,7 +143,7 @@ def answer_of_program(program, request, *files):
         for path, held in zip(paths, files):
             with open(path, "wb") as file:
                 file.write(held)
-        ran = subprocess.run([program, word, *("--why" for _ in flag), *paths], capture_output=True, check=False, timeout=SECONDS)
+        ran = ended(program, word, *("--why" for _ in flag), *paths)
     assert ran.returncode in (0, 1) and not ran.stderr, ran
     return ran.returncode == 0, ran.stdout
 
@@ -597,27 +591,9 @@ def wrong_number(expected, call, *given):
     return [] if number == expected else [f"number {number}"]
 
 
-@functools.lru_cache(None)
-def is_there(name):
-    """Whether a tool is there. If it isn't, that is printed once."""
-    if not shutil.which(name):
-        print(f"without {name}, which isn't there")
-    return bool(shutil.which(name))
-
-
 def compilers(*names):
     """Returns those of these tools that are there."""
     return [name for name in names if is_there(name)]
-
-
-def c_compiler():
-    """Returns the words of the C compiler."""
-    return shlex.split(os.environ.get("CC") or "cc")
-
-
-def ended(*command, **more):
-    """Runs a command, and returns how it ended."""
-    return subprocess.run(command, capture_output=True, check=False, timeout=SECONDS, **more)
 
 
 def failed(*command, **more):
@@ -1138,15 +1114,6 @@ PAGE = "docs/LIBRARY.md"
 SECTIONS = {"C": ("c", ".c", "cc"), "C++": ("cpp", ".cpp", "g++"), "Python": ("python", ".py", "python3"), "Rust": ("rust", ".rs", "cargo")}
 
 
-def shown(section):
-    """Returns the program that a section of the page shows, and its commands, each with what it prints."""
-    text = read(PAGE).decode().partition(f"\n## {section}\n")[2].partition("\n## ")[0]
-    programs = re.findall(rf"```{SECTIONS[section][0]}\n(.*?)```", text, re.DOTALL)
-    blocks = re.findall(r"```console\n(.*?)```", text, re.DOTALL)
-    commands = [part for block in blocks for part in re.split(r"^\$ ", block, flags=re.MULTILINE)[1:]]
-    return "".join(programs[:1]), [part.partition("\n")[::2] for part in commands]
-
-
 def page_folder(library, place):
     """Makes a folder with what the commands of the page use."""
     for name in ("examples", "library/examples", "library/rust"):
@@ -1158,10 +1125,11 @@ def page_tests(_, library, place):
     """Yields the commands of the sections about languages, over the programs that they show, all in one folder. They could show a page
     that is wrong, and a section that another one is in the way of."""
     page_folder(library, place)
-    for section, (_, suffix, compiler) in SECTIONS.items():
+    for section, (mark, suffix, compiler) in SECTIONS.items():
         if not compilers(compiler):
             continue
-        program, commands = shown(section)
+        text = section_of(PAGE, f"## {section}")
+        program, commands = "".join(re.findall(rf"```{mark}\n(.*?)```", text, re.DOTALL)[:1]), transcripts(text)
         with open(os.path.join(place, f"judge{suffix}"), "w", encoding="utf-8") as file:
             file.write(program)
         yield f"{PAGE}, {section}", [] if program and commands else ["no program, or no command"]
@@ -1215,18 +1183,15 @@ TESTS = (
 )
 
 
-def main(program, folder):
+def tests(program, folder):
+    """Yields all of these over one library, each kind in a folder of its own."""
     # a call that doesn't end would hold the whole gate up
     signal.alarm(LONGEST)
-    library = Library(os.path.abspath(folder))
-    names, wrong = [], []
+    library = Library(folder)
     for make in TESTS:
         with tempfile.TemporaryDirectory() as place:
-            for name, found in make(os.path.abspath(program), library, place):
-                names.append({"name": f"{make.__name__}: {name}"})
-                wrong.append(found)
-    report.end(names, wrong)
+            yield from harness.named(make, program, library, place)
 
 
 if __name__ == "__main__":
-    main(*sys.argv[1:])
+    harness.main(tests)

@@ -35,10 +35,16 @@ def text_of(file):
         return it.read()
 
 
+def bytes_of(*path):
+    """Returns what a file holds, by the parts of its path."""
+    with open(os.path.join(*path), "rb") as file:
+        return file.read()
+
+
 @functools.lru_cache(None)
 def bytes_of_file(name):
-    with open(os.path.join(TOP, name), "rb") as file:
-        return file.read()
+    """Returns what a file of the repository holds that nothing changes."""
+    return bytes_of(TOP, name)
 
 
 def as_bytes(text):
