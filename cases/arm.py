@@ -21,9 +21,10 @@ import sys
 import tempfile
 
 import harness
-import library
 import run
 from harness import differs, ended, is_there
+from library_calls import linked_tests
+from library_wrappers import held_prints
 from release import is_static, pack, packing_tests
 from texts import TOP, as_bytes, bytes_of
 
@@ -68,7 +69,7 @@ def file_tests(released, place):
         yield f"{name}, its processor", differs(machine, AARCH64)
         yield f"{name}, its segments", differs({it % PAGE for it in aligned}, {0})
     if is_there("nm"):
-        yield from library.linked_tests(os.path.join(released, "library/out"))
+        yield from linked_tests(os.path.join(released, "library/out"))
     if is_there("dpkg-deb"):
         path = pack("deb.py", os.path.join(place, "deb"), PLATFORM)
         yield "the package of Debian", differs(ended("dpkg-deb", "-f", path, "Architecture")[1], b"arm64\n")
@@ -100,7 +101,7 @@ def wrong_held(held, sas, case):
         for path in files:
             with open(path, "wb") as file:
                 file.write(as_bytes(case["files"][os.path.basename(path)]))
-        return differs(ended(*held, *files), library.held_prints(sas, *files))
+        return differs(ended(*held, *files), held_prints(sas, *files))
 
 
 def driver_tests(released, place):
