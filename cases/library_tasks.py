@@ -1,6 +1,6 @@
 #!/usr/bin/env python3
-"""Tests the tasks that a program holds between two calls of the library: in any order of calls, in threads and processes, and where memory is
-refused.
+"""Tests the tasks that a program holds between two calls of the library: in any order of calls, in threads and processes, and where
+memory is refused.
 
     python3 cases/library_tasks.py SAS LIBRARY
 

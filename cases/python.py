@@ -1,6 +1,6 @@
 #!/usr/bin/env python3
-"""Tests the package of Python beyond its calls, which library_tasks.py tests: the values of answers, numbers of operators, files, the commands
-of `python -m sas`, its tables, types and help.
+"""Tests the package of Python beyond its calls, which library_tasks.py tests: the values of answers, numbers of operators, files, the
+commands of `python -m sas`, its tables, types and help.
 
     python3 cases/python.py SAS LIBRARY
 
