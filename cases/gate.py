@@ -34,7 +34,9 @@ CASES = [
         ["bench/count.py", "sas", "bench/out", "--compare"],
     ],
     [
-        ["cases/library.py", "sas", "library/out"],
+        ["cases/library_calls.py", "sas", "library/out"],
+        ["cases/library_wrappers.py", "sas", "library/out"],
+        ["cases/library_tasks.py", "sas", "library/out"],
         ["cases/operators.py", "library/out"],
         ["cases/values.py"],
         ["cases/python.py", "sas", "library/out"],

@@ -9,10 +9,10 @@ each, and where it is a border, one has exactly as many.
 
 Each answer is said here from how the task was made. For narrow tasks it is compared with what the meaning of a task gives.
 """
-from axioms import text_of
-from families import line_of, verdicts
-from steps import verdict
-from summaries import summary
+from oracles.families import line_of, verdicts
+from oracles.steps import verdict
+from oracles.summaries import summary
+from oracles.tasks import text_of
 from texts import as_bytes, with_line
 
 WIDTHS = (65, 130, 513, 1_024, 1_025)

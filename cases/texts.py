@@ -15,14 +15,14 @@ A text of a case is one of
     {"parts": NAME, ..}   the words of the parts of that name of parts.json, with other fields: a list is its length and its items,
                           and `;` ends a word
 
-    {"summary": TEXT}     what `show` prints of the task whose file this text is, as summaries.py computes it
+    {"summary": TEXT}     what `show` prints of the task whose file this text is, as oracles/summaries.py computes it
 """
 import functools
 import json
 import os
 
-from axioms import task_of
-from summaries import summary
+from oracles.summaries import summary
+from oracles.tasks import task_of
 
 CASES = os.path.dirname(os.path.abspath(__file__))
 TOP = os.path.dirname(CASES)
@@ -40,10 +40,16 @@ def text_of(file):
         return it.read()
 
 
+def bytes_of(*path):
+    """Returns what a file holds, by the parts of its path."""
+    with open(os.path.join(*path), "rb") as file:
+        return file.read()
+
+
 @functools.lru_cache(None)
 def bytes_of_file(name):
-    with open(os.path.join(TOP, name), "rb") as file:
-        return file.read()
+    """Returns what a file of the repository holds that nothing changes."""
+    return bytes_of(TOP, name)
 
 
 def as_bytes(text):

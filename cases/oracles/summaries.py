@@ -2,7 +2,7 @@
 
 Some answers in tasks.json, calls.json and program.json are written by hand. They hold what is computed here, too.
 """
-from axioms import value_name
+from oracles.tasks import value_name
 
 
 def fact_line(word, task, var, value):
