@@ -1,6 +1,6 @@
 """What `show` prints of a task, computed from its parts: the lines that docs/MEANING.md lists, in their order.
 
-Some answers in tasks.json, calls.json and program.json are written by hand. They hold what is computed here, too.
+A few answers, in tasks.json and program.json, are written by hand: what is computed here has to be the same.
 """
 from oracles.tasks import value_name
 
