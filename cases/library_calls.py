@@ -225,7 +225,15 @@ def wrong_number(expected, call, *given):
     return [] if number == expected else [f"number {number}"]
 
 
-KINDS = {"Global": None, "&[u8]": "const uint8_t *, size_t", "&mut [u8]": "uint8_t *, size_t", "&mut usize": "size_t *"}
+KINDS = {
+    "Global": None,
+    "&[u8]": "const uint8_t *, size_t",
+    "&mut [u8]": "uint8_t *, size_t",
+    "&mut usize": "size_t *",
+    "&mut SasTask": "sas_task *",
+    "&[u32]": "const uint32_t *, size_t",
+    "u64": "uint64_t",
+}
 
 
 def exports():
