@@ -8,25 +8,25 @@ large or about devices, but for those that limit memory or the stack, which woul
 EMULATOR` runs all others, too. The library has to give them to the example in C, and keeps what is its own where memory is refused.
 
 aarch64-linux-gnu-gcc and its C library build, and qemu-aarch64-static runs. Where the first isn't there, nothing is tried, and where the
-second isn't, nothing is run; a line that begins with `skipped` says so. Two crates are proved again, in two to three minutes each, and what
+second isn't, nothing is run; a line that begins with `without` says so. Two crates are proved again, in two to three minutes each, and what
 is run takes some minutes of a processor.
 
 Each test that fails has a line, and the last line is 'N passed, M failed'. The exit status is 0 where none failed. No proof sees the code
 in C that stands beside the crates there, nor what the toolchain and the cross compiler make of them.
 """
+import functools
 import os
-import shutil
 import struct
 import sys
 import tempfile
-from concurrent.futures import ThreadPoolExecutor
 
-import library
-import report
+import harness
 import run
-from pages import is_there
-from release import TOP, bytes_of, differs, ended, is_static, pack, packing_tests
-from texts import as_bytes
+from harness import differs, ended, is_there
+from library_calls import linked_tests
+from library_wrappers import held_prints
+from release import is_static, pack, packing_tests
+from texts import TOP, as_bytes, bytes_of
 
 sys.path.insert(0, TOP)
 import build as proving  # the file at the top
@@ -69,8 +69,8 @@ def file_tests(released, place):
         yield f"{name}, its processor", differs(machine, AARCH64)
         yield f"{name}, its segments", differs({it % PAGE for it in aligned}, {0})
     if is_there("nm"):
-        yield from library.linked_tests(os.path.join(released, "library/out"))
-    if shutil.which("dpkg-deb"):
+        yield from linked_tests(os.path.join(released, "library/out"))
+    if is_there("dpkg-deb"):
         path = pack("deb.py", os.path.join(place, "deb"), PLATFORM)
         yield "the package of Debian", differs(ended("dpkg-deb", "-f", path, "Architecture")[1], b"arm64\n")
 
@@ -90,9 +90,8 @@ def example_tests(released, sas, place):
     cases = [it for it in (*run.verdict_cases(), *run.why_cases()) if it.get("files", {}).keys() == {"t.sas", "p.txt"}]
     for name, words, one_of in (("libsas.a", ["-static"], ONE_OF), ("libsas.so.1", [f"-Wl,-rpath,{out}"], 10 * ONE_OF)):
         held = compiled("library/examples/held.c", place, "-I", out, *words, os.path.join(out, name))
-        with ThreadPoolExecutor(os.cpu_count()) as pool:
-            wrong = list(pool.map(lambda it: wrong_held(held, sas, it), cases[::one_of]))
-        yield from ((f"held.c with {name}: {it['name']}", found) for it, found in zip(cases[::one_of], wrong, strict=True))
+        for case, found in harness.side_by_side(functools.partial(wrong_held, held, sas), cases[::one_of]):
+            yield f"held.c with {name}: {case['name']}", found
 
 
 def wrong_held(held, sas, case):
@@ -102,7 +101,7 @@ def wrong_held(held, sas, case):
         for path in files:
             with open(path, "wb") as file:
                 file.write(as_bytes(case["files"][os.path.basename(path)]))
-        return differs(ended(*held, *files), library.held_prints(sas, *files))
+        return differs(ended(*held, *files), held_prints(sas, *files))
 
 
 def driver_tests(released, place):
@@ -120,27 +119,26 @@ def emulated_tests(released, sas, place):
     """Yields all that is run under the emulator."""
     run.SECONDS = SECONDS
     judged = run.judged(os.path.join(released, "sas"), [EMULATOR], one_of=ONE_OF)
-    yield from ((f"{EMULATOR}: {case['name']}", found) for case, found in judged)
+    yield from ((f"{EMULATOR}: {name}", found) for name, found in judged)
     yield from example_tests(released, sas, place)
     yield from driver_tests(released, place)
 
 
-def main(sas):
-    found = []
+def tests(sas):
+    """Yields all of these, as far as what builds and runs programs for ARM is there."""
+    if not is_there(COMPILER):
+        return
+    if not os.path.isdir(SYSROOT):
+        print(f"without {SYSROOT}")
+        return
     with tempfile.TemporaryDirectory() as place:
         released = os.path.join(place, "release")
-        if not shutil.which(COMPILER) or not os.path.isdir(SYSROOT):
-            print(f"skipped: 64-bit ARM, as {COMPILER} or its C library isn't there")
-        else:
-            found += build_tests()
-            found += packing_tests(place, PLATFORM)
-            found += file_tests(released, place)
-            if shutil.which(EMULATOR):
-                found += emulated_tests(released, os.path.abspath(sas), place)
-            else:
-                print(f"skipped: what runs for 64-bit ARM, as {EMULATOR} isn't there")
-    report.end([{"name": name} for name, _ in found], [wrong for _, wrong in found])
+        yield from build_tests()
+        yield from packing_tests(place, PLATFORM)
+        yield from file_tests(released, place)
+        if is_there(EMULATOR):
+            yield from emulated_tests(released, sas, place)
 
 
 if __name__ == "__main__":
-    main(*sys.argv[1:])
+    harness.main(tests)

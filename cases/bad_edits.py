@@ -21,9 +21,10 @@ import sys
 import tempfile
 
 import gate
-import report
-from release import bytes_of, differs, files_below
-from texts import TOP, text_of
+import harness
+from harness import differs
+from release import files_below
+from texts import TOP, bytes_of, text_of
 
 CODE = """
 /// Returns half of a number.
@@ -96,8 +97,7 @@ def gate_tests(top):
 
 def build(top, *words):
     """Runs a copy of build.py over the crate, and returns its exit status and what it printed."""
-    ran = subprocess.run([sys.executable, f"{top}/build.py", "tiny", *words], check=False, capture_output=True, encoding="utf-8")
-    return ran.returncode, ran.stdout + ran.stderr
+    return harness.printed(sys.executable, f"{top}/build.py", "tiny", *words)
 
 
 def held(folder):
@@ -128,12 +128,13 @@ def build_tests(top):
     yield "build.py, a crate that isn't proved itself", differs(status, STATUSES[UNREAD]) + ([] if UNREAD in said else [said])
 
 
-def main():
+def tests():
+    """Yields all of these, over one crate."""
     with tempfile.TemporaryDirectory() as top:
         make_crate(top)
-        found = [*gate_tests(top), *build_tests(top)]
-    report.end([{"name": name} for name, _ in found], [wrong for _, wrong in found])
+        yield from gate_tests(top)
+        yield from build_tests(top)
 
 
 if __name__ == "__main__":
-    main()
+    harness.main(tests)

@@ -19,24 +19,24 @@ The calls of `run` and `judge` are made once more with writers of each room up t
 be opened or that fail after each of their bytes.
 
 The calls over the files of tasks.json, lines.json, plans.json, verdicts.json and groups.json are made here, and those over
-the tasks of axioms.py, walks.py, following.py, families.py and large.py, and over devices that go on after a failure.
+the tasks of layered.py, walks.py, following.py, grouped.py and large.py, and over devices that go on after a failure.
 texts.py defines what a text is. Each case that fails has a line, and the last line is 'N passed, M failed'. The exit status is
 0 where none failed.
 """
+import functools
 import itertools
 import os
 import re
 import subprocess
-import sys
-from concurrent.futures import ThreadPoolExecutor
 
-import report
-from axioms import settled_tasks, spoiled_tasks, text_of
-from families import grouped_tasks
+import harness
 from following import called_runs
+from grouped import grouped_tasks
 from large import plan_text, wide_groups, wide_plans, wide_task
-from refusals import answer_of_call
-from steps import initial, state_line, verdict
+from layered import settled_tasks, spoiled_tasks
+from oracles.refusals import answer_of_call
+from oracles.steps import initial, state_line, verdict
+from oracles.tasks import text_of
 from texts import as_bytes, changed_lines, early_end, table
 from walks import walked_calls, walked_plans
 from why import written_plans
@@ -394,7 +394,7 @@ def answers(programs, batch):
     program = programs[batch[0]["program"]]
     given = SEPARATOR.join(call["input"] for call in batch)
     try:
-        ran = subprocess.run([program], input=given, capture_output=True, timeout=SECONDS, check=False)
+        ran = harness.ended(program, input=given, timeout=SECONDS)
     except subprocess.TimeoutExpired:
         return f"no end within {SECONDS} seconds"
     *printed, last = ran.stdout.split(SEPARATOR)
@@ -412,18 +412,15 @@ def faults(programs, batch):
     return [[] if said == call["answer"] else [f"{said[:300]!r}, not {call['answer'][:300]!r}"] for said, call in pairs]
 
 
-def main():
-    if len(sys.argv) < 2:
-        sys.exit(__doc__)
-    paths = list(filter(os.path.isfile, sys.argv[1:]))
-    programs = {os.path.basename(path).removesuffix("-unproved"): os.path.abspath(path) for path in paths}
-    words = [word for word in sys.argv[1:] if word not in paths]
-    calls = report.chosen((call for call in cases() if call["program"] in programs), words)
+def tests(program, *words):
+    """Yields the calls of this program and of those among the words, but those alone whose names contain one of the other words."""
+    programs = {os.path.basename(it).removesuffix("-unproved"): os.path.abspath(it) for it in (program, *filter(os.path.isfile, words))}
+    calls = (call for call in cases() if call["program"] in programs)
+    calls = harness.chosen(calls, [it for it in words if not os.path.isfile(it)])
     calls = sorted(calls, key=lambda call: call["program"])
-    with ThreadPoolExecutor(os.cpu_count()) as pool:
-        wrong = pool.map(lambda batch: faults(programs, batch), batches(calls))
-        report.end(calls, itertools.chain.from_iterable(wrong))
+    for batch, found in harness.side_by_side(functools.partial(faults, programs), batches(calls)):
+        yield from zip((call["name"] for call in batch), found, strict=True)
 
 
 if __name__ == "__main__":
-    main()
+    harness.main(tests)

@@ -26,8 +26,9 @@ import sys
 import tempfile
 import time
 
-import report
-from pages import GUIDE, is_there
+import harness
+from harness import differs, ended, is_there
+from pages import GUIDE
 from shown import commands_in, lines_of
 from texts import TOP
 
@@ -106,9 +107,8 @@ class Guide:
 
     def run(self, command, **more):
         """Runs a command in a shell, and returns what it prints on standard output."""
-        streams = {"stdin": subprocess.DEVNULL, "stdout": subprocess.PIPE, "stderr": subprocess.DEVNULL}
-        env = {**self.env, **more}
-        return subprocess.run(["bash", "-c", command], cwd=self.place, env=env, check=False, timeout=SECONDS, **streams).stdout.decode()
+        more = {"cwd": self.place, "env": {**self.env, **more}, "timeout": SECONDS, "stderr": subprocess.DEVNULL}
+        return ended("bash", "-c", command, **more).stdout.decode()
 
     def left(self):
         """Returns what is left in the folder of each run: its files, and None where one isn't there."""
@@ -147,10 +147,6 @@ def add_runs(place):
         files = {name: f"{it}.plan" for name, it in plans.items()} | ({"output.sas": "fuses.sas"} if STATUSES[run] else {})
         for name, file in files.items():
             shutil.copy(os.path.join(place, "examples", file), os.path.join(place, "runs", run, name))
-
-
-def differs(got, expected):
-    return [] if got == expected else [f"{got!r}, not {expected!r}"]
 
 
 def differ(got, expected):
@@ -209,8 +205,8 @@ def script_tests(guide):
         shutil.copy(os.path.join(guide.place, name), folder)
     before = state("/"), state(folder)
     for words in ([], [""], ["/none"]):
-        ended = subprocess.run(["sh", "judge.sh", *words], cwd=folder, capture_output=True, check=False, timeout=SECONDS)
-        yield f"judge.sh {words}", differs((ended.returncode, ended.stderr, state("/"), state(folder)), (3, b"", *before))
+        ran = ended("sh", "judge.sh", *words, cwd=folder, timeout=SECONDS)
+        yield f"judge.sh {words}", differs((ran.returncode, ran.stderr, state("/"), state(folder)), (3, b"", *before))
 
 
 def status_tests(guide):
@@ -366,19 +362,22 @@ def end_all(place, running):
                 os.kill(int(path.split("/")[2]), signal.SIGKILL)
 
 
-def main(sas):
+def tests(sas):
+    """Yields all of these, over the runs of the guide."""
     # what is started is ended also where this is
     signal.signal(signal.SIGTERM, lambda *_: sys.exit(1))
     # the daemons are there, on some systems not on the PATH
     os.environ["PATH"] += ":/usr/sbin:/sbin"
     with tempfile.TemporaryDirectory() as place:
-        guide = Guide(place, os.path.abspath(sas))
-        found = [*thousands_tests(guide), *xargs_tests(guide)]
+        guide = Guide(place, sas)
+        yield from thousands_tests(guide)
+        yield from xargs_tests(guide)
         expected = guide.left()
-        found += [*script_tests(guide), *status_tests(guide)]
-        found += [*parallel_tests(guide, expected), *slurm_tests(guide, expected)]
-    report.end([{"name": name} for name, _ in found], [wrong for _, wrong in found])
+        yield from script_tests(guide)
+        yield from status_tests(guide)
+        yield from parallel_tests(guide, expected)
+        yield from slurm_tests(guide, expected)
 
 
 if __name__ == "__main__":
-    main(*sys.argv[1:])
+    harness.main(tests)

@@ -5,9 +5,9 @@ No proof speaks of time. A program that takes the square of these numbers, or th
 number says nothing else, a case is so large that such a program takes some minutes over it, and run.py stops it; one that looks
 only at what may change a verdict takes a second or less.
 """
-from axioms import text_of
-from families import line_of
 from large import over_input, task_with
+from oracles.families import line_of
+from oracles.tasks import text_of
 
 # how often a group lists facts, and how many operators there are beside it
 LISTED = 120_000

@@ -6,7 +6,7 @@
 SAS is the program that was built, whose answers the one of the package has to give. The system is a folder in which a C library of this
 machine's version counts as installed; nothing is loaded, and nothing of this machine is changed. Where dpkg-deb isn't there nothing is
 tried, and where apt-get isn't, or the user isn't root, the package is packed alone. `lintian` is used where it is there. A line that begins
-with `skipped` or `without` says so.
+with `without` says so.
 
 Each test that fails has a line, and the last line is 'N passed, M failed'. The exit status is 0 where none failed. No proof sees what is
 in a package.
@@ -14,14 +14,12 @@ in a package.
 import gzip
 import os
 import re
-import shlex
-import shutil
-import sys
 import tempfile
 
-import report
-from pages import is_there, link_cases
-from release import BILL, INSTALLED, LIBRARY, NOTES, PYTHON, REPORT, bill_tests, bytes_of, differs, ended, files_below, mark_tests
+import harness
+from harness import c_compiler, differs, ended, is_there
+from pages import link_cases
+from release import BILL, INSTALLED, LIBRARY, NOTES, PYTHON, REPORT, bill_tests, files_below, mark_tests
 from release import named_files, pack_twice, python_tests
 from texts import TOP, text_of
 
@@ -109,8 +107,10 @@ def system(place):
 def install_tests(place, sas):
     """Yields a package that apt-get installs and removes. They could show one that asks for what isn't there, whose sums are wrong, whose
     program or library doesn't run, or that leaves a file behind."""
-    if not is_there("apt-get") or os.geteuid() != 0:
-        print("skipped: apt-get install, which asks for apt-get and root")
+    if not is_there("apt-get"):
+        return
+    if os.geteuid():
+        print("without apt-get install: only root can try it")
         return
     root, apt = system(place)
     path = os.path.join(place, "first", os.listdir(os.path.join(place, "first"))[0])
@@ -134,7 +134,7 @@ def install_tests(place, sas):
 
 def library_tests(root, place):
     """Yields an example over the library that is installed. It could show a library that isn't found where a compiler looks for it."""
-    compiler, built = shlex.split(os.environ.get("CC") or "cc"), os.path.join(place, "held")
+    compiler, built = c_compiler(), os.path.join(place, "held")
     if not is_there(compiler[0]):
         return
     folder = f"{root}/usr/{LIBRARIES}"
@@ -144,16 +144,13 @@ def library_tests(root, place):
     yield "held.c", differs(ended(built, *files, cwd=TOP), (0, b"examples/fuses.plan: plan valid: 4 steps, cost 4\n", b""))
 
 
-def main(sas):
-    found = []
-    with tempfile.TemporaryDirectory() as place:
-        if shutil.which("dpkg-deb") and shutil.which("readelf"):
-            found += packing_tests(place, os.path.abspath(sas))
-            found += install_tests(place, os.path.abspath(sas))
-        else:
-            print("skipped: packages of Debian, as dpkg-deb or readelf isn't there")
-    report.end([{"name": name} for name, _ in found], [wrong for _, wrong in found])
+def tests(sas):
+    """Yields all of these, where what packs and reads packages is there."""
+    if all([is_there(it) for it in ("dpkg-deb", "readelf")]):
+        with tempfile.TemporaryDirectory() as place:
+            yield from packing_tests(place, sas)
+            yield from install_tests(place, sas)
 
 
 if __name__ == "__main__":
-    main(*sys.argv[1:])
+    harness.main(tests)

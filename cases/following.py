@@ -1,7 +1,7 @@
 """Long runs over tasks with derived variables, made at random from a fixed seed. Each state of a run is computed from its basic
-values alone, as axioms.py says, where the program goes on from the state before it.
+values alone, as oracles/axioms.py says, where the program goes on from the state before it.
 
-A task is as in walks.py. Its operators are
+A task is as in oracles/tasks.py. Its operators are
 
     turn K      several of each name, of which the first applicable one is meant. Most ask for derived facts, and the last one
                 for nothing. So with a wrong value another operator is meant, which does something else at another cost
@@ -14,10 +14,11 @@ at that step, or soon after it: by an operator that isn't applicable, or by the 
 import functools
 import random
 
-from axioms import other_value, settled, text_of
-from reasons import Run
-from steps import changed, cost_of, initial, meant, state_line
-from walks import plan_text
+from layered import other_value
+from oracles.axioms import settled
+from oracles.reasons import Run
+from oracles.steps import changed, cost_of, initial, meant, state_line
+from oracles.tasks import plan_text, text_of
 
 SEED = 31
 # how many tasks, and of how many steps the runs over them are: those of the program, and those of calls, which print each state

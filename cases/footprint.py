@@ -16,7 +16,7 @@ import sys
 import tempfile
 from collections import Counter, namedtuple
 
-import report
+import harness
 from texts import TOP, text_of
 
 sys.path.insert(0, os.path.join(TOP, "bench"))
@@ -171,17 +171,15 @@ def grown(program, request, figures, sizes, folder):
     return [f"it grows by {(second - first) / 1e6:.1f} MB, not by {said / 1e6:.1f}, as the guide says"]
 
 
-def main():
-    if len(sys.argv) != 2:
-        sys.exit(__doc__)
-    program, figures, cases, wrong = os.path.abspath(sys.argv[1]), table(), [], []
+def tests(sas):
+    """Yields each request over each input that it is given."""
+    figures = table()
     with tempfile.TemporaryDirectory() as folder:
         for made in INPUTS:
             sizes = [made.input(SIZE), made.input(2 * SIZE)]
             for request in made.requests or figures:
-                cases.append({"name": f"{made.name}, {request}"})
-                wrong.append(grown(program, request, figures[request.split()[0]], sizes, folder))
-    report.end(cases, wrong)
+                yield f"{made.name}, {request}", grown(sas, request, figures[request.split()[0]], sizes, folder)
 
 
-main()
+if __name__ == "__main__":
+    harness.main(tests)

@@ -35,7 +35,9 @@ CASES = [
         ["cases/name_groups.py", "sas"],
     ],
     [
-        ["cases/library.py", "sas", "library/out"],
+        ["cases/library_calls.py", "sas", "library/out"],
+        ["cases/library_wrappers.py", "sas", "library/out"],
+        ["cases/library_tasks.py", "sas", "library/out"],
         ["cases/operators.py", "library/out"],
         ["cases/values.py"],
         ["cases/python.py", "sas", "library/out"],

@@ -7,8 +7,8 @@ run.py stops it. One that looks only at what a step changes takes a second or tw
 
 Each task has a switch that no rule reads, 0, another variable that keeps its value, 1, and a main switch, which is on, 2.
 """
-from axioms import text_of
 from large import over_plan, task_with
+from oracles.tasks import text_of
 
 # how many small nets there are, and how many variables are in the ring of each
 NETS, RING = 4762, 10

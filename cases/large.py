@@ -9,9 +9,10 @@ each, and where it is a border, one has exactly as many.
 
 Each answer is said here from how the task was made. For narrow tasks it is compared with what the meaning of a task gives.
 """
-from axioms import text_of
-from families import line_of, verdicts
-from steps import verdict
+from oracles.families import line_of, verdicts
+from oracles.steps import verdict
+from oracles.summaries import summary
+from oracles.tasks import text_of
 from texts import as_bytes, with_line
 
 WIDTHS = (65, 130, 513, 1_024, 1_025)
@@ -28,8 +29,6 @@ ALIKE, FACTOR = 100_000, (0x9E3779B97F4A7C15).to_bytes(8, "little").decode("lati
 # the stack that docs/GUIDE.md promises to be enough; with 48 kB some runs fail, as the place of the stack varies
 STACK = 65_536
 MINIMAL = "cases/tasks/minimal.sas"
-# the summary of that task, before the name of its value
-ONE_VARIABLE = "metric 0\nvariables 1\nderived 0\ngroups 0\noperators 0\nrules 0\ninitial 0 0 "
 
 
 def case(name, words, output, status, **inputs):
@@ -52,30 +51,19 @@ def plan_text(names, cost):
     return "".join([*(f"({name})\n" for name in names), f"; cost = {cost} (general cost)\n"])
 
 
-def value_name(var, value):
-    """The name of a value in the file of a task, as axioms.py makes it."""
-    return f"Atom v{var}({value})"
-
-
-def summary(task):
-    """What `show` says of a task."""
-    lines = [
-        f"metric {task['metric']}",
-        f"variables {len(task['ranges'])}",
-        f"derived {sum(layer is not None for layer in task['layers'])}",
-        f"groups {len(task['groups'])}",
-        f"operators {len(task['operators'])}",
-        f"rules {len(task['rules'])}",
-        *(f"initial {var} {value} {value_name(var, value)}" for var, value in enumerate(task["defaults"])),
-        *(f"goal {var} {value} {value_name(var, value)}" for var, value in task["goal"]),
-    ]
-    return "".join(f"{line}\n" for line in lines)
-
-
 def task_with(ranges, **parts):
     """A task of basic variables of these ranges, with these parts, and value 0 for each in the state section."""
     least = {"metric": 0, "layers": [None] * len(ranges), "defaults": [0] * len(ranges), "rules": [], "groups": [], "goal": []}
     return {"ranges": ranges, "operators": [], **least, **parts}
+
+
+def named_value(name, has_goal):
+    """The file of a task of one variable whose initial value has this name, with that value as goal, or with no goal."""
+    return {**with_line(MINIMAL, 12, name), **({} if has_goal else {"line 20": "0", "line 21": None})}
+
+
+# how many bytes the summary of the latter has beside the name
+BESIDE = len(as_bytes({"summary": named_value("", False)}))
 
 
 def read_cases(name, task, text):
@@ -240,12 +228,10 @@ def full_file_cases():
             inputs = {"input": text, "file": room, "error": "sas: write failed\n"}
             yield case(f"a file that may have {room} bytes, {request}", [request, "-"], output[:room], 3, **inputs)
     for length in (1024, 1025):
-        name = "a" * (length - len(ONE_VARIABLE) - 1)
-        output = f"{ONE_VARIABLE}{name}\n"
-        task = {"file": MINIMAL, "line 12": name, "line 20": "0", "line 21": None}
+        task = named_value("a" * (length - BESIDE), False)
         status, said = (0, "") if length == 1024 else (3, "sas: write failed\n")
         inputs = {"input": task, "file": 1024, "error": said}
-        yield case(f"a file that may have 1024 bytes, of {length}", ["show", "-"], output[:1024], status, **inputs)
+        yield case(f"a file that may have 1024 bytes, of {length}", ["show", "-"], as_bytes({"summary": task})[:1024], status, **inputs)
 
 
 def late_changes(width, lines):
@@ -349,12 +335,10 @@ def piece_cases():
     """Summaries of about as many bytes as are written at a time, and with a name of so many. They could show a byte that is lost,
     or comes twice, where a piece is just full."""
     for beyond in (-1, 0, 1):
-        for length in (PIECE + beyond, PIECE + beyond - len(ONE_VARIABLE) - 1):
-            name = "a" * length
-            task, output = {"file": MINIMAL, "line 12": name}, f"{ONE_VARIABLE}{name}\n"
-            yield over_input(f"a name of {length} bytes", "show", task, f"{output}goal 0 0 {name}\n")
-            task = {**task, "line 20": "0", "line 21": None}
-            yield over_input(f"a name of {length} bytes, and no goal", "show", task, output)
+        for length in (PIECE + beyond, PIECE + beyond - BESIDE):
+            for more, has_goal in (("", True), (", and no goal", False)):
+                task = named_value("a" * length, has_goal)
+                yield over_input(f"a name of {length} bytes{more}", "show", task, {"summary": task})
 
 
 def late_line_cases():

@@ -7,9 +7,9 @@ once, takes a second or two. In those of long texts the program has less memory 
 A maker returns for a size the task, the names of a plan's steps, its cost, and what is printed, line by line. For a small size
 that is compared with what the meaning of reasons gives.
 """
-from axioms import operator_line, text_of, value_name
 from large import STACK, case, plan_text, task_with
-from reasons import reasons
+from oracles.reasons import reasons
+from oracles.tasks import operator_line, text_of, value_name
 
 # how many steps a plan has; how many facts, rules, operators or effects there are, or more where a step over each pair of them is
 # quick; how many variables a tree has that is whole
@@ -163,10 +163,18 @@ def tree_rules(size):
     return [([(2 * var, 1), (2 * var + 1, 1)] if var < leaves else [(0, 0)], var, -1, 1) for var in range(1, size + 1)]
 
 
+def rising(var, size):
+    """Yields a variable of a tree after those below it."""
+    if var <= size:
+        yield from rising(2 * var, size)
+        yield from rising(2 * var + 1, size)
+        yield var
+
+
 def tree_down(size):
-    """A goal of a tree of so many variables, from its top: the first fact has all rules, the lowest ones first."""
-    order = sorted(range(1, size + 1), key=lambda var: (-var.bit_length(), var))
-    causes = [[*requires(var, 0, 1), *([derives(its - 1, its) for its in order] if var == 1 else [])] for var in range(1, size + 1)]
+    """A goal of a tree of so many variables, from its top: the first fact has all rules, each as soon as those below it are there."""
+    given = [derives(var - 1, var) for var in rising(1, size)]
+    causes = [[*requires(var, 0, 1), *(given if var == 1 else [])] for var in range(1, size + 1)]
     return derived_task(size, tree_rules(size), [(var, 0) for var in range(1, size + 1)]), [], 0, missed(*causes)
 
 

@@ -1,4 +1,4 @@
-/* Calls the library where memory is refused, over and over, and in threads, for library.py.
+/* Calls the library where memory is refused, over and over, and in threads, for library_tasks.py.
 
      library refused TASK PLAN         each call, with each allocation of it refused in turn
      library many TASK PLAN COUNT      so many times the plan of one task, by each call about one in turn

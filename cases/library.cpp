@@ -1,4 +1,4 @@
-// library TASK PLAN: makes each call of sas.hpp, for library.py. Of each answer it prints the call's name, 0 or 1 as the status of
+// library TASK PLAN: makes each call of sas.hpp, for library_wrappers.py. Of each answer it prints the call's name, 0 or 1 as the status of
 // `sas`, its steps and its cost, or 0 where there are none, and the text; or the name and which exception was thrown. A call that takes a
 // limit gets that of its answer's size, after lower ones, which have to be refused.
 #include "sas.hpp"

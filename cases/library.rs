@@ -1,6 +1,6 @@
-//! library TASK PLAN: makes each call of the crate, for library.py. Of each answer it prints the call's name, 0 or 1 as the status of
-//! `sas`, its steps and its cost, or 0 where there are none, and the text; or the name and which error there is. A call that takes a limit
-//! gets that of its answer's size, after lower ones, which have to be refused.
+//! library TASK PLAN: makes each call of the crate, for library_wrappers.py. Of each answer it prints the call's name, 0 or 1 as the status
+//! of `sas`, its steps and its cost, or 0 where there are none, and the text; or the name and which error there is. A call that takes a
+//! limit gets that of its answer's size, after lower ones, which have to be refused.
 
 use std::io::Write;
 

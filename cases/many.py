@@ -1,14 +1,4 @@
-"""Many plans of one task: what `plans` prints of them, computed from the meaning of a task; cases as in program.json, for run.py.
-A task here is as in walks.py, and a plan is a pair of its label and of its file, as a string of which each character is a byte.
-
-A label is the word that names a plan. For each plan, in the order of the words, there is a line: its label, `: `, and the line
-that `plan` prints of it, also where the plan file is refused. Last there is
-
-    N plans, V valid                        where none is valid
-    N plans, V valid, best cost C: LABEL    where V are: C is the lowest cost of these, and LABEL names the first of that cost
-
-A plan that is refused counts among the N. The exit status is 0 if all are valid. No plan changes what is said of another. Where
-the task is refused, or isn't layered, all that is printed is the line that `plan` prints, and no plan is opened.
+"""Many plans of one task: cases as in program.json, for run.py. oracles/plans.py computes what `plans` prints of them.
 
 many.json: plans of tasks.
 
@@ -19,13 +9,14 @@ many.json: plans of tasks.
 """
 import os
 import random
-import re
 
-from axioms import task_of, text_of
 from following import long_runs, run_over, turning_names, turning_task
-from steps import cost_of, holds, initial, verdict
+from oracles.plans import judged, lines_of, status_of, summary
+from oracles.refusals import refusal
+from oracles.steps import cost_of, holds, initial
+from oracles.tasks import plan_of, plan_text, task_of, text_of
 from texts import as_bytes, changed_lines, table
-from walks import operated_task, plan_of, plan_text, random_facts, walk
+from walks import operated_task, random_facts, walk
 from why import MINIMAL, TURNS, spoiled
 
 SEED = 78
@@ -33,67 +24,8 @@ SEED = 78
 WALKED, TURNED, MOST = 450, 120, 12
 # of one in so many of these each plan is given to `plan` too
 EACH = 4
-STEP = re.compile(r"\([^\r]+\)")
-COST = re.compile(r"; cost = (0|[1-9][0-9]{0,19}) \((unit|general) cost\)")
-LARGEST = 2**64 - 1
 # what labels are made of, each with a number
 LABELS = ("p.{}", "sas_plan.{}", "plan {}", " {} ", "{}: plan valid: 1 steps, cost 1", "./{}", "pl\u00c3\u00a4n {}", "(go)\t{}")
-
-
-def line_fault(line):
-    """Returns the word for what is wrong with a line of a plan file; None where nothing is."""
-    if line.startswith("("):
-        return None if STEP.fullmatch(line) else "name"
-    if not line.startswith("; cost = "):
-        return "keyword"
-    cost = COST.fullmatch(line)
-    return None if cost and int(cost[1]) <= LARGEST else "shape"
-
-
-def plan_fault(text):
-    """Returns the first fault of a plan file; None where it is well formed."""
-    *lines, rest = text.split("\n")
-    for place, line in enumerate(lines, 1):
-        line = line.removesuffix("\r")
-        fault = line_fault(line)
-        if fault:
-            return f"line {place}: {fault}"
-        if line.startswith(";"):
-            return f"line {place + 1}: trailing" if lines[place:] or rest else None
-    return f"line {len(lines) + 1}: end"
-
-
-def judged(task, text):
-    """Returns the line that `plan` prints of a plan file, and what the plan costs; None where it isn't valid."""
-    fault = plan_fault(text)
-    if fault:
-        return f"plan refused: {fault}", None
-    names, cost = plan_of(text)
-    said, _ = verdict(task, names, cost)
-    return said, cost if said.startswith("plan valid: ") else None
-
-
-def summary(costs):
-    """Returns the last line about plans with these labels, each with its cost, or None where it isn't valid."""
-    valid = [(cost, label) for label, cost in costs if cost is not None]
-    line = f"{len(costs)} plans, {len(valid)} valid"
-    if not valid:
-        return line
-    cost, label = min(valid, key=lambda it: it[0])
-    return f"{line}, best cost {cost}: {label}"
-
-
-def lines_of(task, plans):
-    """Returns what is printed of plans of a layered task."""
-    verdicts = [(label, *judged(task, text)) for label, text in plans]
-    lines = [f"{label}: {said}" for label, said, _ in verdicts]
-    return [*lines, summary([(label, cost) for label, _, cost in verdicts])]
-
-
-def status_of(lines):
-    """Returns the exit status with which these lines are printed."""
-    counts = re.match(r"(\d+) plans, (\d+) valid", lines[-1])
-    return 0 if counts and counts[1] == counts[2] else 1
 
 
 def case_of(name, words, files, lines, **inputs):
@@ -177,7 +109,8 @@ def refused_cases():
     task, valid = task_of(minimal), ("valid", plan_text([], 0))
     for made in table("plans.json"):
         text = as_bytes(made["plan"]).decode("latin-1")
-        said = f"plan refused: {plan_fault(text)}\n" if plan_fault(text) else made["output"]
+        refused = refusal("plan", text.encode("latin-1"))
+        said = f"{refused[0]}\n" if refused else made["output"]
         assert as_bytes(said) == as_bytes(made["output"])
         plans = [valid, ("p.txt", text), valid]
         yield over_files(f"{made['name']}, between others", minimal, plans, lines_of(task, plans))

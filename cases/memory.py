@@ -12,30 +12,26 @@ SAS is the program itself, with requests over a task of the examples and over on
 allocation of it is refused in turn, until a run meets no refusal. With one refused it prints `sas: out of memory` on standard
 error, writes nothing on standard output and ends with status 3; or it does without and answers as ever. So it is with `--why`,
 for each kind of answer about a plan and about groups, with `trace` and with `plans`: there the answer is what reasons.py, traces.py and
-many.py compute.
+plans.py of oracles/ compute.
 
 The library that refuses is made of refuse.c, with $CC or cc. Each call that fails has a line, and the last line is
 'N passed, M failed'. The exit status is 0 where none failed.
 """
-import itertools
+import functools
 import os
 import re
-import shlex
-import subprocess
-import sys
 import tempfile
-from concurrent.futures import ThreadPoolExecutor
 
-import report
-from axioms import text_of
-from group_reasons import with_all_reasons
+import harness
 from large import plan_text, wide_plans, wide_task
-from layers import after_refusal
-from many import lines_of, status_of
-from reasons import reasons
-from refusals import answer_of_call
-from texts import CASES, TOP, as_bytes, table
-from traces import traced
+from oracles.group_reasons import with_all_reasons
+from oracles.layers import after_refusal
+from oracles.plans import lines_of, status_of
+from oracles.reasons import reasons
+from oracles.refusals import answer_of_call
+from oracles.tasks import text_of
+from oracles.traces import traced
+from texts import as_bytes, table
 
 # no run of these makes more allocations
 MOST = 1000
@@ -51,33 +47,16 @@ OFTEN = 20
 UNLAYERED, MINIMAL = "cases/tasks/unlayered.sas", "cases/tasks/minimal.sas"
 
 
-def refusing(folder):
-    """Returns the library that refuses an allocation, made in a folder."""
-    made = os.path.join(folder, "refuse.so")
-    command = shlex.split(os.environ.get("CC") or "cc")
-    source = os.path.join(CASES, "refuse.c")
-    subprocess.run([*command, "-O1", "-shared", "-fPIC", "-o", made, source], check=True)
-    return made
-
-
-def ended(library, command, given, number):
+def end_of(library, command, given, number):
     """Returns how a command ends with this allocation refused: its status, what it wrote to each output, and whether it came
     to that."""
     notes, note = os.pipe()
     try:
-        ran = subprocess.run(
-            command,
-            input=given,
-            capture_output=True,
-            check=False,
-            cwd=TOP,
-            env={"LD_PRELOAD": library, "REFUSE": str(number), "REFUSED": str(note)},
-            pass_fds=[note],
-            timeout=60,
-        )
+        env = {"LD_PRELOAD": library, "REFUSE": str(number), "REFUSED": str(note)}
+        end = harness.ended(*command, input=given, env=env, pass_fds=[note], timeout=60)
         os.close(note)
         note = None
-        return (ran.returncode, ran.stdout, ran.stderr), os.read(notes, 1) != b""
+        return end, os.read(notes, 1) != b""
     finally:
         os.close(notes)
         if note is not None:
@@ -87,7 +66,7 @@ def ended(library, command, given, number):
 def runs(library, call):
     """Yields how the command of a call ends with each allocation refused, up to the run that refuses none."""
     for number in range(1, MOST):
-        end, was_refused = ended(library, call["command"], call["given"], number)
+        end, was_refused = end_of(library, call["command"], call["given"], number)
         yield end, was_refused
         if not was_refused:
             return
@@ -251,15 +230,16 @@ def wrong_with_request(library, call):
     return wrong if answered and OUT_OF_MEMORY in [end for end, _ in refused] else [*wrong, f"nothing refused: {last}"]
 
 
-def main(sas, *paths):
+def tests(sas, *paths):
+    """Yields the calls of these programs, and the requests to the program itself, with each allocation refused."""
     programs = {os.path.basename(path): os.path.abspath(path) for path in paths}
-    calls = list(refused_calls(programs))
-    with tempfile.TemporaryDirectory() as folder, ThreadPoolExecutor(os.cpu_count()) as pool:
-        kinds = (refused_requests, refused_reasons, refused_traces, refused_plans)
-        requests = [request for kind in kinds for request in kind(os.path.abspath(sas), folder)]
-        library = itertools.repeat(refusing(folder))
-        wrong = [*pool.map(wrong_with_call, library, calls), *pool.map(wrong_with_request, library, requests)]
-    report.end(calls + requests, wrong)
+    with tempfile.TemporaryDirectory() as folder:
+        library, kinds = harness.built_library("refuse.c", folder), (refused_requests, refused_reasons, refused_traces, refused_plans)
+        requests = [request for kind in kinds for request in kind(sas, folder)]
+        for judge, calls in ((wrong_with_call, refused_calls(programs)), (wrong_with_request, requests)):
+            for call, found in harness.side_by_side(functools.partial(judge, library), calls):
+                yield call["name"], found
 
 
-main(*sys.argv[1:])
+if __name__ == "__main__":
+    harness.main(tests)

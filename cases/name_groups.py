@@ -14,12 +14,11 @@ and the last line is 'N passed, M failed'. The exit status is 0 where none faile
 """
 import os
 import re
-import shutil
 import subprocess
 import sys
 import tempfile
 
-import report
+import harness
 from texts import TOP, text_of
 
 TABLE = f"{TOP}/crates/sas_names/src/name_table.rt"
@@ -51,14 +50,11 @@ def growth_tests(sas):
     yield FAMILY, [] if ran.returncode == 0 and FAMILY in row else [row]
 
 
-def main(sas):
-    found = list(copied_tests())
-    if shutil.which("valgrind"):
-        found += growth_tests(os.path.abspath(sas))
-    else:
-        print("without valgrind: no instructions are counted")
-    report.end([{"name": name} for name, _ in found], [wrong for _, wrong in found])
+def tests(sas):
+    yield from copied_tests()
+    if harness.is_there("valgrind"):
+        yield from growth_tests(sas)
 
 
 if __name__ == "__main__":
-    main(*sys.argv[1:])
+    harness.main(tests)

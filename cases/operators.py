@@ -14,13 +14,13 @@ import glob
 import os
 import random
 import re
-import sys
 
-import report
-from axioms import text_of
+import harness
+from harness import differs
 from large import plan_text, wide_plans, wide_task
 from library import AROUND, GUARD, NO, NO_TASK, ROOM_TOO_SHORT, YES, Held
-from texts import TOP, as_bytes, table
+from oracles.tasks import text_of
+from texts import TOP, as_bytes, bytes_of_file, table
 
 # the room of a line
 ROOM = 128
@@ -80,11 +80,6 @@ class Calls:
 def into(room, length, size):
     """Returns a room as a call is given it."""
     return room, ctypes.c_size_t(length), ctypes.byref(size)
-
-
-def differs(got, expected):
-    """Returns what is wrong with an answer."""
-    return [] if got == expected else [f"{got}, not {expected}"]
 
 
 def with_own_names(task):
@@ -161,17 +156,11 @@ LINES = (
 )
 
 
-def read(name):
-    """Returns a task of cases/tasks."""
-    with open(f"{TOP}/cases/tasks/{name}.sas", "rb") as file:
-        return file.read()
-
-
 def line_tests(calls):
     """Yields each line of an answer. They could show an operator that is chosen by its name, and numbers of other types than the header
     says."""
     for task, name, operators, cost, number, line in LINES:
-        held = calls.read(read(task))
+        held = calls.read(bytes_of_file(f"cases/tasks/{task}.sas"))
         yield f"{task}: {name}", differs(calls.by_numbers(held, operators, cost), (number, f"{line}\n".encode()))
         calls.free(held)
     width = 65
@@ -201,7 +190,7 @@ def room_tests(calls):
     """Yields each answer in rooms of each length. They could show a byte that is written after the room or in front of it, a wrong length,
     and a room that is just long enough and is reported as too short."""
     for task, name, operators, cost, number, line in LINES:
-        held, text = calls.read(read(task)), f"{line}\n".encode()
+        held, text = calls.read(bytes_of_file(f"cases/tasks/{task}.sas")), f"{line}\n".encode()
         wrong = []
         for length in range(len(text) + 3):
             due = (ROOM_TOO_SHORT, b"") if length < len(text) else (number, text)
@@ -219,7 +208,7 @@ def held_tests(calls):
     none = NO_TASK, GUARD * ROOM
     number, _, room, is_kept = calls.whole(held, [0], 1)
     yield "no task", differs((number, room, is_kept), (*none, True))
-    held = calls.read(read(TWO_MOVES))
+    held = calls.read(bytes_of_file(f"cases/tasks/{TWO_MOVES}.sas"))
     asked = [it for it in LINES if it[0] == TWO_MOVES]
     by_name = (NO, b"plan invalid: goal fact 0 not reached\n")
     for place, (_, name, operators, cost, number, line) in enumerate(chance.choices(asked, k=200)):
@@ -230,14 +219,12 @@ def held_tests(calls):
     yield "a task that was freed", differs((number, room, is_kept), (*none, True))
 
 
-def main(folder):
-    calls, names, wrong = Calls(os.path.abspath(folder)), [], []
+def tests(folder):
+    """Yields all of these over one library."""
+    calls = Calls(folder)
     for make in (line_tests, walk_tests, large_tests, room_tests, held_tests):
-        for name, found in make(calls):
-            names.append({"name": f"{make.__name__}: {name}"})
-            wrong.append(found)
-    report.end(names, wrong)
+        yield from harness.named(make, calls)
 
 
 if __name__ == "__main__":
-    main(*sys.argv[1:])
+    harness.main(tests)

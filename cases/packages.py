@@ -17,14 +17,13 @@ import platform
 import re
 import shlex
 import shutil
-import subprocess
 import sys
 import tempfile
 import zipfile
 
-import report
-from pages import is_there
-from texts import TOP, text_of
+import harness
+from harness import c_compiler, differs, is_there, printed
+from texts import TOP, bytes_of, text_of
 
 PROJECT = """\
 cmake_minimum_required(VERSION 3.10)
@@ -77,27 +76,16 @@ PIP = ("-m", "pip", "--disable-pip-version-check", "--isolated")
 PIP_INSTALL = (*PIP, "install", "-q", "--no-index")
 
 
-def ended(*command, **more):
-    """Returns how a command ended: its status, and all that it printed; no status where it isn't there."""
-    streams = {"stdin": subprocess.DEVNULL, "stdout": subprocess.PIPE, "stderr": subprocess.STDOUT}
-    try:
-        ran = subprocess.run(command, check=False, timeout=600, **streams, **more)
-    except OSError as fault:
-        return None, str(fault)
-    return ran.returncode, ran.stdout.decode(errors="replace")
-
-
 def wrong(*command, **more):
     """Returns what is wrong with a command that has to end with status 0."""
-    status, said = ended(*command, **more)
+    status, said = printed(*command, **more)
     return [] if status == 0 else [f"status {status}: {said[-1500:]}"]
 
 
 def wrong_held(top, *command, **more):
     """Returns what is wrong with a build of the example `held`, run over a plan that is valid."""
     files = [os.path.join(top, f"examples/fuses.{it}") for it in ("sas", "plan")]
-    got, expected = ended(*command, *files, **more), (0, f"{files[1]}: plan valid: 4 steps, cost 4\n")
-    return [] if got == expected else [f"{got}"]
+    return differs(printed(*command, *files, **more), (0, f"{files[1]}: plan valid: 4 steps, cost 4\n"))
 
 
 def wrong_project(project, compiler, prefix, folder):
@@ -123,8 +111,8 @@ def cmake_tests(top, prefix, place):
         programs = re.findall(r"add_executable\((held\w*)", project)
         yield f"CMake, {name}, {programs}", [fault for it in programs for fault in wrong_held(top, f"{folder}/build/{it}")]
         if "planner" in project:
-            got = ended(f"{folder}/build/planner", os.path.join(top, "examples/fuses.sas"))
-            yield f"CMake, {name}, a planner's loop", [] if got == (0, PLANNER_PRINTS) else [f"{got}"]
+            got = printed(f"{folder}/build/planner", os.path.join(top, "examples/fuses.sas"))
+            yield f"CMake, {name}, a planner's loop", differs(got, (0, PLANNER_PRINTS))
 
 
 def pkg_config_tests(top, place):
@@ -132,13 +120,12 @@ def pkg_config_tests(top, place):
     if not is_there("pkg-config"):
         return
     out, program = os.path.join(top, "library/out"), os.path.join(place, "held")
-    status, flags = ended("pkg-config", "--cflags", "--libs", "sas >= 1.1", env={**os.environ, "PKG_CONFIG_PATH": out})
+    status, flags = printed("pkg-config", "--cflags", "--libs", "sas >= 1.1", env={**os.environ, "PKG_CONFIG_PATH": out})
     yield "pkg-config", [] if status == 0 else [flags]
-    compiler = shlex.split(os.environ.get("CC") or "cc")
     words = [os.path.join(top, "library/examples/held.c"), *shlex.split(flags), f"-Wl,-rpath,{out}", "-o", program]
-    yield "pkg-config, the program", wrong(*compiler, *words) or wrong_held(top, program)
+    yield "pkg-config, the program", wrong(*c_compiler(), *words) or wrong_held(top, program)
     if is_there("readelf"):
-        needed = ended("readelf", "-d", program)[1]
+        needed = printed("readelf", "-d", program)[1]
         yield "pkg-config, what the program loads", [] if f"[{SHARED}]" in needed else [needed]
 
 
@@ -159,7 +146,7 @@ def cargo_tests(top, place):
         ("../out", [], place),
         (os.path.join(top, "library/out"), [], place),
     ):
-        status, said = ended("cargo", "build", *at, env={**env, "SAS_LIB_DIR": folder}, cwd=where)
+        status, said = printed("cargo", "build", *at, env={**env, "SAS_LIB_DIR": folder}, cwd=where)
         line = f"libsas isn't found in {' or '.join(tried)}"
         found = [it.strip() for it in said.splitlines()]
         yield f"cargo build, SAS_LIB_DIR={folder} in {where}", [] if (status and line in found if tried else status == 0) else [said]
@@ -168,7 +155,7 @@ def cargo_tests(top, place):
 def pip_tests(top, place):
     """Yields the wheel, and what pip installs in fresh environments. They could show a package that doesn't find its library, a wheel
     that is never the same twice or is refused by pip, and one that is installed without the library."""
-    if ended(sys.executable, "-m", "pip", "--version")[0] != 0 or ended(sys.executable, "-c", "import ensurepip, venv")[0] != 0:
+    if printed(sys.executable, "-m", "pip", "--version")[0] != 0 or printed(sys.executable, "-c", "import ensurepip, venv")[0] != 0:
         print("without pip and venv")
         return
     yield from wheel_tests(top, place)
@@ -178,7 +165,7 @@ def pip_tests(top, place):
     bare, none = os.path.join(place, "bare/python"), os.path.join(place, "none")
     shutil.copytree(source, bare, ignore=shutil.ignore_patterns("__pycache__"))
     for form, words in (("a folder", (bare,)), ("-e", ("-e", bare))):
-        status, said = ended(sys.executable, *PIP_INSTALL, "--target", none, *words)
+        status, said = printed(sys.executable, *PIP_INSTALL, "--target", none, *words)
         lines = [it.strip() for it in said.splitlines()]
         line = f"run make lib first: there is no {os.path.join(place, 'bare/out/libsas.so')}"
         well = status and line in lines and "Traceback" not in said
@@ -230,16 +217,16 @@ def environment_tests(top, folder, name, words):
     yield f"{name}, a program", wrong_held(top, python, os.path.join(top, "library/examples/held.py"), **more)
     command = "import sas, importlib.metadata as it; about = it.metadata('sas')"
     command += "; print(sas.__file__, sas.version() == sas.__version__ == about['Version'], bool(about['Summary']))"
-    status, said = ended(python, "-c", command, **more)
+    got = printed(python, "-c", command, **more)
     place = os.path.join(top, "library/python/sas") if "-e" in words else glob.glob(f"{folder}/lib/python3*/site-packages/sas")[0]
-    yield f"{name}, the package", [] if (status, said) == (0, f"{place}/__init__.py True True\n") else [f"{status}, {said}"]
+    yield f"{name}, the package", differs(got, (0, f"{place}/__init__.py True True\n"))
     files = [os.path.join(top, f"examples/fuses.{it}") for it in ("sas", "plan")]
     commands = [[python, "-m", "sas"], *([[os.path.join(folder, "bin/sas")]] if os.path.exists(os.path.join(top, "sas")) else [])]
     for command in commands:
-        got = ended(*command, "plan", *files, **more)
-        yield f"{name}, {os.path.basename(command[0])}", [] if got == (0, "plan valid: 4 steps, cost 4\n") else [f"{got}"]
+        got = printed(*command, "plan", *files, **more)
+        yield f"{name}, {os.path.basename(command[0])}", differs(got, (0, "plan valid: 4 steps, cost 4\n"))
     page = os.path.join(folder, "page.html")
-    status, said = ended(python, "-m", "sas", "report", "-o", page, *files, **more)
+    status, said = printed(python, "-m", "sas", "report", "-o", page, *files, **more)
     # the package of a checkout has no report
     expected = (2, "python -m sas report: it isn't installed\n") if "-e" in words else (0, "")
     well = (status, said) == expected and ("-e" in words or b"plan valid: 4 steps, cost 4" in bytes_of(page))
@@ -250,11 +237,6 @@ def environment_tests(top, folder, name, words):
     yield f"{name}, nothing is left", [] if sorted(os.walk(folder)) == before else ["files are left"]
 
 
-def bytes_of(*path):
-    with open(os.path.join(*path), "rb") as file:
-        return file.read()
-
-
 def package_tests(top, place):
     """Yields all of these over the repository, or over an unpacked release."""
     yield from cmake_tests(top, os.path.join(top, "library/out"), place)
@@ -263,11 +245,11 @@ def package_tests(top, place):
     yield from pip_tests(top, place)
 
 
-def main(top=TOP):
+def tests(top=TOP):
+    """Yields all of these in a folder of their own."""
     with tempfile.TemporaryDirectory() as place:
-        found = list(package_tests(os.path.abspath(top), place))
-    report.end([{"name": name} for name, _ in found], [it for _, it in found])
+        yield from package_tests(top, place)
 
 
 if __name__ == "__main__":
-    main(*sys.argv[1:])
+    harness.main(tests)

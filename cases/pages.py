@@ -14,11 +14,10 @@ No proof reads these files. A request that no page names, or a page of another v
 """
 import os
 import re
-import shutil
-import subprocess
 import sys
 
-import report
+import harness
+from harness import differs, is_there, printed
 from shown import documents
 from texts import TOP, text_of
 
@@ -49,24 +48,11 @@ _sas
 if ((${#COMPREPLY[@]})); then printf '%s\\n' "${COMPREPLY[@]}"; elif [[ $any ]]; then compgen -f -- "${!#}"; fi"""
 
 
-def printed(*command):
-    """Returns what a command prints on standard output and on standard error, in the folder of the repository."""
-    ran = subprocess.run(command, cwd=TOP, stdout=subprocess.PIPE, stderr=subprocess.STDOUT, check=False, timeout=60, text=True)
-    return ran.stdout
-
-
-def is_there(tool):
-    """Whether a tool is there; says where it isn't."""
-    if not shutil.which(tool):
-        print(f"without {tool}")
-    return shutil.which(tool)
-
-
 def requests_of(sas):
     """Returns the requests that the help names, each with its flags, and the flags of the program itself under the empty word."""
-    page = printed(sas, "--help")
+    page = printed(sas, "--help")[1]
     names = re.findall(r"^  (\w+) ", page.partition("Commands:")[2].partition("Options:")[0], re.MULTILINE)
-    return {"": flags_of(page)} | {name: flags_of(printed(sas, name, "--help")) for name in names if name != "help"} | {"help": set()}
+    return {"": flags_of(page)} | {name: flags_of(printed(sas, name, "--help")[1]) for name in names if name != "help"} | {"help": set()}
 
 
 def flags_of(page):
@@ -99,7 +85,7 @@ def page_cases(requests):
 
 def report_cases():
     """Yields the flags of sas-report: those of its help stand in its manual page."""
-    flags = set(re.findall(r"--[\w-]+", printed(sys.executable, os.path.join(TOP, "report", "sas-report"), "--help"))) - {"--help"}
+    flags = set(re.findall(r"--[\w-]+", printed(sys.executable, os.path.join(TOP, "report", "sas-report"), "--help")[1])) - {"--help"}
     named = {f"--{it}" for it in re.findall(r"^\.It Fl Fl ([\w-]+)", text_of(os.path.join(TOP, REPORT_PAGE)), re.MULTILINE)}
     yield f"{REPORT_PAGE}, flags", sorted(flags ^ named) if flags else ["no help"]
 
@@ -107,7 +93,7 @@ def report_cases():
 def mandoc_cases():
     """Yields what mandoc says of the manual pages. It knows only those that are installed."""
     for page in (PAGE, REPORT_PAGE) if is_there("mandoc") else ():
-        lines = printed("mandoc", "-Tlint", page).splitlines()
+        lines = printed("mandoc", "-Tlint", page)[1].splitlines()
         said = [(line, re.search(r"referenced manual not found: Xr (\S+) (\d)", line)) for line in lines]
         yield f"mandoc {page}", [line for line, it in said if not it or not os.path.exists(f"{TOP}/man/{it[1]}.{it[2]}")]
 
@@ -140,15 +126,15 @@ def completion_cases(requests):
             script = ["bash", "-c", BASH, "bash", *words]
             if shell == "fish":
                 script = ["fish", "-N", "-c", f"source completions/sas.fish; complete -C '{' '.join(('sas', *words))}'"]
-            got = {line.split("\t")[0] for line in printed(*script).splitlines()}
-            yield f"{shell}, {' '.join(words)}", [] if got == offered else [f"offered {sorted(got)}"]
+            got = {line.split("\t")[0] for line in printed(*script)[1].splitlines()}
+            yield f"{shell}, {' '.join(words)}", differs(got, offered)
     if is_there("zsh"):
-        yield "zsh reads its completion", printed("zsh", "-n", COMPLETIONS["zsh"]).splitlines()
+        yield "zsh reads its completion", printed("zsh", "-n", COMPLETIONS["zsh"])[1].splitlines()
 
 
 def version_cases(sas):
     """Yields where the version stands."""
-    version = printed(sas, "--version").split()[-1]
+    version = printed(sas, "--version")[1].split()[-1]
     for file, pattern in (
         ("CHANGELOG.md", r"^## (\S+)"),
         ("crates/sas_tool/src/arguments.rt", r'^const VERSION: &str = "(.*)";$'),
@@ -185,13 +171,19 @@ def code_cases():
     yield f"the function of {CALLED}", [] if shown and shown[1] in text_of(os.path.join(TOP, CALLER)) else [f"it isn't in {CALLER}"]
 
 
-def main(sas):
-    sas = os.path.abspath(sas)
+def tests(sas):
+    """Yields all of these."""
     requests = requests_of(sas)
-    cases = [*page_cases(requests), *report_cases(), *diagnostic_cases(), *completion_cases(requests), *version_cases(sas)]
-    cases += [*citation_cases(), *link_cases(), *code_cases(), *mandoc_cases()]
-    report.end([{"name": name} for name, _ in cases], [found for _, found in cases])
+    yield from page_cases(requests)
+    yield from report_cases()
+    yield from diagnostic_cases()
+    yield from completion_cases(requests)
+    yield from version_cases(sas)
+    yield from citation_cases()
+    yield from link_cases()
+    yield from code_cases()
+    yield from mandoc_cases()
 
 
 if __name__ == "__main__":
-    main(*sys.argv[1:])
+    harness.main(tests)

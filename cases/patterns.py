@@ -13,7 +13,8 @@ import os
 import re
 import types
 
-import report
+import harness
+from harness import differs
 from texts import TOP, as_bytes, table, text_of
 
 CODE, PAGE = "examples/parse.py", "docs/GUIDE.md"
@@ -53,7 +54,7 @@ def wrong_lab(answer, name, fields):
     expected["why_not"] = fields.get("reason") if fields.get("file") != "task" else None
     found = {key: re.search(pattern, answer, re.MULTILINE) for key, pattern in of_lab().items()}
     got = {key: it and it[1] for key, it in found.items()}
-    return [] if got == expected else [f"{got}, not {expected}"]
+    return differs(got, expected)
 
 
 def found_by(parse, names, line):
@@ -151,10 +152,12 @@ def wrong_refusals(parse, lines):
     return [it for line in lines for it in wrong_line(parse, line)]
 
 
-def main():
+def tests():
+    """Yields each answer that is looked at."""
     parse = of_example()
-    found = [(name, check(parse, answer)) for name, answer, check in answers()]
-    report.end([{"name": name} for name, _ in found], [wrong for _, wrong in found])
+    for name, answer, check in answers():
+        yield name, check(parse, answer)
 
 
-main()
+if __name__ == "__main__":
+    harness.main(tests)

@@ -12,13 +12,11 @@ No proof reads the script. A step that it loses, a name that it changes, or half
 """
 import itertools
 import os
-import subprocess
 import tempfile
-from concurrent.futures import ThreadPoolExecutor
 
-import report
-from pages import is_there
-from texts import TOP, bytes_of_file
+import harness
+from harness import is_there
+from texts import bytes_of_file
 
 AWKS = (["mawk"], ["gawk"], ["original-awk"], ["busybox", "awk"])
 LOCALES = ("C", "C.UTF-8")
@@ -175,7 +173,7 @@ def text_of_first(count):
 def converted(awk, words, given="", locale="C.UTF-8"):
     """Returns what the script does with these arguments and this standard input: its status, and what it prints."""
     command, env = [*awk, "-f", "examples/plan.awk", *words], {**os.environ, "LC_ALL": locale}
-    ran = subprocess.run(command, cwd=TOP, env=env, input=given.encode("latin-1"), capture_output=True, check=False, timeout=SECONDS)
+    ran = harness.ended(*command, env=env, input=given.encode("latin-1"), timeout=SECONDS)
     return ran.returncode, ran.stdout.decode("latin-1"), ran.stderr.decode("latin-1")
 
 
@@ -240,16 +238,14 @@ def cases_of(awk, is_first, folder):
         yield name, words, given, LOCALES[-1], expected
 
 
-def main():
-    names, found = [], []
-    with tempfile.TemporaryDirectory() as folder, ThreadPoolExecutor(os.cpu_count()) as pool:
+def tests():
+    """Yields each case with each awk that is there."""
+    with tempfile.TemporaryDirectory() as folder:
         for place, awk in enumerate(it for it in AWKS if is_there(it[0])):
-            cases = list(cases_of(awk, place == 0, folder))
-            came = pool.map(lambda it, awk=awk: converted(awk, *it[1:4]), cases)
-            names += [{"name": f"{awk[0]}: {it[0]}"} for it in cases]
-            found += [wrong(got, it[4]) for got, it in zip(came, cases)]
-    report.end(names, found)
+            cases = cases_of(awk, place == 0, folder)
+            for case, came in harness.side_by_side(lambda it, awk=awk: converted(awk, *it[1:4]), cases):
+                yield f"{awk[0]}: {case[0]}", wrong(came, case[4])
 
 
 if __name__ == "__main__":
-    main()
+    harness.main(tests)

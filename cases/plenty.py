@@ -7,11 +7,11 @@ program takes a minute or more, so that run.py stops it, or at which it has no f
 A trace here is a task, the names of a plan's steps, which cost 1 each, and what is printed, line by line. For a small size that
 is compared with what the meaning of traces gives, and so is what is printed of plans.
 """
-from axioms import text_of, value_name
 from large import ALIKE, MINIMAL, PIECE, STACK, WIDTHS, alike_names, alike_task, case, plan_text, task_with, wide_plans, wide_task
 from lengthy import turning
-from many import lines_of, summary
-from traces import traced
+from oracles.plans import lines_of, summary
+from oracles.tasks import text_of, value_name
+from oracles.traces import traced
 
 # how many steps there are, and variables, of which a step changes one or none
 STEPS, VARIABLES = 400_000, 400_000

@@ -13,7 +13,7 @@ import os
 import re
 import sys
 
-import report
+import harness
 from texts import TOP, text_of
 
 PAGE = f"{TOP}/docs/PROMISES.md"
@@ -164,21 +164,28 @@ def tables():
     return "".join(section(crate) for crate in crates()) + "\n"
 
 
-def main(*words):
-    page = text_of(PAGE)
-    front, rest = page.split(BEGIN)
-    written, after = rest.split(END)
-    if words == ("--write",):
-        with open(PAGE, "w", encoding="utf-8") as file:
-            file.write(front + BEGIN + tables() + END + after)
-        return
+def parts():
+    """Returns what stands in the page before its tables, the tables, and what stands after them."""
+    front, rest = text_of(PAGE).split(BEGIN)
+    return front, *rest.split(END)
+
+
+def write():
+    """Writes the tables anew."""
+    front, _, after = parts()
+    with open(PAGE, "w", encoding="utf-8") as file:
+        file.write(front + BEGIN + tables() + END + after)
+
+
+def tests():
+    """Yields whether the tables are up to date, and whether the edits are there that the page names."""
+    front, written, after = parts()
     expected, lines = set(tables().splitlines()), set(written.splitlines())
+    differ = [f"not up to date: {it}" for it in sorted(expected ^ lines)] or ["not in order"]
+    yield "PROMISES.md, its tables", [] if written == tables() else differ
     there = {f"{crate}/{name}" for crate in crates() for name, _ in edits(crate)}
-    named = set(EDIT.findall(front + after))
-    found = [[] if written == tables() else [f"not up to date: {it}" for it in sorted(expected ^ lines)] or ["not in order"]]
-    found.append([f"no edit {it}" for it in sorted(named - there)])
-    report.end([{"name": "PROMISES.md, its tables"}, {"name": "PROMISES.md, the edits that it names"}], found)
+    yield "PROMISES.md, the edits that it names", [f"no edit {it}" for it in sorted(set(EDIT.findall(front + after)) - there)]
 
 
 if __name__ == "__main__":
-    main(*sys.argv[1:])
+    write() if sys.argv[1:] == ["--write"] else harness.main(tests)

@@ -1,6 +1,6 @@
 #!/usr/bin/env python3
-"""Tests the package of Python beyond its calls, which library.py tests: the values of answers, numbers of operators, files, the commands
-of `python -m sas`, its tables, types and help.
+"""Tests the package of Python beyond its calls, which library_tasks.py tests: the values of answers, numbers of operators, files, the
+commands of `python -m sas`, its tables, types and help.
 
     python3 cases/python.py SAS LIBRARY
 
@@ -34,11 +34,12 @@ import time
 import types
 from functools import partial
 
-import report
+import harness
 import run
+from harness import differs, ended, is_there
 from large import turning_files
-from library import FUSES, INPUT_TOO_LONG, LAMPS, OUT_OF_MEMORY, differs, ended, is_there, package_in, read, stub_library
-from shown import shown
+from library import FUSES, INPUT_TOO_LONG, LAMPS, OUT_OF_MEMORY, package_in, read, stub_library
+from shown import section_of, shown, transcripts
 from texts import TOP, as_bytes, table
 
 SECONDS = 60
@@ -842,14 +843,13 @@ GUIDE, SECTION, MAKING = "docs/GUIDE.md", "## Make a table of many plans", ("cp 
 
 def guide_tests(program, sas, folder):
     """Yields the commands that the guide shows of tables. They could show a page that is wrong."""
-    section = read(GUIDE).decode().partition(f"\n{SECTION}\n")[2].partition("\n## ")[0]
-    commands = "".join(re.findall("```console\n(.*?)```", section, re.DOTALL)).split("$ ")[1:]
+    commands = transcripts(section_of(GUIDE, SECTION))
     shutil.copytree(os.path.join(TOP, "examples"), os.path.join(folder, "examples"))
     shutil.copy(program, os.path.join(folder, "sas"))
     for case in shown(GUIDE):
         if case["command"].startswith(MAKING):
             ended("bash", "-c", case["command"], cwd=folder)
-    for command, _, output in (it.partition("\n") for it in commands):
+    for command, output in commands:
         ran = ended("bash", "-c", command, cwd=folder, env=environment(sas))
         yield f"{GUIDE}: {command}", differs((True, ran.stdout + ran.stderr), (True, output.encode()))
     yield f"{GUIDE}, {SECTION}", [] if len(commands) == 2 else [f"{commands}"]
@@ -877,17 +877,14 @@ TESTS = (
 )
 
 
-def main(program, folder):
+def tests(program, folder):
+    """Yields all of these over one package, each kind in a folder of its own."""
     os.chdir(TOP)
-    sas = package_in(os.path.abspath(folder))
-    names, wrong = [], []
+    sas = package_in(folder)
     for make in TESTS:
         with tempfile.TemporaryDirectory() as place:
-            for name, found in make(os.path.abspath(program), sas, place):
-                names.append({"name": f"{make.__name__}: {name}"})
-                wrong.append(found)
-    report.end(names, wrong)
+            yield from harness.named(make, program, sas, place)
 
 
 if __name__ == "__main__":
-    main(*sys.argv[1:])
+    harness.main(tests)

@@ -1,5 +1,5 @@
-// ranges TASK: judges a plan of examples/fuses.sas by the numbers of its operators, for library.py, in ranges of each kind. Prints each
-// answer. Ranges of other types, and those that aren't contiguous, don't convert.
+// ranges TASK: judges a plan of examples/fuses.sas by the numbers of its operators, for library_wrappers.py, in ranges of each kind. Prints
+// each answer. Ranges of other types, and those that aren't contiguous, don't convert.
 #include <sas.hpp>
 #include <array>
 #include <deque>

@@ -13,7 +13,8 @@ import os
 import re
 import sys
 
-import report
+import harness
+from harness import differs
 
 TOP = os.path.dirname(os.path.dirname(os.path.abspath(__file__)))
 PAGES = ("docs/READING.md", "docs/PROMISES.md")
@@ -99,25 +100,27 @@ def wrong_sum(reading):
     return ([] if said == [lines] else [f"{lines} lines, not {said}"]) + ([f"{lines} lines, more than {MOST}"] if lines > MOST else [])
 
 
-def main():
-    if len(sys.argv) > 1:
-        sizes = {path: size(path) for path in closure(sys.argv[1])}
-        for path, lines in sizes.items():
-            print(f"{lines:4} {path}")
-        print(f"{sum(sizes.values()):4} lines in {len(sizes)} files")
-        return
+def print_closure(path):
+    """Prints the files that a definition rests on, each with its lines."""
+    sizes = {path: size(path) for path in closure(path)}
+    for path, lines in sizes.items():
+        print(f"{lines:4} {path}")
+    print(f"{sum(sizes.values()):4} lines in {len(sizes)} files")
+
+
+def tests():
+    """Yields all that the pages say of files."""
     reading = "".join(map(text_of, PAGES))
     sections = list(wrong_sections(reading))
     starts = [start for _, found, _ in sections for start in found]
-    cases = [(f"the files of the section {heading}", wrong) for heading, _, wrong in sections]
-    cases.append(("the number of files with which sections start", [] if len(starts) == STARTS else [f"{len(starts)}, not {STARTS}"]))
+    yield from ((f"the files of the section {heading}", wrong) for heading, _, wrong in sections)
+    yield "the number of files with which sections start", differs(len(starts), STARTS)
     quotes = list(wrong_quotes(reading))
-    cases += [(f"READING.md, the quote of {path}", wrong) for path, wrong in quotes]
-    cases.append(("READING.md quotes the theorem", [] if THEOREM in dict(quotes) else [f"it doesn't quote {THEOREM}"]))
-    cases.append(("READING.md, the lines for `plan valid`", wrong_sum(reading)))
-    cases.append(("files that aren't there", [it for it in FILE.findall(reading) if not os.path.exists(f"{TOP}/{it}")]))
-    report.end([{"name": name} for name, _ in cases], [wrong for _, wrong in cases])
+    yield from ((f"READING.md, the quote of {path}", wrong) for path, wrong in quotes)
+    yield "READING.md quotes the theorem", [] if THEOREM in dict(quotes) else [f"it doesn't quote {THEOREM}"]
+    yield "READING.md, the lines for `plan valid`", wrong_sum(reading)
+    yield "files that aren't there", [it for it in FILE.findall(reading) if not os.path.exists(f"{TOP}/{it}")]
 
 
 if __name__ == "__main__":
-    main()
+    print_closure(sys.argv[1]) if sys.argv[1:] else harness.main(tests)

@@ -18,7 +18,6 @@ import functools
 import gzip
 import html
 import importlib.util
-import io
 import itertools
 import os
 import random
@@ -32,16 +31,16 @@ import threading
 import time
 import urllib.parse
 
-import report
+import harness
 import why
-from axioms import text_of as task_text
 from browsers import Browser, Chromium, Firefox
+from harness import differs, ended, is_there
 from large import turning_files
-from pages import is_there
-from steps import cost_of
+from oracles.refusals import HINTS
+from oracles.tasks import plan_text, text_of as task_text
+from oracles.traces import folded
 from texts import TOP, as_bytes, bytes_of_file, text_of, with_line
-from traces import folded
-from walks import operated_task, plan_text, walk
+from walks import operated_task, walk
 
 sys.path.insert(0, os.path.join(TOP, "bench"))
 from gripper import Gripper
@@ -61,7 +60,7 @@ HARM = "</script><script>document.title='harm'</script><img src=x onerror=\"docu
 NAMES = (HARM, "&lt;b&gt;", "a\u202eb\u2066c", "\x1b[31mred", "'\"`${1}{{data}}", "constructor", "__proto__", "x" * 300, "é ✓", "%s \\1")
 
 # the forms of lines that docs/MEANING.md, docs/WHY.md and docs/FORMATS.md list
-FORMS = """\
+FORMS = [*"""\
 plan valid: S steps, cost C
 plan invalid: step S: no operator of that name
 plan invalid: step S: not applicable
@@ -113,16 +112,7 @@ number K must be A to B
 found TEXT
 empty line
 end of file
-unfinished TEXT
-hint the file is compressed
-hint the file begins with a byte order mark
-hint this is a task: the order is TASK PLAN
-hint this is a plan or PDDL: the task is the file output.sas
-hint only version 3 is read
-hint comments aren't read
-hint only the last line end is missing
-hint the cost line is missing
-hint the file is cut off"""
+unfinished TEXT""".splitlines(), *(f"hint {words}" for words in HINTS)]
 
 
 def example(name):
@@ -163,16 +153,11 @@ class Reports:
 
     def run(self, *words, **more):
         """Runs the command, and returns how it ended."""
-        return subprocess.run([*self.command, *words], stdout=subprocess.PIPE, stderr=subprocess.PIPE, check=False, timeout=120, **more)
+        return ended(*self.command, *words, **more)
 
     def printed(self, request, *paths):
-        ran = subprocess.run([self.sas, *request, *paths], stdout=subprocess.PIPE, check=False, timeout=120)
+        ran = ended(self.sas, *request, *paths)
         return ran.stdout.decode("latin-1").splitlines()
-
-
-def differs(what, found, expected):
-    """Returns what is wrong where two values differ."""
-    return [] if found == expected else [f"{what}: {found!r}, not {expected!r}"]
 
 
 def comes(what, find, expected):
@@ -180,7 +165,7 @@ def comes(what, find, expected):
     end = time.monotonic() + LARGE["picture"]
     while (found := find()) != expected and time.monotonic() < end:
         time.sleep(0.02)
-    return differs(what, found, expected)
+    return differs(found, expected, what)
 
 
 # Without a browser
@@ -203,7 +188,7 @@ def statuses(reports):
     wrong = []
     for words, status, message in expected:
         ran = reports.run(*words, cwd=folder)
-        wrong += differs(f"{words} status", ran.returncode, status)
+        wrong += differs(ran.returncode, status, f"{words} status")
         wrong += [] if message in ran.stderr.decode() else [f"{words}: {ran.stderr.decode()[-200:]}"]
     page = " ".join(reports.run("--help").stdout.decode().split())
     return wrong + [f"--help lacks {word}" for word in ("0 if", "1 if", "2 for", "3 if", "--sas", "-o FILE") if word not in page]
@@ -218,13 +203,13 @@ def read_once(reports):
     for place in (0, 1):
         words = [*paths[:place], "-", *paths[place + 1:]]
         found = reports.run(*words, "-o", "-", "--sas", reports.sas, input=(task, plan)[place]).stdout
-        wrong += differs(f"{words[place - 1]} beside standard input", b"<h1>plan valid: 4 steps, cost 4</h1>" in found, True)
+        wrong += differs(b"<h1>plan valid: 4 steps, cost 4</h1>" in found, True, f"{words[place - 1]} beside standard input")
     pipes = [path + ".pipe" for path in paths]
     for pipe, data in zip(pipes, (task, plan)):
         os.mkfifo(pipe)
         threading.Thread(target=lambda pipe=pipe, data=data: open(pipe, "wb").write(data), daemon=True).start()
     found = reports.run(*pipes, "-o", "-", "--sas", reports.sas).stdout
-    return wrong + differs("named pipes", b"<h1>plan valid: 4 steps, cost 4</h1>" in found, True)
+    return wrong + differs(b"<h1>plan valid: 4 steps, cost 4</h1>" in found, True, "named pipes")
 
 
 def closed_streams(reports):
@@ -239,9 +224,9 @@ def closed_streams(reports):
             script = "".join(f"exec {it}>&-; " for it in closed) + 'exec "$0" "$@"'
             with open(task, "rb") as given:
                 command = ["sh", "-c", script, *reports.command, *words]
-                ran = subprocess.run(command, stdin=given, capture_output=True, check=False, timeout=60)
+                ran = ended(*command, stdin=given)
             expected = 3 if set(needed) & set(closed) else status
-            wrong += differs(f"{words}, closed: {closed}: status", ran.returncode, expected)
+            wrong += differs(ran.returncode, expected, f"{words}, closed: {closed}: status")
             is_line = ran.stderr.startswith(b"sas-report: ") and ran.stderr.count(b"\n") == 1
             wrong += [f"{words}, closed: {closed}: {ran.stderr}"] * (expected == 3 and "2" not in closed and not is_line)
     return wrong
@@ -262,12 +247,12 @@ def signals(reports):
     for name in ("TERM", "HUP", "INT", "KILL"):
         env = {**os.environ, "TMPDIR": place, "SIGNAL": name, "SAS": reports.sas}
         ran = reports.run(task, plan, "-o", "-", "--sas", waiting, env=env, cwd=folder)
-        wrong += differs(f"SIG{name}", ran.returncode, -getattr(signal, f"SIG{name}"))
-        wrong += differs(f"what SIG{name} leaves", os.listdir(place), [])
-        wrong += differs("what sas was given", bytes_of_file(os.path.join(folder, "seen")), b"".join(example("valid")))
+        wrong += differs(ran.returncode, -getattr(signal, f"SIG{name}"), f"SIG{name}")
+        wrong += differs(os.listdir(place), [], f"what SIG{name} leaves")
+        wrong += differs(bytes_of_file(os.path.join(folder, "seen")), b"".join(example("valid")), "what sas was given")
     command = ["env", "--ignore-signal=CHLD", *reports.command, task, plan, "--sas", "/bin/false"]
     ran = subprocess.run(command, capture_output=True, check=False, timeout=60)
-    return wrong + differs("SIGCHLD is ignored", ran.stderr, b"sas-report: /bin/false: it ended with status 1\n")
+    return wrong + differs(ran.stderr, b"sas-report: /bin/false: it ended with status 1\n", "SIGCHLD is ignored")
 
 
 def limits(reports):
@@ -278,8 +263,8 @@ def limits(reports):
     for most, status, name in ((len(task), 0, ""), (len(task) - 1, 3, "t.sas"), (len(plan), 3, "t.sas"), (0, 3, "t.sas")):
         ran = reports.run(*paths, "-o", page, "--max-bytes", str(most), "--sas", reports.sas)
         said = f"sas-report: input too long: {paths[0]}\n" if name else ""
-        wrong += differs(f"--max-bytes {most}", (ran.returncode, ran.stderr.decode()), (status, said))
-    wrong += differs("--max-bytes x", reports.run(*paths, "--max-bytes", "x").returncode, 2)
+        wrong += differs((ran.returncode, ran.stderr.decode()), (status, said), f"--max-bytes {most}")
+    wrong += differs(reports.run(*paths, "--max-bytes", "x").returncode, 2, "--max-bytes x")
     endless = f'yes | "$@" - {paths[1]} -o {page} --max-bytes {1 << 24}', "sas-report: input too long: -\n"
     large = reports.files(*turning_files(4000, 10, 4000, 1))
     traced = sum(map(len, subprocess.Popen([reports.sas, "trace", *large], stdout=subprocess.PIPE).stdout))
@@ -287,8 +272,8 @@ def limits(reports):
     too_large = f'"$@" {" ".join(large)} -o {page}', said
     for script, said in (endless, too_large):
         limited = f"ulimit -v {MOST_MEMORY // 1024}; {script} --sas {reports.sas}"
-        ran = subprocess.run(["sh", "-c", limited, "", *reports.command], capture_output=True, check=False, timeout=120)
-        wrong += differs(script, (ran.returncode, ran.stderr.decode()), (3, said))
+        ran = ended("sh", "-c", limited, "", *reports.command)
+        wrong += differs((ran.returncode, ran.stderr.decode()), (3, said), script)
     return wrong
 
 
@@ -307,8 +292,8 @@ def found_programs(reports):
             shutil.copy(reports.sas, place)
         for command in ("bin/sas-report", "link"):
             words = [sys.executable, f"{top}/{command}", *paths, "-o", f"{top}/r.html"]
-            ran = subprocess.run(words, stderr=subprocess.PIPE, check=False, timeout=60, env={"PATH": path, "PYTHONDONTWRITEBYTECODE": "1"})
-            wrong += differs(f"{command}, {place}, {path}", ran.returncode, 0 if place or "other" in path else 3)
+            ran = ended(*words, env={"PATH": path, "PYTHONDONTWRITEBYTECODE": "1"})
+            wrong += differs(ran.returncode, 0 if place or "other" in path else 3, f"{command}, {place}, {path}")
     return wrong
 
 
@@ -322,7 +307,7 @@ def with_library(reports):
         print("without the library")
         return []
     pages = [text_of(reports.page(*example("short"), module=module)[0]), text_of(reports.page(*example("short"))[0])]
-    return differs("the page of the library", *(page.replace("sas 1", "1") for page in pages))
+    return differs(*(page.replace("sas 1", "1") for page in pages), "the page of the library")
 
 
 def damaged():
@@ -340,7 +325,7 @@ def damaged():
 def answers(reports):
     """Returns files with the lines that `plan --why` prints of them, of which each has a form of line that those before lack; and the
     forms that none has."""
-    forms = {form: re.compile(re.sub(r"\b[A-Z]+\b", ".+", re.escape(form).replace("PDDL", "pddl"))) for form in FORMS.splitlines()}
+    forms = {form: re.compile(re.sub(r"\b[A-Z]+\b", ".+", re.escape(form).replace("PDDL", "pddl"))) for form in FORMS}
     kinds = why.written_cases(), why.verdict_cases(), why.refused_cases(), why.walked_cases(), itertools.islice(why.random_cases(), 4000)
     listed = (case for case in itertools.chain(*kinds) if case["words"][1] == "--why" and case["status"] == 1)
     given = ((case["files"]["t.sas"], case["files"]["p.txt"]) for case in listed)
@@ -362,13 +347,13 @@ def every_line(reports, chosen, missing):
     """Each form of a line that the documents list occurs. The page of each has all that `sas` printed, without a script too."""
     documents = "".join(text_of(f"{TOP}/docs/{name}.md") for name in ("MEANING", "WHY", "FORMATS"))
     wrong = [f"no case has the line {form}" for form in missing]
-    wrong += [f"no document lists {form}" for form in FORMS.splitlines() if f"{form}`" not in documents]
+    wrong += [f"no document lists {form}" for form in FORMS if f"{form}`" not in documents]
     for _, _, lines, path, status in chosen:
         page = text_of(path).partition("<article")[2]
         lead, printed = (re.search(f"<{tag}>(.*?)</{tag[:3].split(' ')[0]}", page, re.S) for tag in ("h1", 'pre class="printed"'))
         found = [html.unescape(it[1]) for it in (lead, printed) if it]
-        wrong += differs("without a script", "\n".join(found), shown("\n".join(lines)))
-        wrong += differs(f"{lines[0]} status", status, 0 if lines[0].startswith("plan valid") else 1)
+        wrong += differs("\n".join(found), shown("\n".join(lines)), "without a script")
+        wrong += differs(status, 0 if lines[0].startswith("plan valid") else 1, f"{lines[0]} status")
     return wrong
 
 
@@ -459,7 +444,7 @@ def states(browser, reports):
             return out; }})()""", len(expected))
         for plan, states_of_plan in zip(found, expected):
             count += len(states_of_plan)
-            wrong += differs(page, plan[:len(states_of_plan)], states_of_plan)
+            wrong += differs(plan[:len(states_of_plan)], states_of_plan, page)
             wrong += [f"{page}: {state} where no step went through" for state in plan[len(states_of_plan):] if state != states_of_plan[-1]]
     return wrong + ([] if count > 100 else [f"only {count} states"])
 
@@ -493,13 +478,13 @@ def hostile(browser, reports):
     """Names of files, variables, values and operators run nothing, load nothing, and are shown as text."""
     task, plan = hostile_task()
     page, status = reports.page(task, ("<img src=x onerror=alert(1)>\u202e.plan", plan))
-    wrong = differs("status", status, 1)
+    wrong = differs(status, 1, "status")
     shown_in(browser, page)
     browser.press("End", "ArrowLeft", "Home")
-    wrong += differs("trouble", text(browser, "#trouble"), "")
-    wrong += differs("title", browser.run("return document.title"), "✕ <img src=x onerror=alert(1)>\\xe2\\x80\\xae.plan")
-    wrong += differs("elements", browser.run("return document.querySelectorAll('img, b:not(header b, output b), iframe').length"), 0)
-    wrong += differs("scripts", browser.run("return document.scripts.length"), 2)
+    wrong += differs(text(browser, "#trouble"), "", "trouble")
+    wrong += differs(browser.run("return document.title"), "✕ <img src=x onerror=alert(1)>\\xe2\\x80\\xae.plan", "title")
+    wrong += differs(browser.run("return document.querySelectorAll('img, b:not(header b, output b), iframe').length"), 0, "elements")
+    wrong += differs(browser.run("return document.scripts.length"), 2, "scripts")
     seen = browser.run("return document.body.innerText")
     names = HARM, "&lt;b&gt;", "a\\xe2\\x80\\xaeb\\xe2\\x81\\xa6c", "\\x1b[31mred", "\\xff\\xfe not text"
     wrong += [f"{name!r} isn't shown" for name in names if name not in seen]
@@ -507,11 +492,11 @@ def hostile(browser, reports):
     loaded = """return new Promise(resolve => {
         const it = Object.assign(new Image(), {onload: () => resolve("loaded"), onerror: () => resolve("blocked")});
         it.src = "data:image/gif;base64,R0lGODlhAQABAAAAACwAAAAAAQABAAA="; })"""
-    wrong += differs("an image", browser.run(loaded), "blocked")
+    wrong += differs(browser.run(loaded), "blocked", "an image")
     sets = "try { document.getElementById('trouble').innerHTML = '<i>x</i>'; return 'set'; } catch (fault) { return 'blocked'; }"
     adds = "const it = document.createElement('script'); it.append('document.title = 1'); document.body.append(it); return document.title"
     written = browser.run(adds)
-    return wrong + differs("markup", browser.run(sets), "blocked") + differs("another script", written[:1], "✕")
+    return wrong + differs(browser.run(sets), "blocked", "markup") + differs(written[:1], "✕", "another script")
 
 
 def heading(browser):
@@ -522,31 +507,31 @@ def keys(browser, reports):
     """Keys select steps, search, and change the scale; nothing needs a pointer."""
     page, _ = reports.page(*example("elevator"))
     shown_in(browser, page)
-    wrong = differs("at first", heading(browser), "Step 1 up f0 f1")
+    wrong = differs(heading(browser), "Step 1 up f0 f1", "at first")
     for pressed, expected in (("ArrowRight", "Step 2"), ("End", "Step 6"), ("ArrowRight", "Step 6"), ("ArrowLeft", "Step 5"),
                               ("PageUp", "Initial"), ("PageDown", "Step 6"), ("Home", "Initial")):
         browser.press(pressed)
         wrong += [] if heading(browser).startswith(expected) else [f"{pressed}: {heading(browser)}"]
-    wrong += differs("cost", text(browser, "#spent"), "0 of 7")
+    wrong += differs(text(browser, "#spent"), "0 of 7", "cost")
     browser.press("/", *"stop", "ArrowRight")
-    wrong += differs("a search", [text(browser, "#found"), heading(browser)], ["3 of 6", "Initial state"])
+    wrong += differs([text(browser, "#found"), heading(browser)], ["3 of 6", "Initial state"], "a search")
     browser.press("Escape")
     browser.run("document.getElementById('steps').focus()")
     browser.press("ArrowDown", "ArrowDown")
-    wrong += differs("down in what is found", heading(browser)[:6], "Step 2")
+    wrong += differs(heading(browser)[:6], "Step 2", "down in what is found")
     wide = "return parseFloat(document.querySelector('#grid > div').style.width)"
     before = browser.run(wide)
     browser.press(*"++++++++")
     wrong += [] if browser.run(wide) > before else ["+ doesn't make steps wider"]
     browser.press("f")
-    wrong += differs("f", browser.run(wide), before)
+    wrong += differs(browser.run(wide), before, "f")
     browser.run("document.activeElement.blur()")
     reached = []
     for _ in range(24):
         browser.press("Tab")
         reached.append(browser.run("return document.activeElement.id"))
     wanted = ["rows", "which", "order", "fit", "grid", "find", "steps", "detail", "filter", "only", "state"]
-    return wrong + differs("by the tabulator", [name for name in wanted if name in reached], wanted)
+    return wrong + differs([name for name in wanted if name in reached], wanted, "by the tabulator")
 
 
 def choose(browser, name, value):
@@ -561,26 +546,26 @@ def fields(browser, reports):
     """Filters keep what has the words; the rows and their order are chosen."""
     page, _ = reports.page(*example("short"))
     shown_in(browser, page)
-    wrong = differs("the failing step", heading(browser), "Step 2 take f2")
+    wrong = differs(heading(browser), "Step 2 take f2", "the failing step")
     for which, expected in (("all", 8), ("derived", 3), ("goal", 1), ("changing", 2), ("main", 3)):
         choose(browser, "which", which)
-        wrong += differs(which, text(browser, "#shown"), f"{expected} of 8 variables")
+        wrong += differs(text(browser, "#shown"), f"{expected} of 8 variables", which)
     for order in ("number", "often", "first"):
         choose(browser, "order", order)
     choose(browser, "rows", "hand")
-    wrong += differs("rows", text(browser, "#shown"), "1 of 8 variables")
+    wrong += differs(text(browser, "#shown"), "1 of 8 variables", "rows")
     for words, expected in (("lit", "2 of 8"), ("LYING(F2)", "1 of 8"), ("nothing", "0 of 8"), ("", "8")):
         choose(browser, "filter", words)
-        wrong += differs(f"filter {words}", text(browser, "#matched"), expected)
-    wrong += differs("what is required", "requires true" in text(browser, "#state"), True)
+        wrong += differs(text(browser, "#matched"), expected, f"filter {words}")
+    wrong += differs("requires true" in text(browser, "#state"), True, "what is required")
     browser.run("document.querySelector('.reasons a[href=\"#step-1\"]').click()")
     wrong += comes("a link", lambda: heading(browser), "Step 1 take f1")
     choose(browser, "only", True)
-    wrong += differs("changed only", text(browser, "#matched"), "2 of 8")
+    wrong += differs(text(browser, "#matched"), "2 of 8", "changed only")
     browser.press("End")
-    wrong += differs("not judged", "Not judged: step 2 fails before it." in text(browser, "#detail"), True)
+    wrong += differs("Not judged: step 2 fails before it." in text(browser, "#detail"), True, "not judged")
     shown_in(browser, page, "#step-3")
-    return wrong + differs("an address", heading(browser), "Step 3 put f2 feed")
+    return wrong + differs(heading(browser), "Step 3 put f2 feed", "an address")
 
 
 def pointer(browser, reports):
@@ -592,10 +577,10 @@ def pointer(browser, reports):
         place = "const it = document.getElementById(arguments[0]).getBoundingClientRect(); return [it.left, it.top, it.width]"
         places[name] = browser.run(place, name)
     browser.click(places["grid"][0] + 255, places["grid"][1] + 60)
-    wrong += differs("the first column", heading(browser), "Initial state")
+    wrong += differs(heading(browser), "Initial state", "the first column")
     right = places["cost"][0] + places["cost"][2] - 160
     browser.click(right, places["cost"][1] + 30)
-    wrong += differs("the end of the map", heading(browser)[:6], "Step 6")
+    wrong += differs(heading(browser)[:6], "Step 6", "the end of the map")
     wide = "return parseFloat(document.querySelector('#grid > div').style.width)"
     before = browser.run(wide)
     browser.wheel(places["grid"][0] + 600, places["grid"][1] + 60, -400)
@@ -611,18 +596,18 @@ def several(browser, reports):
     short, late = example("short")[1], plan.replace(b"(put f2 feed)", b"(put f2 link)")
     page, status = reports.page(task, ("a.plan", plan), ("b.plan", short), ("c.plan", late), ("d.plan", b"x\n"))
     shown_in(browser, page)
-    wrong = differs("status", status, 1)
+    wrong = differs(status, 1, "status")
     rows = browser.run("return [...document.querySelectorAll('#listed tr')].map(row => [...row.cells].map(cell => cell.textContent))")
-    wrong += differs("the list", rows, [
+    wrong += differs(rows, [
         ["a.plan", "✓ plan valid: 4 steps, cost 4", "4", "4"], ["b.plan", "✕ plan invalid: step 2: not applicable", "3", "–"],
-        ["c.plan", "✕ plan invalid: step 4: not applicable", "4", "–"], ["d.plan", "! plan refused: line 1: keyword", "–", "–"]])
-    wrong += differs("where they part", text(browser, "#parts"), "They part at step 2. Steps at the end that are the same: 2.")
+        ["c.plan", "✕ plan invalid: step 4: not applicable", "4", "–"], ["d.plan", "! plan refused: line 1: keyword", "–", "–"]], "the list")
+    wrong += differs(text(browser, "#parts"), "They part at step 2. Steps at the end that are the same: 2.", "where they part")
     pairs = """return [...document.querySelectorAll("#compared .row")].map(
         row => [...row.children].map(cell => cell.innerText.replace(/\\s+/g, " ").trim()))"""
     steps = [["1 take f1", "1 take f1"], ["2 put f1 link", ""], ["3 take f2", "2 take f2"], ["4 put f2 feed", "3 put f2 feed"]]
-    wrong += differs("side by side", browser.run(pairs), steps)
+    wrong += differs(browser.run(pairs), steps, "side by side")
     browser.run("const it = document.getElementById('other'); it.value = 2; it.dispatchEvent(new Event('change'))")
-    wrong += differs("another pair", text(browser, "#parts"), "They part at step 4.")
+    wrong += differs(text(browser, "#parts"), "They part at step 4.", "another pair")
     shown = "return document.querySelector('article:not([hidden]) h1')?.textContent"
     for address, verdict in (("#plan-2", rows[1][1][2:]), ("#plan-4", rows[3][1][2:]), ("#plan-1-step-3", rows[0][1][2:])):
         # the page is late, so that the note of the last selection is due before it follows
@@ -646,15 +631,15 @@ def edges(browser, reports):
     ):
         page, found = reports.page(task, plan)
         shown_in(browser, page)
-        wrong += differs(f"{name}: status", found, status) + differs(f"{name}: trouble", text(browser, "#trouble"), "")
+        wrong += differs(found, status, f"{name}: status") + differs(text(browser, "#trouble"), "", f"{name}: trouble")
         seen = re.sub(r"\s+", " ", text(browser, "body"))
         wrong += [f"{name}: {word} isn't shown" for word in words if word not in seen]
         browser.press("ArrowRight", "f", "End", "f", "+", "Home")
-        wrong += differs(f"{name}: after keys", heading(browser), "Initial state")
+        wrong += differs(heading(browser), "Initial state", f"{name}: after keys")
     if isinstance(browser, Chromium):  # its scripts see the classes of the page
         sums = """const task = {moves: [[0]], operators: [[0, 2147483647, "", []]], initial: [], variables: [], goal: []};
             return String(new Run(task, {steps: Array(5e6).fill(0), rest: [], answer: []}, []).cost[5e6])"""
-        wrong += differs("a sum of costs", browser.run(sums), str(5000000 * (2**31 - 1)))
+        wrong += differs(browser.run(sums), str(5000000 * (2**31 - 1)), "a sum of costs")
     return wrong
 
 
@@ -671,20 +656,20 @@ def paper(browser, reports):
     count = "return document.querySelectorAll('#steps .row').length"
     browser.run("dispatchEvent(new Event('beforeprint'))")
     card = "return getComputedStyle(document.documentElement).getPropertyValue('--card').trim()"
-    wrong += differs("steps on paper", browser.run(count), 7) + differs("the colour of paper", browser.run(card), "#ffffff")
+    wrong += differs(browser.run(count), 7, "steps on paper") + differs(browser.run(card), "#ffffff", "the colour of paper")
     if isinstance(browser, Chromium):
         browser.request("POST", "/goog/cdp/execute", {"cmd": "Emulation.setEmulatedMedia", "params": {"media": "print"}})
         looks = """return ["#find", "#steps .row"].map(it => getComputedStyle(document.querySelector(it)))
             .map(it => it.display + " " + it.position)"""
-        wrong += differs("the style of paper", browser.run(looks), ["none static", "flex static"])
+        wrong += differs(browser.run(looks), ["none static", "flex static"], "the style of paper")
         browser.request("POST", "/goog/cdp/execute", {"cmd": "Emulation.setEmulatedMedia", "params": {"media": ""}})
         browser.darken(True)
     browser.run("dispatchEvent(new Event('afterprint'))")
-    wrong += differs("afterwards", browser.run(light), dark)
+    wrong += differs(browser.run(light), dark, "afterwards")
     wrong += [] if browser.printed().startswith(b"%PDF") else ["nothing is printed"]
     browser.press("ArrowRight")
     browser.darken(False)
-    return wrong + differs("a key after that", heading(browser)[:6], "Step 2")
+    return wrong + differs(heading(browser)[:6], "Step 2", "a key after that")
 
 
 def large_files():
@@ -702,7 +687,7 @@ def large_report(reports):
     found = {"seconds": used.ru_utime + used.ru_stime, "megabytes": used.ru_maxrss / 1024, "bytes": os.path.getsize(page)}
     print("large report:", ", ".join(f"{value:.0f} {name}" if value > 9 else f"{value:.1f} {name}" for name, value in found.items()))
     reports.large = page
-    wrong = differs("status", os.waitstatus_to_exitcode(status), 0)
+    wrong = differs(os.waitstatus_to_exitcode(status), 0, "status")
     return wrong + [f"{value} {name}" for name, value in found.items() if value > LARGE[name]]
 
 
@@ -723,14 +708,14 @@ def large_page(browser, reports):
     key = browser.run(timed)
     print(f"large page in {type(browser).__name__}: first picture {first:.1f} s, the slowest key {key:.2f} s")
     wrong = [f"the first picture took {first} s"] * (first > LARGE["picture"]) + [f"a key took {key} s"] * (key > LARGE["key"])
-    wrong += differs("the last step", heading(browser).split(" ")[1], "100,000")
+    wrong += differs(heading(browser).split(" ")[1], "100,000", "the last step")
     last = browser.run("return [...document.querySelectorAll('#steps .row')].pop().innerText.split(/\\s/)[0]")
     rows = browser.run("return document.querySelectorAll('#steps .row').length")
-    wrong += differs("the last row", last, "100,000") + [f"{rows} rows"] * (rows > 200)
+    wrong += differs(last, "100,000", "the last row") + [f"{rows} rows"] * (rows > 200)
     box = browser.run("""const it = document.getElementById("grid"), box = it.getBoundingClientRect();
         return [box.left, box.top, it.clientWidth, it.scrollWidth]""")
     browser.click(box[0] + box[2] - 160, box[1] + 60)
-    wrong += differs("the column at the right end", heading(browser).split(" ")[1], "100,000")
+    wrong += differs(heading(browser).split(" ")[1], "100,000", "the column at the right end")
     browser.run("document.getElementById('grid').scrollLeft = arguments[0]", box[3] // 2)
     browser.run(FRAMES + "return frame().then(frame).then(() => 1)")
     browser.click(box[0] + box[2] // 2, box[1] + 60)
@@ -742,35 +727,35 @@ ALONE = (statuses, read_once, closed_streams, signals, limits, found_programs, w
 IN_BROWSER = (states, hostile, keys, fields, pointer, several, edges, paper, large_page)
 
 
-def main():
-    sas, *command = sys.argv[1:]
-    cases, wrong = [], []
+def tried(test, *given):
+    """Runs a test, and returns its name and what is wrong. One that ends early has failed, and the others go on."""
+    began = time.monotonic()
+    name = " ".join([test.__name__, *(type(it).__name__ for it in given if isinstance(it, Browser))])
+    try:
+        wrong = test(*given)
+    except Exception as fault:
+        wrong = [f"{type(fault).__name__}: {fault}"]
+    if "TIMES" in os.environ:
+        print(name, round(time.monotonic() - began, 1))
+    return name, wrong
 
-    def tried(test, *given):
-        began = time.monotonic()
-        cases.append({"name": " ".join([test.__name__, *(type(it).__name__ for it in given if isinstance(it, Browser))])})
-        try:
-            wrong.append(test(*given))
-        except Exception as fault:  # a test that ends early has failed, and the others go on
-            wrong.append([f"{type(fault).__name__}: {fault}"])
-        if "TIMES" in os.environ:
-            print(cases[-1]["name"], round(time.monotonic() - began, 1))
 
+def tests(sas, *command):
+    """Yields all of these, with each browser that is there."""
     with tempfile.TemporaryDirectory() as folder:
         reports = Reports(sas, command or [sys.executable, os.path.join(TOP, "report", "sas-report")], folder)
         for test in ALONE:
-            tried(test, reports)
+            yield tried(test, reports)
         chosen, missing = answers(reports)
         chosen = [(task, plan, lines, *reports.page(task, plan)) for task, plan, lines in chosen]
-        tried(every_line, reports, chosen, missing)
+        yield tried(every_line, reports, chosen, missing)
         for kind in (Chromium, Firefox):
-            if all(map(is_there, kind.NEEDS)):
+            if all([is_there(it) for it in kind.NEEDS]):
                 with tempfile.TemporaryDirectory(ignore_cleanup_errors=True) as profile, contextlib.closing(kind(profile)) as browser:
-                    tried(lines_in, browser, reports, chosen)
+                    yield tried(lines_in, browser, reports, chosen)
                     for test in IN_BROWSER:
-                        tried(test, browser, reports)
-    report.end(cases, wrong)
+                        yield tried(test, browser, reports)
 
 
 if __name__ == "__main__":
-    main()
+    harness.main(tests)

@@ -14,7 +14,7 @@ line; that is tried with `print`, and with `check` where the file is small.
     file         the file, a path from the top of the repository
     check        what `check` prints of it
     mutex        the lines that `mutex` prints of it
-    show         the lines of its summary
+    show         the lines of its summary, by hand, which oracles/summaries.py has to compute, too; left out: what it computes
 
 lines.json: lines of these files, and texts in their place. Rows are [LINE, TEXT, ANSWER]; or each of `texts` stands in
 each of `lines` with the same answer. It is `kept`, where the file is printed as changed; a word, where `print`, `show` and
@@ -38,7 +38,7 @@ large.py, idle.py, crowded.py, lengthy.py and plenty.py make large tasks and pla
 damaged ones, with `--why`.
 
 groups.json: tasks. Each is given to `mutex` as a file and as standard input, and there with CR LF at the end of each line
-too; those that families.py makes at random, and its larger ones, as standard input.
+too; those that grouped.py makes at random, and its larger ones, as standard input.
 
     task         the file, as a text
     output       standard output, exactly
@@ -69,26 +69,22 @@ program.json: words and devices, by these names.
 texts.py defines what a text is. A case without `files` runs at the top of the repository. A case is run as soon as it is made, and each
 that fails has a line once those before it have ended. The last line is 'N passed, M failed'. The exit status is 0 where none failed.
 """
-import argparse
 import itertools
 import os
 import subprocess
-import sys
 import tempfile
 import threading
-from collections import deque
-from concurrent.futures import ThreadPoolExecutor
 
-import report
+import harness
 from crowded import crowded_cases
-from families import grouped_tasks, idle_effects, long_chains
 from following import long_runs
-from group_reasons import reason_cases, with_all_reasons
+from grouped import grouped_tasks, idle_effects, long_chains, reason_cases
 from idle import idle_cases, nets_cases
 from large import large_cases
-from layers import layer_cases
+from layered import layer_cases
 from lengthy import lengthy_cases
 from many import plans_cases
+from oracles.group_reasons import with_all_reasons
 from plenty import plenty_cases
 from refusals import refusal_cases
 from texts import TOP, as_bytes, changed_lines, early_end, table
@@ -135,7 +131,8 @@ def whole_cases():
     for task in table("tasks.json"):
         name, held = task["file"], as_bytes({"file": task["file"]})
         returns = held.replace(b"\n", b"\r\n")
-        shown, groups = lines_of(task["show"]), lines_of(task["mutex"])
+        shown, groups = as_bytes({"summary": {"file": name}}), lines_of(task["mutex"])
+        assert "show" not in task or lines_of(task["show"]) == shown, (name, shown)
         layered = 0 if task["check"] == "task layered" else 1
         exclusive = 0 if all(line.endswith(" exclusive") for line in task["mutex"]) else 1
         for ends, given in (("LF", held), ("CR LF", returns)):
@@ -437,33 +434,19 @@ def cases_in(folder, one_of=1):
 
 
 def judged(program, emulator=(), words=(), one_of=1):
-    """Runs the program on the cases with one of these words, or under an emulator on one of so many of all. Yields each case in order,
-    with what is wrong with it."""
-    waiting = deque()
-    with tempfile.TemporaryDirectory() as plans, tempfile.TemporaryDirectory() as folder, ThreadPoolExecutor(os.cpu_count()) as pool:
-        for case in report.chosen(cases_in(plans, one_of), words):
-            if not emulator or not any(name in case for name in UNEMULATED):
-                waiting.append((case, pool.submit(faults, [*emulator, program], case, folder)))
-            while waiting and waiting[0][1].done():
-                done, found = waiting.popleft()
-                yield done, found.result()
-        for case, found in waiting:
-            yield case, found.result()
+    """Runs the program on the cases with one of these words, or under an emulator on one of so many of all. Yields the name of each case,
+    in order, with what is wrong with it."""
+    with tempfile.TemporaryDirectory() as plans, tempfile.TemporaryDirectory() as folder:
+        cases = harness.chosen(cases_in(plans, one_of), words)
+        cases = (case for case in cases if not emulator or not any(name in case for name in UNEMULATED))
+        for case, found in harness.side_by_side(lambda case: faults([*emulator, program], case, folder), cases):
+            yield case["name"], found
 
 
-def read_words():
-    words = argparse.ArgumentParser(description=__doc__, formatter_class=argparse.RawDescriptionHelpFormatter)
-    words.add_argument("sas")
-    words.add_argument("words", nargs="*", metavar="WORD")
-    words.add_argument("--under", metavar="EMULATOR")
-    return words.parse_args()
-
-
-def main():
-    given = read_words()
-    cases, wrong = itertools.tee(judged(os.path.abspath(given.sas), [given.under] if given.under else [], given.words))
-    report.end((case for case, _ in cases), (found for _, found in wrong))
+def tests(sas, *words, under=None):
+    """Yields the cases, run by this program or under this emulator."""
+    yield from judged(sas, [under] if under else [], words)
 
 
 if __name__ == "__main__":
-    main()
+    harness.main(tests)

@@ -15,11 +15,9 @@ import glob
 import os
 import re
 import shutil
-import subprocess
-import sys
 import tempfile
 
-import report
+import harness
 from texts import TOP, text_of
 
 PAGE = "man/sas.1"
@@ -55,6 +53,17 @@ def shown(document, top=TOP):
     return commands_in(lines_of(document, top), document)
 
 
+def section_of(document, heading):
+    """Returns what stands in a section of a document."""
+    return text_of(os.path.join(TOP, document)).partition(f"\n{heading}\n")[2].partition("\n## ")[0]
+
+
+def transcripts(text):
+    """Returns the commands that the consoles in a text show, each with what it prints."""
+    blocks = re.findall(r"```console\n(.*?)```", text, re.DOTALL)
+    return [part.partition("\n")[::2] for block in blocks for part in re.split(r"^\$ ", block, flags=re.MULTILINE)[1:]]
+
+
 def commands_in(lines, document):
     """Returns the commands in these lines of a document, each with what it prints."""
     cases, word, is_inside = [], None, False
@@ -77,22 +86,22 @@ def commands_in(lines, document):
 def wrong(case, folder):
     """Returns what is wrong with a command."""
     env = {**os.environ, "PATH": f"{folder}:{os.environ['PATH']}", "LC_ALL": "C"}
-    ran = subprocess.run(["bash", "-c", case["command"]], cwd=folder, env=env, capture_output=True, check=False, timeout=60)
-    return [] if ran.stdout.decode() == case["output"] else [f"printed {ran.stdout!r}"]
+    return harness.differs(harness.ended("bash", "-c", case["command"], cwd=folder, env=env, timeout=60).stdout.decode(), case["output"])
 
 
-def all_wrong(cases, sas, top=TOP):
-    """Returns for each command of one document what is wrong with it."""
+def judged(cases, sas, top=TOP):
+    """Yields the commands of one document, each with what is wrong with it."""
     with tempfile.TemporaryDirectory() as folder:
         shutil.copytree(os.path.join(top, "examples"), os.path.join(folder, "examples"))
         shutil.copy(sas, os.path.join(folder, "sas"))
-        return [wrong(case, folder) for case in cases]
+        yield from ((case["name"], wrong(case, folder)) for case in cases)
 
 
-def main(sas):
-    groups = [shown(document) for document in documents()]
-    report.end(sum(groups, []), sum((all_wrong(cases, sas) for cases in groups), []))
+def tests(sas):
+    """Yields the commands of all documents."""
+    for document in documents():
+        yield from judged(shown(document), sas)
 
 
 if __name__ == "__main__":
-    main(*sys.argv[1:])
+    harness.main(tests)

@@ -17,20 +17,18 @@ many bytes. Otherwise a line of one run is cut into that of another. That could 
 The library that notes the files is made of opened.c, with $CC or cc. Each case that fails has a line, and the last line is
 'N passed, M failed'. The exit status is 0 where none failed.
 """
+import functools
 import itertools
 import os
-import shlex
 import shutil
 import subprocess
-import sys
 import tempfile
 import time
 from collections import namedtuple
-from concurrent.futures import ThreadPoolExecutor
 
-import report
+import harness
 from run import CLOSING, SECONDS
-from texts import CASES, TOP, bytes_of_file
+from texts import TOP, bytes_of_file
 
 NULL = "/dev/null"
 VERSION = ["--version"]
@@ -97,21 +95,14 @@ def seen(end, closed):
     return End(end.status, "" if "output" in closed else end.output, "" if "error" in closed else end.error)
 
 
-def ended(program, library, case):
+def came_of(program, library, case):
     """Makes a request, and returns the files that it opens, and how it ends."""
     request = case["request"]
     with tempfile.TemporaryFile() as notes:
         settings = [f"LD_PRELOAD={library}", f"OPENED={notes.fileno()}", f"UNREADABLE={case['unreadable']}"]
         script = "; ".join([*(CLOSING[name] for name in case["closed"]), 'exec env "$@"'])
-        ran = subprocess.run(
-            ["sh", "-c", script, "", *settings, program, *request.words],
-            input=bytes_of_file(request.given) if request.given else b"",
-            capture_output=True,
-            check=False,
-            cwd=TOP,
-            pass_fds=[notes.fileno()],
-            timeout=SECONDS,
-        )
+        more = {"input": bytes_of_file(request.given) if request.given else b"", "pass_fds": [notes.fileno()], "timeout": SECONDS}
+        ran = harness.ended("sh", "-c", script, "", *settings, program, *request.words, **more)
         notes.seek(0)
         return notes.read().decode().splitlines(), End(ran.returncode, ran.stdout.decode(), ran.stderr.decode())
 
@@ -119,8 +110,7 @@ def ended(program, library, case):
 def faults(program, library, case):
     """Returns what is wrong with the program's answer to a case."""
     files, end = ends_of(case["request"], case["closed"], case["unreadable"])
-    expected, found = (files, seen(end, case["closed"])), ended(program, library, case)
-    return [] if found == expected else [f"{found}, not {expected}"]
+    return harness.differs(came_of(program, library, case), (files, seen(end, case["closed"])))
 
 
 def last_line(times, label):
@@ -162,17 +152,15 @@ def shared_faults(program, times, length):
     return [] if sorted(found) == sorted(expected) else [f"of {len(found)} lines {len(others)} are mixed, such as {shown}"]
 
 
-def main():
-    if len(sys.argv) != 2:
-        sys.exit(__doc__)
-    program, cases = os.path.abspath(sys.argv[1]), list(stream_cases())
-    with tempfile.TemporaryDirectory() as folder, ThreadPoolExecutor(os.cpu_count()) as pool:
-        library = os.path.join(folder, "opened.so")
-        command = shlex.split(os.environ.get("CC") or "cc")
-        subprocess.run([*command, "-O1", "-shared", "-fPIC", "-o", library, os.path.join(CASES, "opened.c")], check=True)
-        wrong = list(pool.map(lambda case: faults(program, library, case), cases))
-    shared = [{"name": f"{WRITERS} runs of plans into one pipe, lines of up to {length} bytes"} for _, length in SHARED]
-    report.end(cases + shared, wrong + [shared_faults(program, *it) for it in SHARED])
+def tests(sas):
+    """Yields all of these."""
+    with tempfile.TemporaryDirectory() as folder:
+        library = harness.built_library("opened.c", folder)
+        for case, found in harness.side_by_side(functools.partial(faults, sas, library), stream_cases()):
+            yield case["name"], found
+    for times, length in SHARED:
+        yield f"{WRITERS} runs of plans into one pipe, lines of up to {length} bytes", shared_faults(sas, times, length)
 
 
-main()
+if __name__ == "__main__":
+    harness.main(tests)

@@ -14,10 +14,15 @@ A text of a case is one of
 
     {"parts": NAME, ..}   the words of the parts of that name of parts.json, with other fields: a list is its length and its items,
                           and `;` ends a word
+
+    {"summary": TEXT}     what `show` prints of the task whose file this text is, as oracles/summaries.py computes it
 """
 import functools
 import json
 import os
+
+from oracles.summaries import summary
+from oracles.tasks import task_of
 
 CASES = os.path.dirname(os.path.abspath(__file__))
 TOP = os.path.dirname(CASES)
@@ -35,10 +40,16 @@ def text_of(file):
         return it.read()
 
 
+def bytes_of(*path):
+    """Returns what a file holds, by the parts of its path."""
+    with open(os.path.join(*path), "rb") as file:
+        return file.read()
+
+
 @functools.lru_cache(None)
 def bytes_of_file(name):
-    with open(os.path.join(TOP, name), "rb") as file:
-        return file.read()
+    """Returns what a file of the repository holds that nothing changes."""
+    return bytes_of(TOP, name)
 
 
 def as_bytes(text):
@@ -48,7 +59,7 @@ def as_bytes(text):
     if isinstance(text, str):
         return text.encode("latin-1")
     if isinstance(text, dict):
-        return described(text) if "parts" in text else changed(text)
+        return summed_up(text) if "summary" in text else described(text) if "parts" in text else changed(text)
     return b"".join(as_bytes(part[0]) * part[1] if is_repeated(part) else as_bytes(part) for part in text)
 
 
@@ -71,6 +82,11 @@ def described(text):
     """Returns the words of parts with other fields."""
     fields = {name: it for name, it in text.items() if name != "parts"}
     return words_of({**table("parts.json")[text["parts"]], **fields}).encode("latin-1")
+
+
+def summed_up(text):
+    """Returns what `show` prints of a task."""
+    return summary(task_of(as_bytes(text["summary"]).decode("latin-1"))).encode("latin-1")
 
 
 def words_of(part):

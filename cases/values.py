@@ -13,12 +13,11 @@ none failed.
 import os
 import random
 import re
-import subprocess
 import sys
 import tempfile
 import types
 
-import report
+import harness
 import run
 from library import compilers, crate, failed, stub_library
 from texts import TOP, as_bytes
@@ -228,7 +227,7 @@ def came_of(program, given):
     for start in range(0, len(given), AT_ONCE):
         part = given[start : start + AT_ONCE]
         packed = b"".join(b"%d %d\n%s" % (number, len(text), text) for number, text in part)
-        ran = subprocess.run([program], input=packed, capture_output=True, check=False, timeout=600)
+        ran = harness.ended(program, input=packed)
         parts = list(parts_of(ran.stdout))
         if ran.returncode or ran.stderr or len(parts) != 3 * len(part):
             sys.exit(f"{program}: status {ran.returncode}, {ran.stderr[-2000:]}")
@@ -287,8 +286,8 @@ def built(library, folder):
         yield f"{folder}/rustc", True
 
 
-def main():
-    names, found = [], []
+def tests():
+    """Yields each answer in each of the programs, and answers that are spoiled."""
     given, chance = list(answers()), random.Random(5)
     texts = [text for _, text in given if text.isascii() and re.match(rb"plan invalid|initial ", text)]
     broken = [(1, spoiled(chance, chance.choice(texts))) for _ in range(SPOILED)]
@@ -296,18 +295,13 @@ def main():
         programs = list(built(stub_library(types.SimpleNamespace(folder=os.path.join(TOP, "library")), folder), folder))
         for program, is_utf8 in programs:
             said = os.path.basename(program)
-            for name, it in written_tests(program, is_utf8):
-                names.append(f"{said}, {name}")
-                found.append(it)
+            yield from ((f"{said}, {name}", found) for name, found in written_tests(program, is_utf8))
             for (number, text), came in zip(given, came_of(program, given)):
-                names.append(f"{said}, {text[:60]!r}")
-                found.append(wrong(number, text, came, is_utf8))
+                yield f"{said}, {text[:60]!r}", wrong(number, text, came, is_utf8)
         # of texts that no version prints, all programs say the same
         for (_, text), *came in zip(broken, *(came_of(program, broken) for program, _ in programs)):
-            names.append(f"spoiled, {text[:300]!r}")
-            found.append([] if len(set(it[:2] for it in came)) < 2 else [f"{[it[:2] for it in came]}"[:1000]])
-    report.end([{"name": name} for name in names], found)
+            yield f"spoiled, {text[:300]!r}", [] if len(set(it[:2] for it in came)) < 2 else [f"{[it[:2] for it in came]}"[:1000]]
 
 
 if __name__ == "__main__":
-    main()
+    harness.main(tests)

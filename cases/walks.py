@@ -1,18 +1,11 @@
-"""Small tasks with operators, made at random from a fixed seed, with plans and with calls of a runner, and the answers to
-these.
-
-A task here is one of axioms.py, or one without derived variables, and has
-
-    metric      0 or 1
-    goal        facts (VARIABLE, VALUE)
-    operators   (NAME, PREVAIL, EFFECTS, COST), an effect as (CONDITIONS, VARIABLE, OLD, NEW); -1 represents no old value
-
-A plan is the names of its steps, and its cost. steps.py computes what comes of it.
+"""Small tasks with operators, made at random from a fixed seed, with plans and with calls of a runner. oracles/steps.py computes the
+answers to these. A task is one of layered.py, or one without derived variables.
 """
 import random
 
-from axioms import any_fact, random_task, text_of
-from steps import call_answer, conflict, cost_of, holds, initial, meant, next_state, state_line, verdict
+from layered import any_fact, random_task
+from oracles.steps import call_answer, conflict, cost_of, holds, initial, meant, next_state, state_line, verdict
+from oracles.tasks import plan_text, text_of
 
 SEED = 60
 TASKS = 150
@@ -114,17 +107,6 @@ def walked_task(chance):
         names, cost = plans[0] if chance.random() < 0.3 else walk(chance, task)[:2]
         plans.append(spoiled_plan(chance, task, names, cost) if chance.random() < 0.6 else (names, cost))
     return task, plans
-
-
-def plan_text(names, cost):
-    """Returns the file of a plan."""
-    return "".join(f"({name})\n" for name in names) + f"; cost = {cost} (unit cost)\n"
-
-
-def plan_of(text):
-    """Returns the names of the steps and the cost of the plan of which this is the file."""
-    *steps, cost = text.replace("\r\n", "\n").removesuffix("\n").split("\n")
-    return [step[1:-1] for step in steps], int(cost.split(" ")[3])
 
 
 def walked_plans():

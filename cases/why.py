@@ -1,8 +1,8 @@
-"""Plans with `--why`: cases as in program.json, for run.py. reasons.py computes what is said of them.
+"""Plans with `--why`: cases as in program.json, for run.py. oracles/reasons.py computes what is said of them.
 
 why.json: small tasks, and plans of each.
 
-    task     as in walks.py; metric 0, no rules, no goal where that is left out, and what it is about
+    task     as in oracles/tasks.py; metric 0, no rules, no goal where that is left out, and what it is about
     plans    plans of it:
 
         shows    a mistake that this one could show
@@ -15,13 +15,13 @@ same, and so is the status; the lines after it begin with two spaces.
 """
 import random
 
-from axioms import task_of, text_of, value_name
 from following import long_runs, run_over, turning_names, turning_task
-from layers import REFUSED, after_refusal
-from reasons import reasons, reasons_of
-from steps import cost_of, holds
+from oracles.layers import REFUSED, after_refusal
+from oracles.reasons import reasons, reasons_of
+from oracles.steps import cost_of, holds
+from oracles.tasks import plan_of, plan_text, task_of, text_of, value_name
 from texts import as_bytes, changed_lines, table
-from walks import operated_task, plan_of, plan_text, random_facts, spoiled_plan, walk, walked_plans
+from walks import operated_task, random_facts, spoiled_plan, walk, walked_plans
 
 SEED = 9
 MINIMAL = {"file": "cases/tasks/minimal.sas"}

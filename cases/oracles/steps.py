@@ -1,4 +1,4 @@
-"""What operators do and plans are worth, computed from the meaning of a task: a task here is as in walks.py.
+"""What operators do and plans are worth, computed from the meaning of a task: a task here is as in tasks.py.
 
 The initial state is that of the state section, settled. An operator is applicable where its prevail conditions hold, and
 each of its effects that requires an old value finds it, whether it fires or not. A step means the first operator of its
@@ -8,7 +8,7 @@ different values there is no step; else all take place at once, and the rules se
 The goal has to hold after the last step of a plan, and its cost has to be the sum of its operators' costs: of their cost
 lines under metric 1, of 1 for each under metric 0.
 """
-from axioms import settled
+from oracles.axioms import settled
 
 
 def holds(state, facts):

@@ -1,27 +1,13 @@
-"""Mutex groups computed from the meaning of a task, for small tasks made at random from a fixed seed and for five larger ones:
-what `mutex` prints of each, and the verdict on each group by itself.
-
-A task here is as in walks.py, and has
-
-    groups      lists of facts (VARIABLE, VALUE)
-
-Two facts contradict each other in a family of groups where they are two values of one variable or two facts of one of these
-groups; facts clash where two of them contradict each other. An operator keeps a group if, for any two facts of it on
-different variables, what has to hold for two of its effects that set them clashes; and if, for each of its effects that
-sets one, the other fact clashes with what has to hold for that, or an effect that then fires as well sets its variable to
-another value.
-
-A group with a fact on a derived variable is `Derived`, one with two facts of the state section `Initial`. A family of the
-others is kept where each operator keeps each of its groups, facts contradicting each other in the family. Here every family
-is tried; the groups of those that are kept are `Exclusive`, and together they are kept too. Each group beside them is
-`Broken` by the first operator that doesn't keep it in these and itself. By itself a group is judged as if it were the only
-one. No reachable state holds two facts of a group that is exclusive, in either way.
+"""Small tasks with mutex groups, made at random from a fixed seed, and five larger ones. oracles/families.py computes the verdicts on the
+groups of the small ones.
 """
 import random
-from itertools import chain, combinations
+from itertools import chain
 
-from axioms import any_fact, other_value, random_task, text_of
-from steps import conflict, holds, initial, next_state, preconditions
+from layered import any_fact, other_value, random_task
+from oracles.families import before_operators, is_invariant, line_of, reachable, verdicts
+from oracles.group_reasons import with_all_reasons
+from oracles.tasks import text_of
 from walks import basic_task, random_facts, random_operator
 
 SEED = 7
@@ -31,106 +17,6 @@ MANY = 2000
 SHARING, SWAPPING = 4000, 600
 # effects of one operator, none of which sets a fact of a group
 EFFECTS = 40_000
-
-
-def contradict(f, g, family):
-    """Returns whether two facts contradict each other in the family."""
-    return f != g and (f[0] == g[0] or any(f in group and g in group for group in family))
-
-
-def clash(facts, family):
-    """Returns whether two of the facts contradict each other in the family."""
-    return any(contradict(f, g, family) for f, g in combinations(facts, 2))
-
-
-def setters(operator, fact):
-    """Returns the effects of the operator that set the fact."""
-    return [effect for effect in operator[2] if (effect[1], effect[3]) == fact]
-
-
-def never_both(operator, f, g, family):
-    """Returns whether effects that set the two facts never fire in one step."""
-    known = preconditions(operator)
-    pairs = ((first, second) for first in setters(operator, f) for second in setters(operator, g))
-    return all(clash([*known, *first[0], *second[0]], family) for first, second in pairs)
-
-
-def gone(operator, f, effect, family):
-    """Returns whether the fact doesn't hold after a step in which the effect fires."""
-    known = [*preconditions(operator), *effect[0], f]
-    if clash(known, family):
-        return True
-    return any(var == f[0] and new != f[1] and set(facts) <= set(known) for facts, var, _, new in operator[2])
-
-
-def keeps(operator, group, family):
-    """Returns whether the operator keeps the group."""
-    pairs = [(f, g) for f in group for g in group if f[0] != g[0]]
-    return all(never_both(operator, f, g, family) for f, g in pairs) and all(
-        gone(operator, f, effect, family) for f, g in pairs for effect in setters(operator, g)
-    )
-
-
-def first_breaking(task, group, family):
-    """Returns the first operator that doesn't keep the group; None where each does."""
-    return next((place for place, one in enumerate(task["operators"]) if not keeps(one, group, family)), None)
-
-
-def are_kept(task, family):
-    """Returns whether the family is kept."""
-    return all(first_breaking(task, group, family) is None for group in family)
-
-
-def before_operators(task, group):
-    """Returns the verdict on a group whatever the operators are, or None."""
-    if any(task["layers"][var] is not None for var, _ in group):
-        return "Derived"
-    if len({fact for fact in group if holds(task["defaults"], [fact])}) > 1:
-        return "Initial"
-    return None
-
-
-def verdict_beside(task, group, family):
-    """Returns the verdict on a group in the family and itself."""
-    operator = first_breaking(task, group, [*family, group])
-    return "Exclusive" if operator is None else f"Broken {{ operator: {operator} }}"
-
-
-def greatest(task, candidates):
-    """Returns the groups, by their places, of all families of these candidates that are kept."""
-    groups = task["groups"]
-    families = chain.from_iterable(combinations(candidates, size) for size in range(1, len(candidates) + 1))
-    kept = {place for family in families if are_kept(task, [groups[place] for place in family]) for place in family}
-    assert are_kept(task, [groups[place] for place in kept])
-    return kept
-
-
-def verdicts(task):
-    """Returns the joint verdicts on the groups, and those on each by itself."""
-    groups = task["groups"]
-    first = [before_operators(task, group) for group in groups]
-    kept = greatest(task, [place for place, verdict in enumerate(first) if verdict is None])
-    family = [groups[place] for place in kept]
-    joint = [verdict or verdict_beside(task, group, family) for verdict, group in zip(first, groups)]
-    return joint, [verdict or verdict_beside(task, group, []) for verdict, group in zip(first, groups)]
-
-
-def reachable(task):
-    """Returns the reachable states."""
-    found, left = set(), [initial(task)]
-    while left:
-        state = left.pop()
-        if tuple(state) in found:
-            continue
-        found.add(tuple(state))
-        able = (one for one in task["operators"] if holds(state, preconditions(one)) and conflict(state, one) is None)
-        left += [next_state(task, state, one) for one in able]
-    return found
-
-
-def is_invariant(states, group):
-    """Returns whether none of the states holds two facts of the group."""
-    return all(len({fact for fact in group if holds(state, [fact])}) <= 1 for state in states)
 
 
 def random_group(chance, task):
@@ -256,12 +142,6 @@ def effects_of_no_group(groups):
     }
 
 
-def line_of(place, verdict):
-    """Returns the line that `mutex` prints of a group with this verdict."""
-    words = {"Exclusive": "exclusive", "Derived": "derived", "Initial": "not shown: initial state"}
-    return f"group {place} {words.get(verdict) or 'not shown: operator ' + verdict.split()[3]}\n"
-
-
 def judged(name, task, joint, alone):
     """Returns the task as a text, with the verdicts on its groups."""
     return {
@@ -303,3 +183,16 @@ def long_chains():
     yield judged("many groups that stay", chain_of([(0, 0), (1, 0)]), ["Exclusive"] * MANY, broken)
     broken = [f"Broken {{ operator: {SWAPPING + place} }}" for place in range(SHARING)]
     yield judged("many groups that share facts and fall", sharing_groups(), broken, broken)
+
+
+def reason_cases():
+    """Yields the tasks that are made at random, with `--why`. They could show a wrong definition of the reasons, in a
+    case that no one thought of."""
+    for made in grouped_tasks():
+        yield {
+            "name": f"{made['name']}, with reasons",
+            "words": ["mutex", "--why", "t.sas"],
+            "files": {"t.sas": made["task"]},
+            "output": with_all_reasons(made["output"], made["task"]),
+            "status": made["status"],
+        }

@@ -1,5 +1,5 @@
 """Why a plan isn't valid, computed from the meaning of a task: the lines that `plan --why` prints after the verdict. Two spaces
-stand in front of each, four where it belongs to the line above. A task here is as in walks.py; `fact` in a line represents
+stand in front of each, four where it belongs to the line above. A task here is as in tasks.py; `fact` in a line represents
 `VARIABLE VALUE NAME`, with the name of the value.
 
 A run is the task, the names of a plan's steps, the operators of those steps that go through, and the states: the initial one, and
@@ -33,9 +33,9 @@ variables for which this one needs rules; so none rests on itself.
 """
 from functools import cached_property
 
-from axioms import operator_line
-from layers import fact_said
-from steps import conflict, holds, initial, meant, next_state, preconditions, verdict
+from oracles.layers import fact_said
+from oracles.steps import conflict, holds, initial, meant, next_state, preconditions, verdict
+from oracles.tasks import operator_line
 from texts import shown_name
 
 

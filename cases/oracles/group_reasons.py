@@ -1,5 +1,5 @@
 """Why mutex groups aren't shown to be exclusive, computed from the file of a task and the verdicts on its groups: the lines that
-`--why` prints after each of these. Two spaces stand in front of each line. A task here is as in families.py; `FACT` in a line
+`--why` prints after each of these. Two spaces stand in front of each line. A task here is as in tasks.py; `FACT` in a line
 represents `VARIABLE VALUE NAME`, with the name of the value.
 
     derived                       fact FACT: the first one of the group on a derived variable
@@ -12,10 +12,10 @@ represents `VARIABLE VALUE NAME`, with the name of the value.
 The reason is the first such effect E, with the first effect F; where there is none, with the first fact of the group that may remain. Facts
 contradict each other as in families.py, in the family of the groups that are exclusive and the group itself.
 """
-from axioms import task_of
-from families import clash, gone, grouped_tasks
-from layers import fact_said, operator_said, with_reasons
-from steps import holds, preconditions
+from oracles.families import clash, gone
+from oracles.layers import fact_said, operator_said, with_reasons
+from oracles.steps import holds, preconditions
+from oracles.tasks import task_of
 from texts import as_bytes
 
 
@@ -82,16 +82,3 @@ def with_all_reasons(output, text):
         return with_reasons(output, text)
     lines = after_groups(said.decode("latin-1").removesuffix("\n").split("\n"), text)
     return "".join(f"{line}\n" for line in lines).encode("latin-1")
-
-
-def reason_cases():
-    """Yields the tasks of families.py that are made at random, with `--why`. They could show a wrong definition of the reasons, in a
-    case that no one thought of."""
-    for made in grouped_tasks():
-        yield {
-            "name": f"{made['name']}, with reasons",
-            "words": ["mutex", "--why", "t.sas"],
-            "files": {"t.sas": made["task"]},
-            "output": with_all_reasons(made["output"], made["task"]),
-            "status": made["status"],
-        }

@@ -1,5 +1,5 @@
 """Why a task isn't layered, computed from its file: the lines that `--why` prints after the refusal. Two spaces stand in front of
-each. Why a file isn't well formed is computed in refusals.py. A task here is as in axioms.py; `fact` in a line represents
+each. Why a file isn't well formed is computed in refusals.py. A task here is as in tasks.py; `fact` in a line represents
 `VARIABLE VALUE NAME`, with the name of the value.
 
     effect on derived variable    operator I line A NAME, effect E sets fact, on layer L: E is the operator's first such effect
@@ -14,8 +14,8 @@ A and B are the lines of the file on which the operator or the rule begins. Name
 """
 import re
 
-from axioms import operator_line, rule_line, spoiled_tasks, task_of, value_name
-from refusals import after_file
+from oracles.refusals import after_file
+from oracles.tasks import operator_line, rule_line, task_of, value_name
 from texts import as_bytes, shown_name
 
 REFUSED = "task refused: "
@@ -104,18 +104,3 @@ def fault_said(fault):
     """Returns a fault of axioms.py in words."""
     name, rule = re.match(r"(\w+) \{ rule: (\d+)", fault).groups()
     return f"rule {rule}: {WORDS[name]}"
-
-
-def layer_cases():
-    """Yields tasks made at random whose rules were changed, with `--why`. They could show a wrong definition of the reasons, in a case
-    that no one thought of."""
-    for number, made in enumerate(spoiled_tasks()):
-        if made["fault"] is None:
-            continue
-        said = f"{REFUSED}{fault_said(made['fault'])}\n"
-        answer = {"files": {"t.sas": made["task"], "p.txt": ""}, "status": 1}
-        for words in (["check", "t.sas"], ["mutex", "t.sas"], ["plan", "t.sas", "p.txt"]):
-            name = f"spoiled task {number}, {words[0]}"
-            yield {"name": name, "words": words, "output": said, **answer}
-            why = with_reasons(said, made["task"])
-            yield {"name": f"{name} --why", "words": [*words, "--why"], "output": why, **answer}
