@@ -7,6 +7,7 @@ import inspect
 import os
 import shlex
 import shutil
+import signal
 import subprocess
 import sys
 from collections import deque, namedtuple
@@ -37,6 +38,9 @@ def main(tests):
         else:
             optional = {} if it.default is it.empty else {"nargs": "?", "default": it.default}
             parser.add_argument(name, type=os.path.abspath, **optional)
+    # a shell that begins this in the background has these ignored, and so would have what it runs
+    signal.signal(signal.SIGINT, signal.default_int_handler)
+    signal.signal(signal.SIGHUP, signal.SIG_DFL)
     given = inspect.signature(tests).bind_partial()
     given.arguments.update(vars(parser.parse_args()))
     end(tests(*given.args, **given.kwargs))
