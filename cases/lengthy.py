@@ -147,6 +147,11 @@ def chain_of_layers(size):
     return {**task, "layers": [None, *range(size)]}, names, cost, lines
 
 
+def whole(size):
+    """Returns how many variables a whole tree has, at least so many."""
+    return 2 ** size.bit_length() - 1
+
+
 def tree_rules(size):
     """Rules by which two variables give the one above them, down from 1. That of a variable is its number less 1."""
     leaves = (size + 1) // 2
@@ -163,6 +168,7 @@ def rising(var, size):
 
 def tree_down(size):
     """A goal of a tree of so many variables, from its top: the first fact has all rules, each as soon as those below it are there."""
+    size = whole(size)
     given = [derives(var - 1, var) for var in rising(1, size)]
     causes = [[*requires(var, 0, 1), *(given if var == 1 else [])] for var in range(1, size + 1)]
     return derived_task(size, tree_rules(size), [(var, 0) for var in range(1, size + 1)]), [], 0, missed(*causes)
@@ -170,6 +176,7 @@ def tree_down(size):
 
 def tree_up(size):
     """The same goal the other way round."""
+    size = whole(size)
     causes = [[*requires(var, 0, 1), derives(var - 1, var)] for var in range(size, 0, -1)]
     return derived_task(size, tree_rules(size), [(var, 0) for var in range(size, 0, -1)]), [], 0, missed(*causes)
 
