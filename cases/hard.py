@@ -103,7 +103,7 @@ FAMILIES = [
     group_family(crowded.swapped, "looking at all operators as each group falls", 600),
     group_family(crowded.effects_beside, EACH_EFFECT, 2000),
     group_family(crowded.effects_alone, EACH_EFFECT, 2000),
-    group_family(crowded.relying, EACH_GROUP, 600),
+    group_family(crowded.relying, EACH_GROUP, 200),
     group_family(crowded.single, EACH_GROUP, 1000),
     group_family(crowded.excluded, "looking at each fact of a group for each operator that sets one", 500),
     group_family(crowded.parted, "the same, before an operator that breaks the group", 500),
