@@ -58,25 +58,24 @@ def of_trace(make):
 
 
 def conditions(size):
-    """An operator with effects, each with as many conditions as there are effects."""
-    effect = [(1, 0)] * size, 0, -1, 1
-    return task_with([2, 2], operators=[("go", [], [effect] * size, 1)]), None, None, ["task layered"]
-
-
-def squared(size):
-    """Returns the size at which a task whose text is a square has so many times the bytes."""
-    return round(size**0.5)
+    """An operator whose effects have so many conditions, each effect as many as there are effects."""
+    each = round(size**0.5)
+    effect = [(1, 0)] * each, 0, -1, 1
+    return task_with([2, 2], operators=[("go", [], [effect] * each, 1)]), None, None, ["task layered"]
 
 
 def group_family(make, shows, size, **more):
+    """Returns a family of crowded.py."""
     return Family(f"mutex, {make.__name__.replace('_', ' ')}", shows, ["mutex"], of_groups(make), size, **more)
 
 
 def plan_family(make, shows, size):
+    """Returns a family of idle.py."""
     return Family(f"plan, {make.__name__.replace('_', ' ')}", shows, ["plan"], of_steps(make), size)
 
 
 def why_family(make, shows, size):
+    """Returns a family of lengthy.py."""
     return Family(f"plan --why, {make.__name__.replace('_', ' ')}", shows, ["plan", "--why"], make, size)
 
 
@@ -115,7 +114,7 @@ FAMILIES = [
     plan_family(idle.nets, "going through all rules at each step, or at each one after a step that changed nearly all", 50),
     plan_family(idle.named_alike, EACH_NAME, 1000),
     plan_family(idle.named_the_same, "trying all operators of a name at each step", 1000),
-    Family("check, conditions", "going through all effects for each condition", ["check"], lambda size: conditions(squared(size)), 10_000),
+    Family("check, conditions", "going through all effects for each condition", ["check"], conditions, 10_000),
     *(
         why_family(make, EACH_CAUSE, size)
         for make, size in (
