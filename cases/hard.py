@@ -135,7 +135,7 @@ FAMILIES = [
             (lengthy.no_rules_again, 1000),
             (lengthy.many_blocked, 500),
             (lengthy.many_blocked_derived, 500),
-            (lengthy.many_preconditions, 500),
+            (lengthy.many_preconditions, 2000),
             (lengthy.many_effects, 1000),
             (lengthy.many_named, 1000),
             (lengthy.many_alike, 500),
