@@ -4,8 +4,8 @@
     bench/families.py ./sas FOLDER [--only TEXT] [--scale F] [--at-once N]
 
 The families are those of cases/hard.py, which says how each is made and what it could show; cases/growth.py tries them at small sizes. Each
-is made in FOLDER in three sizes, each twice the one before. Growth is what a further byte costs from the second size to the third, over what
-it costs from the first to the second: near 1 is linear, and a square shows as 2.
+is made in FOLDER in three sizes, each twice the one before. Growth is what a further byte costs from the second size to the third, over
+what it costs from the first to the second: near 1 is linear, and a square shows as 2.
 
 The exit status is 1 if one grows faster than it may, or an answer isn't right. N families are counted side by side (as many as there are
 processors), which changes no count. It needs valgrind.

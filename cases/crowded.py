@@ -143,8 +143,8 @@ def single(size):
 
 
 def excluded(size):
-    """A large group, of which each operator sets one fact. Each of the others is in a group with the fact that all operators require, too, so
-    that none of them holds when an operator is applied."""
+    """A large group, of which each operator sets one fact. Each of the others is in a group with the fact that all operators require, too,
+    so that none of them holds when an operator is applied."""
     own = [(2 + place, 0) for place in range(size)]
     groups = [[(1, 0), *own], *([(0, 0), fact] for fact in own)]
     return facts_task(size + 2, groups=groups, operators=[("go", [(0, 0)], [setting(1)], 1)] * size), ["Exclusive"] * (size + 1)

@@ -1,4 +1,4 @@
-"""The catalogue of hard tasks: families of one shape in any size, each with one thing in great number that might make a cost grow as a square.
+"""The catalogue of hard tasks: families of one shape in any size, each with one thing in great number that might make a cost a square.
 
 No proof speaks of time, so a program that takes the square is proved, too. growth.py tries each family at small sizes: the answer, and
 that instructions grow as the input does. bench/families.py measures them at larger sizes.
@@ -16,9 +16,9 @@ from oracles.reasons import reasons
 from oracles.tasks import text_of
 from oracles.traces import traced
 
-# A family: what it could show, the words of its request, and how it is made: for a number of things, a task, the names of a plan's steps and
-# its cost, or None where no plan is read, and the lines that are printed. How many things it has at its first size, and by what a further
-# byte may cost more where the size is twice as large: a square twice as much.
+# A family: what it could show, the words of its request, and how it is made: for a number of things, a task, the names of a plan's steps
+# and its cost, or None where no plan is read, and the lines that are printed. How many things it has at its first size, and how many times
+# as much a further byte may cost where the size is twice as large: of a square it costs twice as much.
 Family = namedtuple("Family", "name shows words make size most", defaults=[1.15])
 # an input in a folder: the words of the request, how many bytes its files have, what is printed, and the exit status
 Input = namedtuple("Input", "words bytes output status")

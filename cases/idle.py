@@ -74,7 +74,8 @@ def idle(layers, rules, steps):
     value that it has, and the last derived variable that a rule sets is seen to be on. Then the main switch is turned off and on, so that
     this one falls and rises."""
     last = rules[-1][1]
-    operators = [turning("idle", 0), ("same", [], [([], 1, 0, 0)], 1), turning("main", MAIN), asking("lit", last, 1), asking("dark", last, 0)]
+    operators = [turning("idle", 0), ("same", [], [([], 1, 0, 0)], 1), turning("main", MAIN)]
+    operators += [asking("lit", last, 1), asking("dark", last, 0)]
     names = [*["idle", "same", "lit", "idle"] * (steps // 4), "main", "dark", "idle", "main", "lit"]
     return lamps_task(layers, rules, operators, goal=[(last, 1)]), names
 
