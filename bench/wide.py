@@ -1,9 +1,6 @@
-"""Operators with many effects: each switch of a hall turns all its lamps on, or all off.
+"""Few operators with many effects: each switch of a hall turns all its lamps on, or all off.
 
-    Wide     few operators, with an effect on each lamp. With n lamps there are n variables and eight operators, each of n effects
-    Timed    one operator, whose n effects each have the same condition n times: a clock says so
-
-There are no groups and no prevail conditions.
+With n lamps there are n variables and eight operators, each of n effects. There are no groups and no prevail conditions.
 """
 from sas_text import both
 
@@ -50,22 +47,3 @@ class Wide:
         steps = max(1, steps)
         for left in reversed(range(steps)):
             yield "%s switch%d" % (WORDS[left % 2], left // 2 % SWITCHES + 1)
-
-
-class Timed(Wide):
-    """One lamp, which a switch turns on by so many effects, each with so many conditions."""
-
-    def counts(self):
-        return {"variables": 2, "groups": 0, "operators": 1, "rules": 0}
-
-    def variables(self):
-        return [both(-1, "on(lamp0)"), both(-1, "day(clock)")]
-
-    def initial(self):
-        return [OFF, ON]
-
-    def goal(self):
-        return [(0, ON)]
-
-    def operators(self):
-        return [("turn-on switch1", [], [(0, -1, ON, *[(1, ON)] * self.objects)] * self.objects)]

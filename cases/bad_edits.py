@@ -88,8 +88,8 @@ def gate_tests(top):
     wrong = [name for name, edit in EDITS.items() if edit[-1] != REFUSED]
     # the crate itself, and the edit that is refused
     expected = (2, len(wrong), len(wrong))
-    wrong = differs((passed, failed, len(lines)), expected)
-    yield "counts", [*wrong, printed.getvalue()] if wrong else []
+    differences = differs((passed, failed, len(lines)), expected)
+    yield "counts", [*differences, printed.getvalue()] if differences else []
     for name, (*_, kind) in EDITS.items():
         said = [line for line in lines if re.search(rf"/{re.escape(name)}: {kind}: ", line)]
         yield name, [] if len(said) == (kind != REFUSED) else [f"{len(said)} lines say {kind}: {lines}"]

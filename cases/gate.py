@@ -31,6 +31,7 @@ CASES = [
         ["cases/calls.py", *PROGRAMS],
         ["cases/run.py", "sas"],
         ["cases/streams.py", "sas"],
+        ["cases/growth.py", "sas"],
         ["bench/count.py", "sas", "bench/out", "--compare"],
         ["cases/name_groups.py", "sas"],
     ],

@@ -1,5 +1,4 @@
-"""Small tasks with mutex groups, made at random from a fixed seed, and five larger ones. oracles/families.py computes the verdicts on the
-groups of the small ones.
+"""Small tasks with mutex groups, made at random from a fixed seed. oracles/families.py computes the verdicts on the groups.
 """
 import random
 from itertools import chain
@@ -12,11 +11,6 @@ from walks import basic_task, random_facts, random_operator
 
 SEED = 7
 TASKS = 300
-MANY = 2000
-# groups that share facts, and operators over these
-SHARING, SWAPPING = 4000, 600
-# effects of one operator, none of which sets a fact of a group
-EFFECTS = 40_000
 
 
 def random_group(chance, task):
@@ -94,54 +88,6 @@ def grouped_task(chance):
     return task
 
 
-def chain_of(last):
-    """Returns a task of many groups, each of which rests on the next: the operator that sets its second fact requires both
-    facts of the next group. For the last of them it requires these facts."""
-    facts = [[(2 * place, 0), (2 * place + 1, 0)] for place in range(MANY)]
-    return {
-        "ranges": [2] * (2 * MANY),
-        "layers": [None] * (2 * MANY),
-        "defaults": [0, 1] * MANY,
-        "rules": [],
-        "groups": facts,
-        "operators": [
-            ("go", needed, [([], 2 * place + 1, -1, 0)], 1) for place, needed in enumerate([*facts[1:], last])
-        ],
-    }
-
-
-def sharing_groups():
-    """Returns a task of many groups, each of two facts that all of them have and one of its own. Many operators swap the
-    shared ones, which keeps each group by itself; then each group rests on the next as in `chain_of`, and the last one on
-    nothing."""
-    there, back = ([([], 0, old, 1 - old), ([], 1, 1 - old, old)] for old in (0, 1))
-    own = [(2 + place, 0) for place in range(SHARING)]
-    return {
-        "ranges": [2] * (2 + SHARING),
-        "layers": [None] * (2 + SHARING),
-        "defaults": [0, 1] + [1] * SHARING,
-        "rules": [],
-        "groups": [[(0, 0), (1, 0), fact] for fact in own],
-        "operators": [
-            *(("swap", [], effects, 1) for effects in [there, back] * (SWAPPING // 2)),
-            *(("go", own[place + 1 : place + 2], [([], fact[0], -1, fact[1])], 1) for place, fact in enumerate(own)),
-        ],
-    }
-
-
-def effects_of_no_group(groups):
-    """Returns a task of one operator with many effects, each with a condition and an old value, whose facts are in none of the
-    groups."""
-    return {
-        "ranges": [2] * (EFFECTS + 2),
-        "layers": [None] * (EFFECTS + 2),
-        "defaults": [0] * (EFFECTS + 2),
-        "rules": [],
-        "groups": groups,
-        "operators": [("all", [], [([(EFFECTS, 0)], var, 0, 1) for var in range(EFFECTS)], 1)],
-    }
-
-
 def judged(name, task, joint, alone):
     """Returns the task as a text, with the verdicts on its groups."""
     return {
@@ -164,25 +110,6 @@ def grouped_tasks():
         for group, said in zip(task["groups"], zip(joint, alone)):
             assert "Exclusive" not in said or is_invariant(states, group)
         yield judged(f"groups of random task {number}", task, joint, alone)
-
-
-def idle_effects():
-    """Returns two tasks whose operator has many effects that set no fact of a group: in the first there is no group, in the
-    second one that stays. Where what is known is noted anew for each effect, no answer comes in time."""
-    yield judged("many effects and no group", effects_of_no_group([]), [], [])
-    yield judged("many effects beside a group", effects_of_no_group([[(EFFECTS, 0), (EFFECTS + 1, 1)]]), *[["Exclusive"]] * 2)
-
-
-def long_chains():
-    """Returns three tasks of many groups that rest on one another. In the first one the last group rests on nothing, so that
-    all fall, one after another from the last one on. In the second it rests on the first one, and all stay. In the third
-    they fall too, and share facts with many operators: where each of these is looked at again as each group falls, no answer
-    comes in time."""
-    broken = [f"Broken {{ operator: {place} }}" for place in range(MANY)]
-    yield judged("many groups that fall", chain_of([]), broken, broken)
-    yield judged("many groups that stay", chain_of([(0, 0), (1, 0)]), ["Exclusive"] * MANY, broken)
-    broken = [f"Broken {{ operator: {SWAPPING + place} }}" for place in range(SHARING)]
-    yield judged("many groups that share facts and fall", sharing_groups(), broken, broken)
 
 
 def reason_cases():

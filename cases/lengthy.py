@@ -1,25 +1,15 @@
 """Large tasks and long plans that fail, with `--why`: cases as in program.json, for run.py.
 
-No proof speaks of time. A program that takes the square of these numbers is proved, too. The larger cases here are of a size at
-which such a program takes a minute or more, and run.py stops it; one that looks at each step a second time, and at each rule
-once, takes a second or two. In those of long texts the program has less memory than the text has bytes.
-
-A maker returns for a size the task, the names of a plan's steps, its cost, and what is printed, line by line. For a small size
-that is compared with what the meaning of reasons gives.
+A maker returns for a size the task, the names of a plan's steps, its cost, and what is printed, line by line. hard.py has the makers as
+families, whose size doesn't matter. The cases here have a small stack, a file that is too small, or less memory than a text has bytes.
 """
 from large import STACK, case, plan_text, task_with
-from oracles.reasons import reasons
 from oracles.tasks import operator_line, text_of, value_name
 
-# how many steps a plan has; how many facts, rules, operators or effects there are, or more where a step over each pair of them is
-# quick; how many variables a tree has that is whole
-STEPS, MANY, MORE, TREE = 1_000_000, 100_000, 200_000, 2**17 - 1
-# the small size, which a tree may have too
-SMALL = 7
 # the length of a name, which is shown as a whole, that comes in each of so many causes, or in the line of each of so many rules, and what
 # memory the program has then, in bytes
 NAME, TIMES, RULES, MEMORY = 256, 100_000, 200_000, 40_000_000
-# how large other tasks are
+# how many variables a chain has, and a tree, which is whole
 MODEST, MODEST_TREE = 20_000, 2**14 - 1
 
 
@@ -157,6 +147,11 @@ def chain_of_layers(size):
     return {**task, "layers": [None, *range(size)]}, names, cost, lines
 
 
+def whole(size):
+    """Returns how many variables a whole tree has, at least so many."""
+    return 2 ** size.bit_length() - 1
+
+
 def tree_rules(size):
     """Rules by which two variables give the one above them, down from 1. That of a variable is its number less 1."""
     leaves = (size + 1) // 2
@@ -173,6 +168,7 @@ def rising(var, size):
 
 def tree_down(size):
     """A goal of a tree of so many variables, from its top: the first fact has all rules, each as soon as those below it are there."""
+    size = whole(size)
     given = [derives(var - 1, var) for var in rising(1, size)]
     causes = [[*requires(var, 0, 1), *(given if var == 1 else [])] for var in range(1, size + 1)]
     return derived_task(size, tree_rules(size), [(var, 0) for var in range(1, size + 1)]), [], 0, missed(*causes)
@@ -180,6 +176,7 @@ def tree_down(size):
 
 def tree_up(size):
     """The same goal the other way round."""
+    size = whole(size)
     causes = [[*requires(var, 0, 1), derives(var - 1, var)] for var in range(size, 0, -1)]
     return derived_task(size, tree_rules(size), [(var, 0) for var in range(size, 0, -1)]), [], 0, missed(*causes)
 
@@ -262,16 +259,8 @@ def many_alike(size):
     return task, ["go 0"], 0, lines
 
 
-def compare_small(maker):
-    """Compares what is said of a small size with what the meaning of reasons gives."""
-    task, names, cost, lines = maker(SMALL)
-    fault, after = reasons(task, names, cost)
-    assert [fault, *after] == lines, (maker.__name__, [fault, *after], lines)
-
-
 def made_case(maker, size, **limits):
     """A case of this size."""
-    compare_small(maker)
     task, names, cost, lines = maker(size)
     output = "".join(f"{line}\n" for line in lines)
     inputs = {"files": {"t.sas": text_of(task)}, "input": plan_text(names, cost), **limits}
@@ -316,15 +305,5 @@ def limited_cases():
 
 def lengthy_cases():
     """All of these."""
-    for maker in (long_blocked, long_missed, long_unknown, long_settled):
-        yield made_case(maker, STEPS)
-    for maker in (long_changed, chain_again, chain_of_layers, many_blocked, many_preconditions):
-        yield made_case(maker, MANY)
-    for maker in (rules_again, no_rules_again, many_effects, many_named, many_alike):
-        yield made_case(maker, MORE)
-    yield made_case(tree_down, TREE)
-    yield made_case(tree_up, MODEST_TREE)
-    for maker in (beside, chain_dark, many_blocked_derived):
-        yield made_case(maker, MODEST)
     yield from long_texts()
     yield from limited_cases()

@@ -8,21 +8,27 @@ look for them. So it has to know how many groups the map has, how many names fit
 this from the toolchain, and no promise says it: with another map all answers stay right, and a task can be written that takes a time that
 grows as the square of its size.
 
-The numbers and the fold are held against the code of the toolchain. Then SAS is run over tasks of names that begin in one group, at two
+The numbers and the fold are held against the code of the toolchain. Then SAS is run over tasks of names that begin in one group, at three
 sizes, and its instructions a byte may not grow. That needs valgrind; where it isn't there, a line says so. Each test that fails has a line,
 and the last line is 'N passed, M failed'. The exit status is 0 where none failed.
 """
+import itertools
 import os
 import re
 import subprocess
-import sys
 import tempfile
 
+import growth
 import harness
+from hard import Family, of_steps
+from large import task_with
 from texts import TOP, text_of
 
 TABLE = f"{TOP}/crates/sas_names/src/name_table.rt"
-FAMILY = "names that begin in one group of the map"
+# the hasher's two numbers, and the bits of a word
+MULTIPLIER, START, WORD = 0x9E3779B97F4A7C15, 0x243F6A8885A308D3, (1 << 64) - 1
+# so many groups may the map have; it has a sixth as many as there are names, or more, up to a third
+GROUPS = 1024
 # what the table copies: its own words, a file of the toolchain, and the words there
 COPIED = {
     "names a group before the map grows": (r"LOAD: usize = (\d+);", "index_table/probe.rt", r"GROUP_LOAD: usize = (\d+);"),
@@ -41,19 +47,37 @@ def copied_tests():
         yield name, [] if len(found[0]) == 1 and found[0] == found[1] else [f"{found[0]}, and {found[1]} in {path}"]
 
 
-def growth_tests(sas):
-    """Yields the growth of instructions over names that begin in one group. It could show that the map looks for them in others."""
-    with tempfile.TemporaryDirectory() as folder:
-        command = [sys.executable, f"{TOP}/bench/families.py", sas, folder, "--only", FAMILY]
-        ran = subprocess.run(command, check=False, stdout=subprocess.PIPE, encoding="utf-8")
-    row = ran.stdout.splitlines()[-1]
-    yield FAMILY, [] if ran.returncode == 0 and FAMILY in row else [row]
+def hash_of(word):
+    """Returns what the hasher makes of eight bytes, given as a number."""
+    product = (START ^ word) * (MULTIPLIER ^ 16)
+    return (product & WORD) ^ (product >> 64)
+
+
+def names():
+    """Yields names of eight bytes, of which each begins in the first group: the map hashes the digest of a name, and folds that."""
+    for place in itertools.count():
+        name = "%08x" % place
+        found = hash_of(hash_of(int.from_bytes(name.encode("ascii"), "little")))
+        if (found ^ (found >> 32)) % GROUPS == 0:
+            yield name
+
+
+def gathered(size):
+    """Operators with so many of these names, and a plan of each."""
+    found = list(itertools.islice(names(), size))
+    return task_with([2], operators=[(name, [], [], 1) for name in found]), found
+
+
+SHOWS = "names that are sought through all groups that they fill"
+FAMILY = Family("names that begin in one group", SHOWS, ["plan"], of_steps(gathered), 750)
 
 
 def tests(sas):
     yield from copied_tests()
+    # the answers alone show nothing of groups
     if harness.is_there("valgrind"):
-        yield from growth_tests(sas)
+        with tempfile.TemporaryDirectory() as folder:
+            yield from growth.judged(sas, folder, FAMILY)
 
 
 if __name__ == "__main__":

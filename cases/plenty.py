@@ -1,8 +1,7 @@
 """Long traces, and plans by the thousand: cases as in program.json, for run.py.
 
-No proof speaks of time, of files that are open, or of when memory is there. A program that takes the square of these numbers is
-proved, too, and so is one that keeps each file open, or what each plan held. The larger cases here are of a size at which such a
-program takes a minute or more, so that run.py stops it, or at which it has no file or no memory left.
+No proof speaks of files that are open, or of when memory is there. A program that keeps each file open, or what each plan held, is proved,
+too. The larger cases here are of a size at which such a program has no file or no memory left. hard.py has two traces as families.
 
 A trace here is a task, the names of a plan's steps, which cost 1 each, and what is printed, line by line. For a small size that
 is compared with what the meaning of traces gives, and so is what is printed of plans.
@@ -13,10 +12,6 @@ from oracles.plans import lines_of, summary
 from oracles.tasks import text_of, value_name
 from oracles.traces import traced
 
-# how many steps there are, and variables, of which a step changes one or none
-STEPS, VARIABLES = 400_000, 400_000
-# how many derived variables rise or fall in one step, how often they do, and how many steps between those change only some
-CHAIN, STORMS, BREEZES = 20_000, 10, 5_000
 # the length of a name that comes in the line of each of so many steps, and what memory the program has then, in bytes
 NAME, TIMES, MEMORY = 20_000, 5_000, 40_000_000
 # how many plans there are, and how many operators, whose names are looked up in one table; how many prices they have
@@ -99,13 +94,6 @@ def compare_traces():
     """Compares what is printed of small traces with what their meaning gives."""
     for task, names, lines in (still_trace(45, 3), storm_trace(1, 3, 2), storm_trace(6, 2, 5), storm_trace(7, 3, 4)):
         assert traced(task, names, len(names)) == lines
-
-
-def long_traces():
-    """Traces of many steps. They could show one that looks through all variables at each step, or settles them anew; a change
-    that is lost, or comes twice, where the text goes out in pieces; and numbers that are written in too few digits."""
-    yield over_trace("very many steps that change nothing", still_trace(STEPS, VARIABLES))
-    yield over_trace("many that rise and fall", storm_trace(CHAIN, STORMS, BREEZES))
 
 
 def limited_traces():
@@ -280,7 +268,6 @@ def plenty_cases():
     """All of these."""
     compare_traces()
     compare_plans()
-    yield from long_traces()
     yield from thousands_of_plans()
     yield from long_files()
     yield named_trace()

@@ -600,7 +600,8 @@ def several(browser, reports):
     rows = browser.run("return [...document.querySelectorAll('#listed tr')].map(row => [...row.cells].map(cell => cell.textContent))")
     wrong += differs(rows, [
         ["a.plan", "✓ plan valid: 4 steps, cost 4", "4", "4"], ["b.plan", "✕ plan invalid: step 2: not applicable", "3", "–"],
-        ["c.plan", "✕ plan invalid: step 4: not applicable", "4", "–"], ["d.plan", "! plan refused: line 1: keyword", "–", "–"]], "the list")
+        ["c.plan", "✕ plan invalid: step 4: not applicable", "4", "–"], ["d.plan", "! plan refused: line 1: keyword", "–", "–"],
+    ], "the list")
     wrong += differs(text(browser, "#parts"), "They part at step 2. Steps at the end that are the same: 2.", "where they part")
     pairs = """return [...document.querySelectorAll("#compared .row")].map(
         row => [...row.children].map(cell => cell.innerText.replace(/\\s+/g, " ").trim()))"""

@@ -34,11 +34,10 @@ to `trace`; both have plans of their own, and so has many.py, for `plans`.
     initial      the initial state, and
     call         what the call `check_plan` answers; both for calls.py, and left out where a file is refused or too long
 
-large.py, idle.py, crowded.py, lengthy.py and plenty.py make large tasks and plans, as cases of program.json. refusals.py makes
-damaged ones, with `--why`.
+large.py, lengthy.py and plenty.py make large tasks and plans, as cases of program.json. refusals.py makes damaged ones, with `--why`.
 
 groups.json: tasks. Each is given to `mutex` as a file and as standard input, and there with CR LF at the end of each line
-too; those that grouped.py makes at random, and its larger ones, as standard input.
+too; those that grouped.py makes at random, as standard input.
 
     task         the file, as a text
     output       standard output, exactly
@@ -76,10 +75,8 @@ import tempfile
 import threading
 
 import harness
-from crowded import crowded_cases
 from following import long_runs
-from grouped import grouped_tasks, idle_effects, long_chains, reason_cases
-from idle import idle_cases, nets_cases
+from grouped import grouped_tasks, reason_cases
 from large import large_cases
 from layered import layer_cases
 from lengthy import lengthy_cases
@@ -217,8 +214,8 @@ def group_cases():
 
 
 def family_cases():
-    """Yields the groups of tasks that are made. They could show the same, or an answer that comes too late."""
-    for made in (*grouped_tasks(), *long_chains(), *idle_effects()):
+    """Yields the groups of tasks that are made. They could show the same."""
+    for made in grouped_tasks():
         yield over_task(made["name"], "mutex", made["task"], made["output"], made["status"])
 
 
@@ -429,7 +426,7 @@ def cases_in(folder, one_of=1):
     meanwhile."""
     yield from table("program.json")
     yield from itertools.islice(made_cases(folder), 0, None, one_of)
-    for large in (large_cases, nets_cases, idle_cases, plenty_cases, crowded_cases, lengthy_cases):
+    for large in (large_cases, plenty_cases, lengthy_cases):
         yield from large()
 
 

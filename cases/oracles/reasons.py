@@ -183,7 +183,8 @@ def name_reasons(run, name):
     """Returns the line of the operator whose name is like this one, if there is one, and how many steps have no operator."""
     operator = like(run.task, name)
     unknown = [its for its in run.names if not operators_named(run.task, its)]
-    similar = [] if operator is None else [f"  similar {operator_said(run.task, operator)} {shown_name(run.task['operators'][operator][0])}"]
+    said = "" if operator is None else f"{operator_said(run.task, operator)} {shown_name(run.task['operators'][operator][0])}"
+    similar = [f"  similar {said}"] if said else []
     return [*similar, f"  {len(unknown)} of {len(run.names)} steps name no operator"]
 
 
