@@ -3,9 +3,9 @@
 
 `rt ci` proves and builds everything and tries each edit that must fail. What an earlier run on this machine proved of the same files is
 kept. An edit that doesn't apply or compile shows nothing: `rt ci` passes it, and here it is a failure. The lines of all edits that weren't
-refused stand once more at the end; cases/bad_edits.py shows that they are noticed. Then the lists of CASES run side by side: documents against
-definitions, contracts, edits and the program, and what the crates' calls, the program, the library, its wrappers, packages and reports do.
-The first lines of each script say what it tries. For 64-bit ARM two crates are proved once more.
+refused stand once more at the end; cases/bad_edits.py shows that they are noticed. Then the lists of CASES run side by side: documents
+against definitions, contracts, edits and the program, and what the crates' calls, the program, the library, its wrappers, packages and
+reports do. The first lines of each script say what it tries. For 64-bit ARM two crates are proved once more.
 
 The last line is 'N passed, M failed' of all together, and the exit status is 0 exactly if M is 0. A command that doesn't end as its own
 last line says counts as one failure. gate.log keeps the last line for releases, with the commit and the toolchain.
