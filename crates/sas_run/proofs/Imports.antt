@@ -39,7 +39,6 @@ pub use Rattle.sas_meaning.proofs.Forced.{state_set, fact_within}
 pub use Rattle.sas_meaning.proofs.Layers.{layer_cases}
 pub use Rattle.sas_meaning.proofs.Settling.{settled_where_empty}
 pub use Rattle.sas_meaning.proofs.Unique.{settled_is_one, step_is_one}
-pub use Rattle.sas_meaning.specs.ChangedVariables.{CoversChanges}
 pub use Rattle.sas_meaning.specs.FastDownward.{FastDownwardStep}
 pub use Rattle.sas_meaning.specs.Following.{HaveGone}
 pub use Rattle.sas_meaning.specs.Layers.{IsBasic, IsLayered}
@@ -48,12 +47,10 @@ pub use Rattle.sas_meaning.specs.InitialStates.{IsInitial}
 pub use Rattle.sas_meaning.specs.Settled.{Settles, IsSettled, SameBasic}
 pub use Rattle.sas_meaning.specs.States.{Holds, AllHold}
 pub use Rattle.sas_meaning.specs.Steps.{preconditions, Step, Fires, Agree, old_fact}
-pub use Rattle.sas_meaning.specs.declared.changed_variables.ChangedVariables.{ChangedVariables}
 pub use Rattle.sas_run.specs.ByNumbers.{OperatorsLead, GoThrough, GoesThrough, IsValidByNumbers}
 pub use Rattle.sas_names.specs.Chains.{AreStepOperators, IsChain}
-pub use Rattle.sas_run.specs.Choosers.{IsNumberChoice, Makes, EndsPlan, IsSolutionBy, IsFaultByOrMemory}
+pub use Rattle.sas_run.specs.Choosers.{IsNumberChoice, Makes, MakesStepBy, EndsSteps, EndsPlan, IsSolutionBy, IsFaultByOrMemory}
 pub use Rattle.sas_run.specs.PlainSteps.{DeletedHasRoom, NotesOn, AreMade, IsPlainStep, OldHolds}
-pub use Rattle.sas_run.specs.Executions.{Executed, next_name, next_operator, Executes, IsFound, Advances, executed_of, IsExecuting, HaveNoNamesakes}
 pub use Rattle.sas_run.specs.Given.{given_to, Replaces, value_after, NothingGiven, IsGiven, IsGivenTo, GivesValue, GivesOther}
 pub use Rattle.sas_run.specs.Laws.{AreChosen, ValidByNumbers, SomeVerdictByNumbers, NumbersHaveNoFault, FaultByNumbersIsOne, LeadsToReachable, LastIsReachable, SomeVerdict, ValidHasNoFault, ValidIsOne, FaultIsOne, SomeRun, OneRun}
 pub use Rattle.sas_run.specs.ValueGroups.{first_with, IsFirstFrom, AreValueGroups}
@@ -66,7 +63,8 @@ pub use Rattle.sas_run.specs.OtherSensesLaws.{ValidIsUsuallyValid, ValidInFastDo
 pub use Rattle.sas_run.specs.Plans.{IsApplicable, NoneApplicable, IsChosen, LeadFrom, LeadsTo, IsValid, cost_of_all}
 pub use Rattle.sas_run.specs.Running.{IsSolution, IsFaultOrMemory, IsChoice, StepFailsBy, IsFinalVerdict, Steps, IsApplied, IsFirstConflict, IsFirstMissedFact, IsFirstChosen, IsLater, IsLaterIfAny, IsStepFault}
 pub use Rattle.sas_run.specs.Runs.{Run, steps_before, RunEndsWith, IsRunOf, state_at, last_state, StepsSucceed}
-pub use Rattle.sas_run.specs.Stepping.{IsAt, ListsChanges, HasFactOn}
+pub use Rattle.sas_run.specs.Observing.{IsTold, CanSee, AreMadeAndSeen}
+pub use Rattle.sas_run.specs.Stepping.{IsAt}
 pub use Rattle.sas_run.specs.Verdicts.{IsFirstMissed, ComesTo, IsFaultOf}
 pub use Rattle.sas_run.specs.declared.deletions.DeletedFacts.{DeletedFacts}
 pub use Rattle.sas_run.specs.declared.value_groups.ValueGroups.{ValueGroups}
@@ -74,7 +72,6 @@ pub use Rattle.sas_run.specs.declared.long_chains.LongChain.{LongChain}
 pub use Rattle.sas_run.specs.declared.long_chains.LongChains.{LongChains}
 pub use Rattle.sas_run.specs.declared.plan_check.PlanFault.{PlanFault}
 pub use Rattle.sas_run.specs.declared.plan_check.PlanFault.TheVariants.{Memory, NoOperator, NotApplicable, Conflict, GoalMissed, CostDiffers}
-pub use Rattle.sas_run.specs.declared.progress.Progress.{Progress}
 pub use Rattle.sas_run.specs.declared.runner.Choice.{Choice}
 pub use Rattle.sas_run.specs.declared.runner.Choice.TheVariants.{Found}
 pub use Rattle.sas_names.specs.declared.step_operators.StepOperators.{StepOperators}

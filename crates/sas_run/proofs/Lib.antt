@@ -18,7 +18,7 @@ pub mod PlanStates
 pub mod GoingByNumbers
 pub mod NumberVerdicts
 pub mod MadeSteps
+pub mod Observing
 pub mod Runs
 pub mod Endings
-pub mod Executing
 mod Imports

@@ -34,11 +34,11 @@ module _ (p : Parts) (plan : PlanParts) where
 -- ---- by numbers
 
 module _ (p : Parts) (numbers : List ℕ) where
-  abbrev by_number : ℕ → List ℕ → Choice → Type 0
+  abbrev pub by_number : ℕ → List ℕ → Choice → Type 0
   by_number step s = IsNumberChoice p s (get_or numbers step 0)
 
   -- the operators are the first of the numbers
-  front : (operators s : List ℕ) → Makes p by_number operators s → length operators ≤ length numbers → operators ≡ take (length operators) numbers
+  pub front : (operators s : List ℕ) → Makes p by_number operators s → length operators ≤ length numbers → operators ≡ take (length operators) numbers
   front operators s makes within = same_lists operators (take (length operators) numbers) (sym (length-take-le (length operators) numbers within)) (λ step d lt.
       let there = goes_front p operators s step makes.through in
       get_or_default operators step d 0 lt
@@ -47,7 +47,7 @@ module _ (p : Parts) (numbers : List ℕ) where
       ∙ get_or_default (take (length operators) numbers) step 0 d (omega (arith, length-take-le (length operators) numbers within)))))
 
   -- or all of them
-  whole : (operators s : List ℕ) → Makes p by_number operators s → length operators ≡ length numbers → operators ≡ numbers
+  pub whole : (operators s : List ℕ) → Makes p by_number operators s → length operators ≡ length numbers → operators ≡ numbers
   whole operators s makes all = front operators s makes (omega (arith, all)) ∙ take_all (length operators) numbers (omega (arith, all))
 
   pub numbered_faulty : (cost : ℕ) (fault : PlanFault) → IsFaultByOrMemory p by_number (length numbers) cost fault → IsNumberFaultOrMemory p numbers cost fault

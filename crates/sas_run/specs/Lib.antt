@@ -10,9 +10,9 @@ pub mod OtherSensesLaws
 pub mod Runs
 pub mod Running
 pub mod Choosers
+pub mod Observing
 pub mod Checkers
 pub mod NumberFaults
 pub mod Given
 pub mod PlainSteps
 pub mod Stepping
-pub mod Executions

@@ -54,7 +54,7 @@ pub fn checker_for<E: Settle<T> + Drop, T: Grounded>(
     Ok(Checker {
         names,
         long,
-        stepper: stepper_for(alloc, layered, evaluator, false)?,
+        stepper: stepper_for(alloc, layered, evaluator)?,
     })
 }
 

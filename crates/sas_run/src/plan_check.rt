@@ -1,16 +1,16 @@
 // Checks whether a plan is valid.
-ghost use Rattle.std.specs.Prelude.{◌≡◌, ◌^◌, ◌+◌, ◌<◌, ◌≤◌, IfOk, IfErr, vec_capacity};
-ghost use Rattle.sas_run.specs.Choosers.{EndsPlan, EndsSteps, IsFaultByOrMemory, IsSolutionBy, Makes, MakesStepBy};
+ghost use Rattle.std.specs.Prelude.{◌≡◌, ◌^◌, ◌+◌, ◌<◌, IfOk, IfErr};
+ghost use Rattle.sas_run.specs.Choosers.{EndsPlan, IsFaultByOrMemory, IsSolutionBy};
 ghost use Rattle.sas_run.specs.Running.{IsSolution, IsFaultOrMemory};
-ghost use Rattle.sas_run.specs.Stepping.{IsAt, IsPrepared, IsStart};
+ghost use Rattle.sas_run.specs.Stepping.{IsPrepared};
 
 use crate::choosers::{Chooser, NamedPlan};
+use crate::executor::make_steps;
+use crate::goal_and_cost::last_fault;
 use crate::long_chains::LongChains;
-use crate::progress::{Progress, judge_last};
-use crate::runner::Choice;
-use crate::stepper::{Stepper, go_on_from, stepper_for};
+use crate::stepper::{Stepper, initial_of, stepper_for};
 use sas_core::{Grounded, Stepwise};
-use sas_meaning::{Layered, Settle, State};
+use sas_meaning::{Layered, Settle};
 use sas_names::StepOperators;
 use std::alloc::{AllocError, Global};
 
@@ -38,6 +38,13 @@ pub enum PlanFault {
     CostDiffers { sum: u128 },
 }
 
+/// How a plan ends: the operators of the steps before its fault, and the fault, or `None` if it is valid.
+#[derive(Drop)]
+pub struct PlanEnd {
+    pub operators: Vec<u32>,
+    pub fault: Option<PlanFault>,
+}
+
 impl From<AllocError> for PlanFault {
     ghost use Rattle.sas_run.specs.declared.plan_check.PlanFault.TheVariants.{Memory};
 
@@ -60,7 +67,7 @@ pub fn check_once<E: Settle<T> + Drop, T: Grounded, P: Stepwise>(
     ensures valid { IfOk result (IsSolution layered.now (P.says plan.now)) }
     ensures fault { IfErr result (IsFaultOrMemory layered.now (P.says plan.now)) }
 {
-    let Ok(mut stepper) = stepper_for(alloc, layered, evaluator, false) else {
+    let Ok(mut stepper) = stepper_for(alloc, layered, evaluator) else {
         return Err(PlanFault::Memory);
     };
     let operators = StepOperators::new(alloc, layered, plan)?;
@@ -91,94 +98,34 @@ pub fn check<E: Settle<T> + Drop, T: Grounded, C: Chooser<T>>(
     ensures fault { IfErr result (IsFaultByOrMemory layered.now (C.means chooser.now layered.now)
         (C.count chooser.now) (C.costs chooser.now)) }
 {
-    let mut progress = Progress::new(alloc, layered, stepper, chooser.steps())?;
-    match find_fault(layered, stepper, chooser, &mut progress) {
+    let end = find_end(alloc, layered, stepper, chooser)?;
+    match end.fault {
         None => Ok(Valid {
-            operators: progress.operators,
+            operators: end.operators,
             cost: chooser.cost(),
         }),
         Some(fault) => Err(fault),
     }
 }
 
-/// Makes the plan's steps up to its fault. Returns the fault, or `None` if the plan is valid. Adds the operators of the steps before the
-/// fault to `progress`, which must have room for them. It can't allocate, since it has no allocator.
-pub fn find_fault<E: Settle<T> + Drop, T: Grounded, C: Chooser<T>>(
+/// Makes the plan's steps up to its fault, and tests the goal and the cost if there is none. All memory is allocated before the first step.
+pub fn find_end<E: Settle<T> + Drop, T: Grounded, C: Chooser<T>>(
+    alloc: Global,
     layered: &Layered<T>,
     stepper: &mut Stepper<E>,
     chooser: &C,
-    progress: &mut Progress,
-) -> Option<PlanFault>
-    requires at { IsAt E.ready E.follows layered.now stepper.old progress.old.state }
+) -> Result<PlanEnd, AllocError>
+    requires prepared { IsPrepared E.ready layered.now stepper.old }
     requires ready { C.ready chooser.now layered.now }
-    requires start { IsStart layered.now (C.count chooser.now) progress.old }
-    ensures at { IsAt E.ready E.follows layered.now stepper.new progress.new.state }
-    ensures noted { stepper.new.deleted.noted ≡ stepper.old.deleted.noted }
-    ensures ends { EndsPlan layered.now (C.means chooser.now layered.now) (C.count chooser.now)
-        (C.costs chooser.now) progress.new.operators.items result }
-    ensures room { vec_capacity progress.old.operators ≤ vec_capacity progress.new.operators }
+    ensures prepared { IsPrepared E.ready layered.now stepper.new }
+    ensures ends { IfOk result (λ end. EndsPlan layered.now (C.means chooser.now layered.now)
+        (C.count chooser.now) (C.costs chooser.now) end.operators.items end.fault) }
 {
-    if let Some(fault) = make_steps(layered, stepper, chooser, progress) {
-        return Some(fault);
-    }
-    judge_last(layered, progress, chooser.cost())
-}
-
-/// Makes the steps that the chooser chooses operators for, from the initial state, up to the first that fails. Returns its fault, or `None`
-/// if all succeed. Adds their operators to `progress`, which must have room for them.
-fn make_steps<E: Settle<T> + Drop, T: Grounded, C: Chooser<T>>(
-    layered: &Layered<T>,
-    stepper: &mut Stepper<E>,
-    chooser: &C,
-    progress: &mut Progress,
-) -> Option<PlanFault>
-    requires at { IsAt E.ready E.follows layered.now stepper.old progress.old.state }
-    requires ready { C.ready chooser.now layered.now }
-    requires start { IsStart layered.now (C.count chooser.now) progress.old }
-    ensures at { IsAt E.ready E.follows layered.now stepper.new progress.new.state }
-    ensures noted { stepper.new.deleted.noted ≡ stepper.old.deleted.noted }
-    ensures makes { Makes layered.now (C.means chooser.now layered.now)
-        progress.new.operators.items progress.new.state }
-    ensures ends { EndsSteps layered.now (C.means chooser.now layered.now) (C.count chooser.now)
-        progress.new.operators.items progress.new.state result }
-    ensures room { vec_capacity progress.old.operators ≤ vec_capacity progress.new.operators }
-{
-    for step in 0..chooser.steps() {
-        match make_plan_step(layered, stepper, chooser, step, &mut progress.state) {
-            Ok(operator) => progress.operators.push(operator).unwrap(),
-            Err(fault) => return Some(fault),
-        }
-    }
-    None
-}
-
-/// Chooses the operator that the step means in the state, and makes its step from the state that the evaluator settled last. Returns the
-/// operator. If the step fails, leaves the state unchanged and returns the fault.
-#[tactic(auto, using(crate::proofs::NextStates::fault_is_conflict))]
-#[inline(always)]
-fn make_plan_step<E: Settle<T> + Drop, T: Grounded, C: Chooser<T>>(
-    layered: &Layered<T>,
-    stepper: &mut Stepper<E>,
-    chooser: &C,
-    before: usize,
-    state: &mut State,
-) -> Result<u32, PlanFault>
-    requires at { IsAt E.ready E.follows layered.now stepper.old state.old }
-    requires ready { C.ready chooser.now layered.now }
-    requires exists { before < C.count chooser.now }
-    requires few { C.count chooser.now < 2 ^ 64 }
-    ensures at { IsAt E.ready E.follows layered.now stepper.new state.new }
-    ensures noted { stepper.new.deleted.noted ≡ stepper.old.deleted.noted }
-    ensures makes { MakesStepBy layered.now (C.means chooser.now layered.now before state.old)
-        state.old (before + 1) state.new result }
-{
-    let step = before + 1;
-    match chooser.choose(layered, state, before) {
-        Choice::Unknown => Err(PlanFault::NoOperator { step }),
-        Choice::Blocked => Err(PlanFault::NotApplicable { step }),
-        Choice::Found(operator) => match go_on_from(layered, stepper, operator, state) {
-            Ok(()) => Ok(operator),
-            Err(_) => Err(PlanFault::Conflict { step, operator }),
-        },
-    }
+    let mut operators = Vec::with_capacity(alloc, chooser.steps())?;
+    let mut state = initial_of(alloc, layered, stepper)?;
+    let fault = match make_steps(layered, stepper, chooser, &mut state, &mut operators) {
+        Some(fault) => Some(fault),
+        None => last_fault(layered, operators.as_slice(), &state, chooser.cost()),
+    };
+    Ok(PlanEnd { operators, fault })
 }

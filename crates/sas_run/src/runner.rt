@@ -10,7 +10,7 @@ ghost use Rattle.sas_run.specs.Running.{IsChoice, IsFaultOrMemory, IsGoalAnswer,
 use crate::checker::{Checker, checker_for};
 use crate::plain_steps::old_values_hold;
 use crate::plan_check::{PlanFault, Valid};
-use crate::progress::first_missed;
+use crate::goal_and_cost::first_missed;
 use crate::stepper::{initial_of, step_on};
 use crate::steps::{StepFault, missed_precondition};
 use sas_core::{Grounded, Stepwise, Task};

@@ -1,0 +1,42 @@
+-- An observer is told of the next step. Operators that go through are made once more.
+use Rattle.sas_run.proofs.Imports.{◌≡◌, ℕ, ◌+◌, ◌<◌, List, [], ◌++◌, length, get_or, Option, None, Some, Ok, sym, ap, subst, ◌∙◌, arith, Parts, operator_at, IsLayered, Step, PlanFault, Memory, NoOperator, NotApplicable, Conflict, GoalMissed, CostDiffers, Choice, GoesThrough, Makes, MakesStepBy, EndsSteps, StepFailsBy, IsTold, CanSee, Vec}
+use Rattle.sas_run.proofs.GoingByNumbers.{goes_one_more, goes_on}
+use Rattle.sas_run.proofs.MadeSteps.{by_number, front, whole}
+
+module _ {O : Type 0} {Admits : O → Parts → ℕ → ℕ → Type 0} {Sees : Parts → O → O → List ℕ → Type 0} (p : Parts) (Means : ℕ → List ℕ → Choice → Type 0) where
+  -- one more step was made
+  pub told_next : (first now : O) (steps before : ℕ) (operators s : List ℕ) (operator : ℕ) (next : List ℕ) → CanSee Admits Sees p Means steps first → Makes p Means operators s
+      → length operators ≡ before → before < steps → Sees p first now operators → MakesStepBy p (Means before s) s (before + 1) next (Ok operator)
+      → IsTold Admits Sees p first operators now (before + 1) operator next
+  told_next first now steps before operators s operator next can makes many lt sees (means, exists, step) = record {
+    number = ap (λ n. n + 1) (sym many);
+    through = goes_one_more p operators s operator next makes.through exists step;
+    admits = can.each before operator s lt means;
+    sees = sees;
+  }
+
+-- ---- operators that are known to go through
+
+module _ (p : Parts) (layered : IsLayered p) (numbers last : List ℕ) (through : GoesThrough p numbers last) where
+  -- none of them fails
+  fails_not : (k : ℕ) (s : List ℕ) (step : ℕ) (fault : PlanFault) → (get_or numbers k 0 < length p.operators) × ((next : List ℕ) × Step p s (operator_at p (get_or numbers k 0)) next)
+      → StepFailsBy p (by_number p numbers k s) s step fault → ⊥
+  fails_not k s step (NoOperator at) on fails = fails.1 on.0
+  fails_not k s step (NotApplicable at) on fails = fails.1.1 on.1.1.applicable
+  fails_not k s step (Conflict at operator) on fails = fails.2 (rw fails.1.0 on.1.1.agree)
+  fails_not k s step (GoalMissed index) on fails = fails
+  fails_not k s step (CostDiffers sum) on fails = fails
+  fails_not k s step Memory on fails = fails
+
+  -- so all are made
+  pub all_made : (operators s : List ℕ) (fault : Option PlanFault) → Makes p (by_number p numbers) operators s → EndsSteps p (by_number p numbers) (length numbers) operators s fault
+      → operators ≡ numbers
+  all_made operators s None makes ends = whole p numbers operators s makes ends
+  all_made operators s (Some fault) makes ends =
+      let there = subst (λ os. GoesThrough p os s) (front p numbers operators s makes (omega (arith, ends.0))) makes.through in
+      absurd (fails_not (length operators) s (length operators + 1) fault (goes_on p layered numbers last (length operators) s through ends.0 there) ends.1)
+
+-- ---- the operators that a list notes
+
+pub noted : (first now : Vec ℕ) (operators : List ℕ) → first.items ≡ [] → now.items ≡ first.items ++ operators → operators ≡ now.items
+noted first now operators none is = sym (is ∙ ap (λ (l : List ℕ). l ++ operators) none)

@@ -1,0 +1,93 @@
+// Makes the steps of plans, and tells an observer of each.
+ghost use Rattle.std.specs.Prelude.{◌≡◌, ◌^◌, ◌+◌, ◌<◌, ℕ, List, [], length, slice_index};
+ghost use Rattle.sas_meaning.specs.InitialStates.{IsInitial};
+ghost use Rattle.sas_run.specs.ByNumbers.{GoesThrough};
+ghost use Rattle.sas_run.specs.Choosers.{MakesStepBy};
+ghost use Rattle.sas_run.specs.Observing.{AreMadeAndSeen, CanSee};
+ghost use Rattle.sas_run.specs.Stepping.{IsAt};
+
+use crate::choosers::{Chooser, NumberedPlan};
+use crate::observer::Observer;
+use crate::plan_check::PlanFault;
+use crate::runner::Choice;
+use crate::stepper::{Stepper, go_on_from};
+use sas_core::Grounded;
+use sas_meaning::{Layered, Settle, State};
+
+/// Makes the steps that the chooser chooses operators for, from the initial state, up to the first that fails. Returns its fault, or `None`
+/// if all succeed. Tells the observer of each step that was made. It can't allocate, since it has no allocator.
+pub fn make_steps<E: Settle<T> + Drop, T: Grounded, C: Chooser<T>, O: Observer<T>>(
+    layered: &Layered<T>,
+    stepper: &mut Stepper<E>,
+    chooser: &C,
+    state: &mut State,
+    observer: &mut O,
+) -> Option<PlanFault>
+    requires at { IsAt E.ready E.follows layered.now stepper.old state.old }
+    requires initial { IsInitial layered.now state.old }
+    requires ready { C.ready chooser.now layered.now }
+    requires observer { CanSee O.admits O.sees layered.now
+        (C.means chooser.now layered.now) (C.count chooser.now) observer.old }
+    ensures at { IsAt E.ready E.follows layered.now stepper.new state.new }
+    ensures made { AreMadeAndSeen O.sees layered.now (C.means chooser.now layered.now)
+        (C.count chooser.now) observer.old observer.new state.new result }
+{
+    for before in 0..chooser.steps() {
+        match make_plan_step(layered, stepper, chooser, before, state) {
+            Ok(operator) => observer.observe(layered, before + 1, operator, state),
+            Err(fault) => return Some(fault),
+        }
+    }
+    None
+}
+
+/// Makes the plan's step after so many steps. Returns its operator. If it fails, leaves the state unchanged and returns the fault.
+#[tactic(auto, using(crate::proofs::NextStates::fault_is_conflict))]
+#[inline(always)]
+fn make_plan_step<E: Settle<T> + Drop, T: Grounded, C: Chooser<T>>(
+    layered: &Layered<T>,
+    stepper: &mut Stepper<E>,
+    chooser: &C,
+    before: usize,
+    state: &mut State,
+) -> Result<u32, PlanFault>
+    requires at { IsAt E.ready E.follows layered.now stepper.old state.old }
+    requires ready { C.ready chooser.now layered.now }
+    requires exists { before < C.count chooser.now }
+    requires few { C.count chooser.now < 2 ^ 64 }
+    ensures at { IsAt E.ready E.follows layered.now stepper.new state.new }
+    ensures makes { MakesStepBy layered.now (C.means chooser.now layered.now before state.old)
+        state.old (before + 1) state.new result }
+{
+    let step = before + 1;
+    match chooser.choose(layered, state, before) {
+        Choice::Unknown => Err(PlanFault::NoOperator { step }),
+        Choice::Blocked => Err(PlanFault::NotApplicable { step }),
+        Choice::Found(operator) => match go_on_from(layered, stepper, operator, state) {
+            Ok(()) => Ok(operator),
+            Err(_) => Err(PlanFault::Conflict { step, operator }),
+        },
+    }
+}
+
+/// Makes the steps of these operators, which all succeed, from the initial state. Tells the observer of each.
+pub fn replay<E: Settle<T> + Drop, T: Grounded, O: Observer<T>>(
+    layered: &Layered<T>,
+    stepper: &mut Stepper<E>,
+    operators: &[u32],
+    state: &mut State,
+    observer: &mut O,
+)
+    requires at { IsAt E.ready E.follows layered.now stepper.old state.old }
+    requires initial { IsInitial layered.now state.old }
+    requires through { (last : List ℕ) × GoesThrough layered.now operators.now last }
+    requires none { O.sees layered.now observer.old observer.old [] }
+    requires each { (k : ℕ) → k < length operators.now
+        → O.admits observer.old layered.now (k + 1) (slice_index operators.now k) }
+    ensures at { IsAt E.ready E.follows layered.now stepper.new state.new }
+    ensures through { GoesThrough layered.now operators.now state.new }
+    ensures sees { O.sees layered.now observer.old observer.new operators.now }
+{
+    let plan = NumberedPlan { operators, cost: 0 };
+    make_steps(layered, stepper, &plan, state, observer);
+}
