@@ -54,9 +54,13 @@ MutexAnswer p output = LayeredGroupsAnswer p (first_fault (layer_checks p)) outp
 
 -- ---- whether a plan solves it
 
--- the answer about a valid plan: how many steps it has, and its cost
+-- the answer about a valid plan with so many steps and this cost
+abbrev pub valid_by : ℕ → ℕ → Output
+valid_by steps cost = record { text = valid_line steps cost; status = Yes }
+
+-- that a plan is valid
 abbrev pub valid_answer : PlanParts → Output
-valid_answer plan = record { text = valid_line (length plan.steps) plan.cost; status = Yes }
+valid_answer plan = valid_by (length plan.steps) plan.cost
 
 -- the answer about a plan with this cost and this fault; there is none for refused memory
 abbrev pub invalid_answer : ℕ → PlanFault → Option Output

@@ -1,78 +1,22 @@
-// Whether a plan solves a task, as an answer.
+// The answers about plans.
 ghost use Rattle.std.specs.Prelude.{◌≡◌, option_map, Some, IfOk};
-ghost use Rattle.sas_answers.specs.Answers.{VerdictAnswer, valid_answer, invalid_answer};
+ghost use Rattle.sas_answers.specs.Answers.{valid_by, invalid_answer};
 ghost use Rattle.sas_answers.specs.Ending.{output_of};
-ghost use Rattle.sas_answers.specs.NumberedPlans.{NumbersAnswer, number_fault_words};
+ghost use Rattle.sas_answers.specs.NumberedPlans.{invalid_by_numbers, number_fault_words};
 ghost use Rattle.sas_answers.specs.PlanWords.{fault_words, step_words, goal_words, sum_words, invalid_line};
 ghost use Rattle.sas_answers.specs.ValidLine.{valid_line};
 
 use crate::{Answer, Status};
-use sas_axioms::Worklist;
-use sas_core::{Grounded, Stepwise};
-use sas_flat::{FlatPlan, FlatTask};
 use sas_lines::{push_line, push_number};
-use sas_meaning::Layered;
-use sas_run::{LoadedTask, NumberedPlan, PlanFault, check_once};
+use sas_run::PlanFault;
 use std::alloc::{AllocError, Global};
 
-/// Returns the answer about whether the plan is valid. The evaluator counts open conditions.
-pub fn verdict_answer(
-    alloc: Global,
-    layered: &Layered<FlatTask>,
-    plan: &FlatPlan,
-) -> Result<Answer, AllocError>
-    ensures { IfOk result (λ a. VerdictAnswer layered.now plan.now (output_of a)) }
-{
-    let worklist = Worklist::new(alloc, layered)?;
-    match check_once(alloc, layered, worklist, plan) {
-        Ok(_) => accept_plan(alloc, plan),
-        Err(fault) => answer_fault(alloc, plan.cost(), fault),
-    }
-}
-
-/// Returns the answer about whether the plan is valid, as `verdict_answer` does, for a task that is loaded for many plans.
-pub fn answer_by(
-    alloc: Global,
-    loaded: &mut LoadedTask<Worklist, FlatTask>,
-    plan: &FlatPlan,
-) -> Result<Answer, AllocError>
-    ensures answer { IfOk result (λ a. VerdictAnswer loaded.old plan.now (output_of a)) }
-    ensures same { loaded.new ≡ loaded.old }
-{
-    match loaded.check_plan(alloc, plan) {
-        Ok(_) => accept_plan(alloc, plan),
-        Err(fault) => answer_fault(alloc, plan.cost(), fault),
-    }
-}
-
-/// Returns the answer about whether these operators are a valid plan. No name is looked up.
-pub fn answer_numbers(
-    alloc: Global,
-    loaded: &mut LoadedTask<Worklist, FlatTask>,
-    plan: &NumberedPlan<'_>,
-) -> Result<Answer, AllocError>
-    ensures answer { IfOk result (λ a. NumbersAnswer loaded.old
-        plan.now.operators.now plan.now.cost (output_of a)) }
-    ensures same { loaded.new ≡ loaded.old }
-{
-    match loaded.check_numbers(alloc, plan) {
-        Ok(()) => Ok(Answer {
-            text: valid_text(alloc, plan.operators.len(), plan.cost)?,
-            status: Status::Yes,
-        }),
-        Err(fault) => Ok(Answer {
-            text: number_fault_text(alloc, plan.cost, fault)?,
-            status: Status::No,
-        }),
-    }
-}
-
-/// Returns the answer about a plan that is valid.
-pub fn accept_plan(alloc: Global, plan: &FlatPlan) -> Result<Answer, AllocError>
-    ensures { IfOk result (λ a. output_of a ≡ valid_answer plan.now) }
+/// Returns the answer about a valid plan with so many steps and this cost.
+pub fn accept_plan(alloc: Global, steps: usize, cost: u64) -> Result<Answer, AllocError>
+    ensures { IfOk result (λ a. output_of a ≡ valid_by steps cost) }
 {
     Ok(Answer {
-        text: valid_text(alloc, plan.steps(), plan.cost())?,
+        text: valid_text(alloc, steps, cost)?,
         status: Status::Yes,
     })
 }
@@ -83,6 +27,16 @@ pub fn answer_fault(alloc: Global, cost: u64, fault: PlanFault) -> Result<Answer
 {
     Ok(Answer {
         text: fault_text(alloc, cost, fault)?,
+        status: Status::No,
+    })
+}
+
+/// Returns the answer about operators, by their numbers, with this cost and this fault. For `Memory` it returns an `Err`.
+pub fn answer_number_fault(alloc: Global, cost: u64, fault: PlanFault) -> Result<Answer, AllocError>
+    ensures { IfOk result (λ a. invalid_by_numbers cost fault ≡ Some (output_of a)) }
+{
+    Ok(Answer {
+        text: number_fault_text(alloc, cost, fault)?,
         status: Status::No,
     })
 }

@@ -10,4 +10,4 @@ mod step_names;
 mod step_operators;
 
 pub use names::{Names, existing};
-pub use step_operators::{StepOperators, next_in};
+pub use step_operators::{StepOperators, nameless, next_in};

@@ -2,6 +2,7 @@
 ghost use Rattle.std.specs.Prelude.{◌≡◌, ℕ, List, IfOk, None, slice_index_or};
 ghost use Rattle.sas_names.specs.Chains.{AreChains, AreStepOperators};
 ghost use Rattle.sas_names.specs.Nameless.{nameless_steps};
+ghost use Rattle.sas_names.specs.Names.{AreFirsts};
 ghost use Rattle.sas_names.specs.StepNames.{AreStepNames};
 
 use crate::names::{Names, existing};
@@ -101,19 +102,15 @@ impl StepOperators {
         }
         Ok(StepOperators { firsts, nexts })
     }
+}
 
-    /// Returns how many of the plan's steps name no operator. `task` is the task of these operators.
-    pub fn nameless<T: Grounded>(&self, task: &T) -> usize
-        ensures { (steps : List (List ℕ))
-            → AreStepOperators (T.says task.now) steps self.now.firsts.items self.now.nexts.items
-            → result ≡ nameless_steps (T.says task.now) steps }
-    {
-        let operators = task.operators();
-        self.firsts
-            .iter()
-            .filter(|first| **first >= operators)
-            .count()
-    }
+/// Returns how many of the steps name no operator. `firsts` has the lowest operator of the name of each step, as `StepOperators` has it.
+pub fn nameless<T: Grounded>(task: &T, firsts: &[u32]) -> usize
+    ensures { (steps : List (List ℕ)) → AreFirsts (T.says task.now) steps firsts.now
+        → result ≡ nameless_steps (T.says task.now) steps }
+{
+    let operators = task.operators();
+    firsts.iter().filter(|first| **first >= operators).count()
 }
 
 /// Returns whether the plan has at least half as many steps as the task has operators. Then building a table of all operators' names takes

@@ -1,6 +1,6 @@
 -- What is known of a run that was retraced up to a fault.
 use Rattle.std.proofs.lemmas.Grind.{common_steps}
-use Rattle.sas_plan_reasons.proofs.Imports.{◌≡◌, ℕ, zero, suc, ◌-◌, ◌<◌, List, [], ◌∷◌, ◌++◌, length, take, get_or, Option, None, Some, refl, sym, ◌∙◌, ap, subst, inl, inr, arith, append-nil, take-append_seam, Parts, PlanParts, operator_at, IsState, IsLayered, IsSettled, Agree, NoOperator, Conflict, IsNamed, LeadFrom, LeadsTo, ComesTo, IsFaultOf, leads_one_way, Line, Run, last_state, StepsSucceed, leads_to_last, OtherOperator, PlanHistory, IsOtherIfAny, Retraces, ComesUnambiguously, IsBehind, ReportsOnce, last_rests, AreCouldBeLines, AreFaultLines, IsWhy, Executed, IsFound, HaveNoNamesakes, PlanFault, step_at, nameless_lines, with_lines}
+use Rattle.sas_plan_reasons.proofs.Imports.{◌≡◌, ℕ, zero, suc, ◌-◌, ◌<◌, List, [], ◌∷◌, ◌++◌, length, take, get_or, Option, None, Some, refl, sym, ◌∙◌, ap, subst, inl, inr, arith, append-nil, take-append_seam, Parts, PlanParts, operator_at, IsState, IsLayered, IsSettled, Agree, NoOperator, Conflict, IsNamed, LeadFrom, LeadsTo, ComesTo, IsFaultOf, leads_one_way, Line, Run, last_state, StepsSucceed, leads_to_last, OtherOperator, PlanHistory, IsOtherIfAny, Retraces, ComesUnambiguously, IsBehind, ReportsOnce, last_rests, AreCouldBeLines, AreFaultLines, IsWhy, IsEnding, HaveNoNamesakes, PlanFault, step_at, nameless_lines, with_lines}
 use Rattle.sas_answers.specs.declared.line.Line.TheVariants as line
 
 module _ (p : Parts) (plan : PlanParts) (history : PlanHistory) (run : Run) (r : Retraces p plan history run) where
@@ -56,10 +56,10 @@ none_other p run through none k operator is =
     let named = named_along p leads.initial run.steps run.operators (last_state run) leads.goes k is.exists in
     none k operator (omega (arith, is.exists, through.operators)) is.above (subst (λ name. IsNamed p name operator) (sym named.named) is.of_name)
 
--- the run of an execution that found the fault
-pub comes_unambiguously : (p : Parts) (plan : PlanParts) (fault : PlanFault) (e : Executed) (found : IsFound p plan (Some fault) e) → HaveNoNamesakes e.task e.operators
-    → ComesUnambiguously p plan fault found.run
-comes_unambiguously p plan fault e found none = grind (arith, none_other)
+-- the run that ends with the fault
+pub comes_unambiguously : (p : Parts) (plan : PlanParts) (operators : List ℕ) (fault : PlanFault) (ending : IsEnding p plan operators (Some fault)) → HaveNoNamesakes p operators
+    → ComesUnambiguously p plan fault ending.0
+comes_unambiguously p plan operators fault ending none = grind (arith, none_other)
 
 -- the reasons where no operator has the step's name
 pub unknown_why : (p : Parts) (plan : PlanParts) (step : ℕ) (run : Run) (lines : List Line) → ComesUnambiguously p plan (NoOperator step) run

@@ -70,7 +70,6 @@ pub use Rattle.sas_core.specs.declared.parts.Operator.{Operator}
 pub use Rattle.sas_core.specs.declared.parts.Parts.{Parts}
 pub use Rattle.sas_lines.proofs.EndedLines.{text_of_both}
 pub use Rattle.sas_lines.specs.Lines.{text}
-pub use Rattle.sas_meaning.proofs.DerivedVariables.{derived_within}
 pub use Rattle.sas_meaning.proofs.Facts.{hold_or_not}
 pub use Rattle.sas_meaning.proofs.Forced.{differs_not, differs_true, condition_within, fact_within}
 pub use Rattle.sas_meaning.proofs.Layers.{layer_cases, layer_decides, given_on, given_off, one_layer, on_layer_within}
@@ -78,28 +77,29 @@ pub use Rattle.sas_meaning.proofs.Members.{contains_head, contains_tail, contain
 pub use Rattle.sas_meaning.proofs.Places.{takes, passes_by, place_is, is_place, places_ascend, places_to, places_one_more, places_all}
 pub use Rattle.sas_meaning.proofs.Rules.{new_value_is}
 pub use Rattle.sas_meaning.proofs.Unique.{differs_decides}
-pub use Rattle.sas_meaning.specs.ChangedVariables.{MayHaveChanged}
-pub use Rattle.sas_meaning.specs.DerivedVariables.{AreDerived}
 pub use Rattle.sas_meaning.specs.Layers.{IsOnLayer, default_of, CanFire, can_fire, IsLayered, IsBasic, LooksDown}
 pub use Rattle.sas_meaning.specs.Places.{can_give, places_from, places}
 pub use Rattle.sas_meaning.specs.Settled.{new_value_of, differs, IsSettled, value_with, is_on_layer, IsClosed, IsSettledAt}
 pub use Rattle.sas_meaning.specs.States.{Holds, AllHold}
-pub use Rattle.sas_meaning.specs.Steps.{Fires, Agree, preconditions}
-pub use Rattle.sas_meaning.specs.declared.changed_variables.ChangedVariables.{ChangedVariables}
+pub use Rattle.sas_meaning.specs.InitialStates.{IsInitial}
+pub use Rattle.sas_meaning.specs.Steps.{Fires, Agree, Step, preconditions}
 pub use Rattle.sas_run.proofs.Choosing.{named_or_not, applicable_or_not}
 pub use Rattle.sas_run.proofs.Determined.{leads_one_way}
-pub use Rattle.sas_run.proofs.Executing.{as_many, executed_fits, name_is}
+pub use Rattle.sas_run.proofs.Going.{MakesStep}
+pub use Rattle.sas_run.proofs.GoingByNumbers.{goes_one_way, goes_one_more, goes_on, goes_none, leads_on_numbers}
+pub use Rattle.sas_run.proofs.MadeSteps.{named_ending, named_valid, named_faulty, numbered_valid, numbered_faulty}
 pub use Rattle.sas_run.proofs.Giving.{not_both}
 pub use Rattle.sas_run.proofs.PlanVerdicts.{some_verdict, valid_has_no_fault, fault_is_one}
 pub use Rattle.sas_run.proofs.Ranges.{preconditions_within, effect_within}
-pub use Rattle.sas_run.proofs.Runs.{some_run, one_run, leads_to_last, last_rests, operators_exist, to_fault, state_fits}
-pub use Rattle.sas_run.specs.Executions.{Executed, next_name, next_operator, Executes, IsFound, Advances, HaveNoNamesakes}
+pub use Rattle.sas_run.proofs.Runs.{some_run, one_run, leads_to_last, last_rests, operators_exist, to_fault, state_fits, run_goes}
+pub use Rattle.sas_run.specs.ByNumbers.{GoesThrough}
+pub use Rattle.sas_run.specs.Choosers.{HaveOperators}
+pub use Rattle.sas_run.specs.Observing.{IsTold}
 pub use Rattle.sas_names.specs.Named.{IsNamed}
 pub use Rattle.sas_names.specs.Nameless.{nameless_steps}
 pub use Rattle.sas_run.specs.Plans.{IsApplicable, LeadFrom, LeadsTo, IsValid}
 pub use Rattle.sas_run.specs.Running.{IsLater, IsLaterIfAny}
-pub use Rattle.sas_run.specs.Runs.{Run, last_state, state_at, StepsSucceed, steps_before, RunEndsWith}
-pub use Rattle.sas_run.specs.Stepping.{ListsChanges, HasFactOn}
+pub use Rattle.sas_run.specs.Runs.{Run, last_state, state_at, StepsSucceed, steps_before, RunEndsWith, IsEnding}
 pub use Rattle.sas_run.specs.Verdicts.{IsFirstMissed, ComesTo, IsFaultOf}
 pub use Rattle.sas_run.specs.declared.plan_check.PlanFault.{PlanFault}
 pub use Rattle.sas_run.specs.declared.plan_check.PlanFault.TheVariants.{Memory, NoOperator, NotApplicable, Conflict, GoalMissed, CostDiffers}
@@ -109,8 +109,9 @@ pub use Rattle.sas_plan_reasons.specs.Derivation.{needs_rules, has_rule, CanBeAd
 pub use Rattle.sas_plan_reasons.specs.Report.{lines_of_keepers, is_kept, ReportsGivers, IsReport, IsBehind, ReportsOnce, IsReportOf, AddsLines}
 pub use Rattle.sas_plan_reasons.specs.Lines.{with_line, with_lines, LineThen, LinesOfEach}
 pub use Rattle.sas_plan_reasons.specs.Lowest.{IsLowest, AreLowest}
-pub use Rattle.sas_plan_reasons.specs.MayMean.{after_spaces, squeezed, folded, similar_operator, IsOther, MayMean}
-pub use Rattle.sas_plan_reasons.specs.Retracing.{HavePlaces, NotedAt, LeftAt, Notes, change_text, ListCoversChanges, AreFirstChanges, IsOtherIfAny, Retraces, ComesUnambiguously, HaveSince}
+pub use Rattle.sas_plan_reasons.specs.MayMean.{HaveNoNamesakes, after_spaces, squeezed, folded, similar_operator, IsOther, MayMean}
+pub use Rattle.sas_plan_reasons.specs.Noting.{CanList, ListCoversChanges, ListsBelow, AddsOther, HasNoted}
+pub use Rattle.sas_plan_reasons.specs.Retracing.{HavePlaces, NotedAt, LeftAt, Notes, change_text, AreFirstChanges, IsOtherIfAny, Retraces, ComesUnambiguously, HaveSince}
 pub use Rattle.sas_plan_reasons.specs.Origins.{is_met, open_with, IsReady, IsOrdered, HasNoneOpen, AreOpen, AreOpenAtFirst, unmet, work_left, Closes, CanMeetAll, MeetsAll, Meets, giver_at, AreGivers, IsDerivedOrder, Builds, IsOrderSoFar, IsNext, is_reported, ArePlaces, HasRule, OriginsMatchState, AreOrigins, HasRuleBelow, IsReportedOf, AreReportedBelow, SameOrigins, unreported, AddsRules, ReportsDerivation}
 pub use Rattle.sas_plan_reasons.specs.ReasonLaws.{replayed, RequiresLower, RestsOnEarlier, IsAlike, IsLowestIfAny}
 pub use Rattle.sas_plan_reasons.specs.Trace.{run_lines, changed, is_changed, change_line, change_lines, step_lines, step_line}
@@ -122,8 +123,14 @@ pub use Rattle.sas_plan_reasons.specs.declared.order.DerivedOrder.{DerivedOrder}
 pub use Rattle.sas_plan_reasons.specs.declared.order.OpenConditions.{OpenConditions}
 pub use Rattle.sas_plan_reasons.specs.declared.order.OrderSoFar.{OrderSoFar}
 pub use Rattle.sas_plan_reasons.specs.declared.origins.Origins.{Origins}
-pub use Rattle.sas_plan_reasons.specs.declared.second_pass.OtherOperator.{OtherOperator}
-pub use Rattle.sas_plan_reasons.specs.declared.second_pass.PlanHistory.{PlanHistory}
+pub use Rattle.sas_plan_reasons.specs.declared.history.OtherOperator.{OtherOperator}
+pub use Rattle.sas_plan_reasons.specs.declared.history.Historian.{Historian}
+pub use Rattle.sas_plan_reasons.specs.declared.history.PlanHistory.{PlanHistory}
+pub use Rattle.sas_plan_reasons.specs.declared.listing.Listing.{Listing}
+pub use Rattle.sas_plan_reasons.specs.declared.tracing.Tracer.{Tracer}
+pub use Rattle.sas_plan_reasons.specs.Tracing.{HasTraced}
+pub use Rattle.sas_names.specs.Chains.{IsChain, AreStepOperators}
+pub use Rattle.sas_names.specs.Names.{IsNextNamed, IsLowestNamed, existing}
 pub use Rattle.sas_plan_reasons.specs.declared.causes.Report.{Report}
 pub use Rattle.sas_core.specs.Tasks.{cost_of}
 pub use Rattle.std.specs.Prelude.{sum_by, IsSomeAnd}

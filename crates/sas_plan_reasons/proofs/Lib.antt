@@ -26,7 +26,7 @@ pub mod Building
 pub mod ReportingSteps
 pub mod ReportedRules
 mod Changing
-mod ChangedLists
+mod Listing
 mod Standing
 mod Replaying
 pub mod Answering

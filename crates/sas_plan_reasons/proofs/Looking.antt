@@ -1,8 +1,6 @@
 -- It is enough to look at the variables that a step may have changed.
 use Rattle.std.proofs.lemmas.Grind.{common_steps}
-use Rattle.std.specs.Borrow.{Bor}
-use Rattle.std.specs.Prelude.{IfSome, IfNone}
-use Rattle.sas_plan_reasons.proofs.Imports.{◌≡◌, ◌≢◌, ◌⊎◌, ℕ, ◌+◌, ◌<◌, true, false, IsFalse, List, length, take, take_more, get_or, if◌then◌else◌, sym, ◌∙◌, subst, inl, inr, arith, All, Contains, Contains-push_cases, cases_eq, cases_Bool, Fact, Parts, IsDerived, ChangedVariables, MayHaveChanged, AreDerived, derived_within, ListsChanges, HasFactOn, Changes, HavePlaces, NotedAt, LeftAt, Notes, Option, IsTrue, unwrap_or}
+use Rattle.sas_plan_reasons.proofs.Imports.{◌≡◌, ◌≢◌, ◌⊎◌, ℕ, ◌+◌, ◌<◌, List, length, take, take_more, get_or, sym, ◌∙◌, ap, subst, inl, inr, arith, Contains, Contains-push_cases, cases_eq, Changes, HavePlaces, NotedAt, LeftAt, Notes, ListCoversChanges}
 
 -- ---- noting twice
 
@@ -34,39 +32,19 @@ notes_none step s old These places none = grind (arith, common_steps, none)
 pub among_more : {A : Type 0} (items : List A) (i : ℕ) (d x : A) → i < length items → Contains (take (i + 1) items) x → Contains (take i items) x ⊎ (get_or items i d ≡ x)
 among_more items i d x lt there = Contains-push_cases (take i items) (get_or items i d) x (subst (λ (l : List _). Contains l x) (take_more items i d lt) there)
 
--- ---- all changes
-
--- where any derived variable may have changed, all of them; else those on the list
-abbrev pub looked_at : List ℕ → ChangedVariables → List ℕ
-looked_at derived touched = if touched.any then derived else touched.vars.items
-
-pub looked_is : (result : Bor (List ℕ)) (vars : Option (Bor (List ℕ))) (derived : Bor (List ℕ)) (its touched : ChangedVariables) → result ≡ unwrap_or vars derived
-    → IfSome vars (λ v. IsFalse its.any × (v.now ≡ its.vars.items)) → IfNone vars (IsTrue its.any) → its ≡ touched → result.now ≡ looked_at derived.now touched
-looked_is result h1 derived its touched is some none same = grind arith
-
-module _ (p : Parts) (s s' : List ℕ) (deleted : List Fact) (touched : ChangedVariables) (derived : List ℕ)
-    (lists : ListsChanges p s s' deleted touched) (are : AreDerived p derived) where
-  -- a variable that may have changed is among these
-  looked : (var : ℕ) → IsDerived p.variables var → MayHaveChanged touched var → Contains (looked_at derived touched) var
-  looked var is may = elim (cases_Bool touched.any) [
-    | inl any ↦ rw any (are.each var is)
-    | inr not ↦ rw not (elim may [ inl any ↦ absurd (let f : false ≡ true = sym not ∙ any in cc) | inr there ↦ there ])
-  ]
-
-  -- they exist
-  within : length s' ≡ length p.variables → All (λ (var : ℕ). var < length s') (looked_at derived touched)
-  within fits = grind (arith, cases_Bool, derived_within, get_or)
-
-  -- and so do those of a list that is equal to these
-  pub looked_within : (state vars : List ℕ) → state ≡ s' → vars ≡ looked_at derived touched → length s' ≡ length p.variables → All (λ (var : ℕ). var < length state) vars
-  looked_within state vars same looked fits = rw (same, looked) (within fits)
-
-  -- so all is noted where those of the facts that were deleted and then these are noted
-  noted_all : (step : ℕ) (old mid new : Changes) → old.values.items ≡ s → Notes step s' (HasFactOn deleted) old mid → Notes step s' (Contains (looked_at derived touched)) mid new
-      → Notes step s' (λ (var : ℕ). var < length s') old new
-  noted_all step old mid new values first second = grind (arith, some_then, get_or, noted_before, noted_then, looked)
-
-  -- the same where the lists and the state are only equal to these
-  pub all_noted : (state vars : List ℕ) (facts : List Fact) (step : ℕ) (old mid new : Changes) → state ≡ s' → facts ≡ deleted → vars ≡ looked_at derived touched → old.values.items ≡ s
-      → Notes step state (HasFactOn facts) old mid → Notes step state (Contains vars) mid new → Notes step s' (λ (var : ℕ). var < length s') old new
-  all_noted state vars facts step old mid new same its are values first second = noted_all step old mid new values (rw (same, its) at first) (rw (same, are) at second)
+-- where the variables that are looked at are all that may have changed, all is noted
+pub notes_all : (s : List ℕ) (step : ℕ) (s' : List ℕ) (listed : List ℕ) (old new : Changes) → old.values ≡ s → length s ≡ length s' → ListCoversChanges s s' listed
+    → Notes step s' (Contains listed) old new → Notes step s' (λ (var : ℕ). var < length s') old new
+notes_all s step s' listed old new values fits covers notes = record {
+  places = notes.places;
+  each = notes.each;
+  these = λ var lt. elim (covers.each var) [
+    | inr there ↦ notes.these var there
+    | inl same ↦ elim (notes.each var) [
+      | inl noted ↦ noted
+      | inr left ↦
+          let is : get_or old.values var 0 ≡ get_or s' var 0 = ap (λ (vs : List ℕ). get_or vs var 0) values ∙ sym same in
+          record { value = left.value ∙ is; changed = λ differs. absurd (differs is); unchanged = λ equal. left.since }
+    ]
+  ];
+}

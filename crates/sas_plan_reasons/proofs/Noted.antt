@@ -1,39 +1,19 @@
 -- What is noted of a run, step by step.
 use Rattle.std.proofs.lemmas.Grind.{common_steps}
-use Rattle.sas_plan_reasons.proofs.Imports.{◌≡◌, ℕ, ◌+◌, ◌<◌, List, length, get_or, Option, Some, None, sym, ◌∙◌, ap, subst, inl, inr, arith, cases_eq, same_lists, get_or_default, Parts, operator_at, PlanParts, Executed, next_name, next_operator, Executes, Advances, IsLaterIfAny, Run, state_at, last_state, StepsSucceed, RunEndsWith, nameless_steps, as_many, executed_fits, name_is, IsSince, MayMean, Changes, OtherOperator, PlanHistory, HavePlaces, AreFirstChanges, Notes, IsOtherIfAny, HaveSince, Retraces, is_some, true, false, false≢true}
+use Rattle.sas_plan_reasons.proofs.Imports.{◌≡◌, ℕ, ◌+◌, ◌<◌, ◌≤◌, List, [], ◌∷◌, ◌++◌, length, take, get_or, Option, Some, None, refl, sym, ◌∙◌, ap, subst, inl, inr, arith, cases_eq, same_lists, get_or_default, take_all, take-append_seam, get_or-append_seam, length-append, Parts, operator_at, IsState, IsLayered, IsInitial, Step, IsLaterIfAny, Run, state_at, last_state, StepsSucceed, GoesThrough, MakesStep, run_goes, goes_one_way, goes_one_more, goes_on, goes_none, leads_on_numbers, IsSince, MayMean, Changes, Historian, OtherOperator, HavePlaces, AreFirstChanges, Notes, IsOtherIfAny, HaveSince, AddsOther, HasNoted, CanList, is_some, true, false, false≢true}
 use Rattle.sas_plan_reasons.proofs.LongerRuns.{first_steps, first_many, first_goes, first_last, first_more, first_all, none_since, one_more, since_changed, since_unchanged, may_mean_longer, still_none, may_mean_now}
 
--- these notes are of the steps of the run that were made
-pub record AreNotes (run : Run) (e : Executed) (changes : Changes) (noted : Option OtherOperator) : Type 0 where
-  pub executes : Executes run e
-  pub values : changes.values.items ≡ e.state
-  pub since : HaveSince e.task (first_steps run e.made) changes.since.items
-  pub other : IsOtherIfAny e.task (first_steps run e.made) noted
+-- ---- which other operator is noted
 
--- what is noted with the next step: what was noted before, or else the lowest operator above its own that it may mean, too, if there is one
-abbrev pub AddsOther : Executed → Option OtherOperator → Option OtherOperator → Type 0
-AddsOther e (Some other) noted = noted ≡ Some other
-AddsOther e None None = IsLaterIfAny e.task e.state (next_operator e) None
-AddsOther e None (Some other) = (other.step ≡ e.made + 1) × IsLaterIfAny e.task e.state (next_operator e) (Some other.operator)
+module _ (p : Parts) (s : List ℕ) (operator step : ℕ) (noted : Option OtherOperator) where
+  pub adds_same : is_some noted ≡ true → AddsOther p s operator step noted noted
+  adds_same is = grind (arith, false≢true)
 
-pub adds_same : (e : Executed) (noted : Option OtherOperator) → is_some noted ≡ true → AddsOther e noted noted
-adds_same e h1 is = grind (arith, false≢true)
+  pub adds_none : is_some noted ≡ false → IsLaterIfAny p s operator None → AddsOther p s operator step noted noted
+  adds_none is none = grind (arith, false≢true)
 
-pub adds_none : (e : Executed) (noted : Option OtherOperator) → is_some noted ≡ false → IsLaterIfAny e.task e.state (next_operator e) None → AddsOther e noted noted
-adds_none e h1 is none = grind (arith, false≢true)
-
-pub adds_now : (e : Executed) (noted : Option OtherOperator) (other : OtherOperator) → is_some noted ≡ false → other.step ≡ e.made + 1
-    → IsLaterIfAny e.task e.state (next_operator e) (Some other.operator) → AddsOther e noted (Some other)
-adds_now e h1 other is step later = grind (arith, false≢true)
-
--- before the first step
-pub notes_start : (run : Run) (e : Executed) (changes : Changes) → Executes run e → e.made ≡ 0 → AreFirstChanges e.state changes
-    → AreNotes run e changes None
-notes_start run e changes executes made first = grind (arith, common_steps, executed_fits, none_since, first_goes, first_many)
-
--- there is a place for each variable
-pub places : (run : Run) (e : Executed) (changes : Changes) (other : Option OtherOperator) → AreNotes run e changes other → HavePlaces (length e.task.variables) changes
-places run e changes other are = grind (arith, common_steps, executed_fits)
+  pub adds_now : (other : OtherOperator) → is_some noted ≡ false → other.step ≡ step → IsLaterIfAny p s operator (Some other.operator) → AddsOther p s operator step noted (Some other)
+  adds_now other is at later = grind (arith, false≢true)
 
 -- ---- one step more
 
@@ -42,15 +22,15 @@ abbrev pub NotesChanges : ℕ → List ℕ → Changes → Changes → Type 0
 NotesChanges step s old new = Notes step s (λ (var : ℕ). var < length s) old new
 
 -- the values of the variables are those of the state
-values_are : (step : ℕ) (s : List ℕ) (old new : Changes) → NotesChanges step s old new → new.values.items ≡ s
-values_are step s old new notes = same_lists new.values.items s notes.places.values (λ k d lt.
-    get_or_default new.values.items k d 0 lt
+values_are : (step : ℕ) (s : List ℕ) (old new : Changes) → NotesChanges step s old new → new.values ≡ s
+values_are step s old new notes = same_lists new.values s notes.places.values (λ k d lt.
+    get_or_default new.values k d 0 lt
     ∙ ((notes.these k (omega (arith, notes.places.values))).value
     ∙ get_or_default s k 0 d (omega (arith, notes.places.values))))
 
 module _ (p : Parts) (run : Run) (through : StepsSucceed p run) (name : List ℕ) (operator : ℕ) (next : List ℕ) where
   -- since when each variable has its value there
-  since_longer : (old new : Changes) → old.values.items ≡ last_state run → length next ≡ length p.variables
+  since_longer : (old new : Changes) → old.values ≡ last_state run → length next ≡ length p.variables
       → NotesChanges (length run.steps + 1) next old new → HaveSince p run old.since.items → HaveSince p (one_more run name operator next) new.since.items
   since_longer old new before fits notes have = record {
     one_each = notes.places.since ∙ fits;
@@ -68,86 +48,141 @@ module _ (p : Parts) (run : Run) (through : StepsSucceed p run) (name : List ℕ
     ];
   }
 
--- which other operator the steps may mean with the next one
-module _ (e : Executed) (run : Run) (through : StepsSucceed e.task run) (next : List ℕ) (named : (operator_at e.task (next_operator e)).name ≡ next_name e)
-    (state : e.state ≡ last_state run) (made : e.made ≡ length run.steps) where
-  abbrev longer : Run
-  longer = one_more run (next_name e) (next_operator e) next
+  -- which other operator the steps may mean with the next one
+  module _ (named : (operator_at p operator).name ≡ name) (step : ℕ) (at : step ≡ length run.steps + 1) where
+    other_longer : (noted noted' : Option OtherOperator) → IsOtherIfAny p run noted → AddsOther p (last_state run) operator step noted noted'
+        → IsOtherIfAny p (one_more run name operator next) noted'
+    other_longer (Some other) noted' may adds =
+        subst (IsOtherIfAny p (one_more run name operator next)) (sym adds) (may_mean_longer p run through name operator next other.step other.operator may)
+    other_longer None None none adds = still_none p run through name operator next named none adds
+    other_longer None (Some other) none adds =
+        subst (λ k. MayMean p (one_more run name operator next) k other.operator) (sym (adds.0 ∙ at))
+        (may_mean_now p run through name operator next named none other.operator adds.1.0 adds.1.1)
 
-  other_longer : (noted noted' : Option OtherOperator) → IsOtherIfAny e.task run noted → AddsOther e noted noted' → IsOtherIfAny e.task longer noted'
-  other_longer (Some other) noted' may adds =
-      subst (IsOtherIfAny e.task longer) (sym adds) (may_mean_longer e.task run through (next_name e) (next_operator e) next other.step other.operator may)
-  other_longer None None none adds =
-      still_none e.task run through (next_name e) (next_operator e) next named none (subst (λ s. IsLaterIfAny e.task s (next_operator e) None) state adds)
-  other_longer None (Some other) none adds =
-      let later : IsLaterIfAny e.task (last_state run) (next_operator e) (Some other.operator) =
-      subst (λ s. IsLaterIfAny e.task s (next_operator e) (Some other.operator)) state adds.1 in
-      subst (λ k. MayMean e.task longer k other.operator) (sym (adds.0 ∙ ap (λ k. k + 1) made))
-      (may_mean_now e.task run through (next_name e) (next_operator e) next named none other.operator later.0 later.1)
+-- ---- a step of a run, by its operators
 
-module _ (run : Run) (e : Executed) (changes : Changes) (other : Option OtherOperator) (are : AreNotes run e changes other) (left : e.made < length e.operators)
-    (e' : Executed) (operator : ℕ) (advances : Advances e operator e') (along : Executes run e') (changes' : Changes) (noted : NotesChanges (e.made + 1) e'.state changes changes')
-    (other' : Option OtherOperator) (adds : AddsOther e other other') where
-  through : StepsSucceed e.task run
-  through = are.executes.of_plan.through
+module _ (p : Parts) (layered : IsLayered p) (before : List ℕ) (s : List ℕ) (goes : GoesThrough p before s) (operator : ℕ) (next : List ℕ) (there : GoesThrough p (before ++ operator ∷ []) next) where
+  abbrev more : List ℕ
+  more = before ++ operator ∷ []
 
-  within : e.made < length run.steps
-  within = omega (arith, as_many run e are.executes)
+  abbrev k : ℕ
+  k = length before
 
-  abbrev sofar : Run
-  sofar = first_steps run e.made
+  one_longer : length more ≡ k + 1
+  one_longer = length-append before (operator ∷ [])
 
-  many : e.made ≡ length sofar.steps
-  many = sym (first_many e.task run through e.made (omega (arith, within)))
+  front : take k more ≡ before
+  front = take-append_seam before (operator ∷ [])
 
-  goes : StepsSucceed e.task sofar
-  goes = first_goes e.task run through e.made (omega (arith, within))
+  its_operator : get_or more k 0 ≡ operator
+  its_operator = get_or-append_seam before operator [] 0
 
-  last : e.state ≡ last_state sofar
-  last = are.executes.state ∙ sym (first_last e.task run through e.made (omega (arith, within)))
+  -- the operator makes the step
+  pub step_there : (operator < length p.operators) × Step p s (operator_at p operator) next
+  step_there =
+      let on = rw its_operator at (goes_on p layered more next k s there (omega (arith, one_longer)) (subst (λ os. GoesThrough p os s) (sym front) goes)) in
+      let same = goes_one_way p layered more on.1.0 next (goes_one_more p before s operator on.1.0 goes on.0 on.1.1) there in
+      (on.0, subst (Step p s (operator_at p operator)) same on.1.1)
 
-  named : (operator_at e.task (next_operator e)).name ≡ next_name e
-  named = ap (λ o. (operator_at e.task o).name) (sym advances.by) ∙ advances.chosen.of_name.named
+  module _ (run : Run) (through : StepsSucceed p run) (is : run.operators ≡ more) where
+    many : length run.steps ≡ k + 1
+    many = sym through.operators ∙ (ap length is ∙ one_longer)
 
-  -- these are the first steps then
-  longer_is : first_steps run e'.made ≡ one_more sofar (next_name e) (next_operator e) e'.state
-  longer_is = grind (arith, common_steps, first_more, through, within, one_more, name_is)
+    within : k < length run.steps
+    within = omega (arith, many)
 
-  pub notes_longer : AreNotes run e' changes' other'
-  notes_longer = record {
-    executes = along;
-    values = values_are (e.made + 1) e'.state changes changes' noted;
-    since = subst (λ p. HaveSince p (first_steps run e'.made) changes'.since.items) (sym advances.task)
-        (subst (λ r. HaveSince e.task r changes'.since.items) (sym longer_is)
-        (since_longer e.task sofar goes (next_name e) (next_operator e) e'.state changes changes' (are.values ∙ last) advances.step.state.one_each
-        (subst (λ k. NotesChanges (k + 1) e'.state changes changes') many noted) are.since));
-    other = subst (λ p. IsOtherIfAny p (first_steps run e'.made) other') (sym advances.task)
-        (subst (λ r. IsOtherIfAny e.task r other') (sym longer_is)
-        (other_longer e sofar goes e'.state named last many other other' are.other adds));
-  }
+    leads_at : (n : ℕ) → n ≤ length run.steps → GoesThrough p (take n run.operators) (state_at run n)
+    leads_at n le = leads_on_numbers p (take n run.steps) (take n run.operators) (state_at run n) (through.leads n le)
 
--- ---- in the end
+    -- the run before
+    abbrev pub sofar : Run
+    sofar = first_steps run k
 
--- what was noted of all steps, up to the fault
-pub retraced : (p : Parts) (plan : PlanParts) (run : Run) (e : Executed) (changes : Changes) (noted : PlanHistory) → e.task ≡ p → e.made ≡ length e.operators → AreNotes run e changes noted.other
-    → RunEndsWith p plan run (Some noted.fault) → noted.nameless ≡ nameless_steps p plan.steps → noted.operators.items ≡ e.operators → noted.last ≡ e.state → noted.since.items ≡ changes.since.items
-    → Retraces p plan noted run
-retraced p plan run e changes noted task all are ends nameless operators last since = record {
-  through = through';
-  ends = ends;
-  nameless = nameless;
-  operators = operators ∙ sym are.executes.operators;
-  last = last ∙ (are.executes.state ∙ ap (state_at run) made);
-  since = subst (HaveSince p run) (sym since) (subst (λ q. HaveSince q run changes.since.items) task
-      (subst (λ r. HaveSince e.task r changes.since.items) whole are.since));
-  other = subst (λ q. IsOtherIfAny q run noted.other) task (subst (λ r. IsOtherIfAny e.task r noted.other) whole are.other);
+    pub sofar_goes : StepsSucceed p sofar
+    sofar_goes = first_goes p run through k (omega (arith, within))
+
+    pub sofar_is : sofar.operators ≡ before
+    sofar_is = ap (take k) is ∙ front
+
+    state_before : state_at run k ≡ s
+    state_before = goes_one_way p layered before (state_at run k) s (subst (λ os. GoesThrough p os (state_at run k)) sofar_is (leads_at k (omega (arith, within)))) goes
+
+    pub sofar_last : last_state sofar ≡ s
+    sofar_last = first_last p run through k (omega (arith, within)) ∙ state_before
+
+    pub sofar_many : length sofar.steps ≡ k
+    sofar_many = first_many p run through k (omega (arith, within))
+
+    state_behind : state_at run (k + 1) ≡ next
+    state_behind = goes_one_way p layered more (state_at run (k + 1)) next
+        (subst (λ os. GoesThrough p os (state_at run (k + 1))) (take_all (k + 1) run.operators (omega (arith, through.operators, many)) ∙ is) (leads_at (k + 1) (omega (arith, many)))) there
+
+    abbrev pub its_name : List ℕ
+    its_name = get_or run.steps k []
+
+    its : get_or run.operators k 0 ≡ operator
+    its = ap (λ os. get_or os k 0) is ∙ its_operator
+
+    pub named_so : (operator_at p operator).name ≡ its_name
+    named_so = (let goes = run_goes p run through layered k within in ap (λ o. (operator_at p o).name) (sym its) ∙ goes.chosen.of_name.named)
+
+    -- and the step
+    pub run_is : run ≡ one_more sofar its_name operator next
+    run_is = sym (first_all p run through) ∙ (ap (first_steps run) many ∙ (first_more p run through k within
+        ∙ (ap (λ o. one_more sofar its_name o (state_at run (k + 1))) its ∙ ap (one_more sofar its_name operator) state_behind)))
+
+-- ---- what is noted
+
+-- before the first step
+pub noted_none : (p : Parts) (h : Historian) → IsInitial p h.changes.values → CanList p h.listing → AreFirstChanges h.changes.values h.changes → h.other ≡ None → HasNoted p h h []
+noted_none p h starts listing first none = record {
+  nexts = refl;
+  listing = listing;
+  through = goes_none p h.changes.values starts;
+  since = λ run through is. record {
+    one_each = first.one_each ∙ starts.state.one_each;
+    each = λ var lt. subst (IsSince run var) (sym (first.since var)) (none_since run var (omega (arith, through.states, through.operators, ap length is)));
+  };
+  other = λ run through is. subst (IsOtherIfAny p run) (sym none) (λ k operator other. absurd (omega (arith, other.exists, through.operators, ap length is)));
 }
-  where
-    through' : StepsSucceed p run
-    through' = subst (λ q. StepsSucceed q run) task are.executes.of_plan.through
 
-    made : e.made ≡ length run.steps
-    made = all ∙ as_many run e are.executes
+-- with one step more
+module _ (p : Parts) (layered : IsLayered p) (first old new : Historian) (before : List ℕ) (operator : ℕ) (next : List ℕ) (noted : HasNoted p first old before)
+    (there : GoesThrough p (before ++ operator ∷ []) next) where
+  pub noted_next : (step : ℕ) → step ≡ length before + 1 → new.nexts.now ≡ old.nexts.now → CanList p new.listing → NotesChanges step next old.changes new.changes
+      → AddsOther p old.changes.values operator step old.other new.other → HasNoted p first new (before ++ operator ∷ [])
+  noted_next step at nexts listing changes adds = record {
+    nexts = nexts ∙ noted.nexts;
+    listing = listing;
+    through = subst (GoesThrough p (before ++ operator ∷ [])) (sym (values_are step next old.changes new.changes changes)) there;
+    since = λ run through is.
+        let goes = sofar_goes p layered before s noted.through operator next there run through is in
+        let last = sofar_last p layered before s noted.through operator next there run through is in
+        subst (λ r. HaveSince p r new.changes.since.items) (sym (run_is p layered before s noted.through operator next there run through is))
+        (since_longer p (before_of run through is) goes (name_of run through is) operator next old.changes new.changes (sym last) fits
+        (subst (λ n. NotesChanges n next old.changes new.changes) (number run through is) changes)
+        (noted.since (before_of run through is) goes (sofar_is p layered before s noted.through operator next there run through is)));
+    other = λ run through is.
+        let goes = sofar_goes p layered before s noted.through operator next there run through is in
+        let last = sofar_last p layered before s noted.through operator next there run through is in
+        subst (λ r. IsOtherIfAny p r new.other) (sym (run_is p layered before s noted.through operator next there run through is))
+        (other_longer p (before_of run through is) goes (name_of run through is) operator next (named_so p layered before s noted.through operator next there run through is)
+        step (number run through is) old.other new.other
+        (noted.other (before_of run through is) goes (sofar_is p layered before s noted.through operator next there run through is))
+        (subst (λ z. AddsOther p z operator step old.other new.other) (sym last) adds));
+  }
+    where
+      s : List ℕ
+      s = old.changes.values
 
-    whole : first_steps run e.made ≡ run
-    whole = ap (first_steps run) made ∙ first_all p run through'
+      fits : length next ≡ length p.variables
+      fits = (let step = step_there p layered before s noted.through operator next there in step.1.state.one_each)
+
+      before_of : (run : Run) → StepsSucceed p run → run.operators ≡ before ++ operator ∷ [] → Run
+      before_of run through is = sofar p layered before s noted.through operator next there run through is
+
+      name_of : (run : Run) → StepsSucceed p run → run.operators ≡ before ++ operator ∷ [] → List ℕ
+      name_of run through is = its_name p layered before s noted.through operator next there run through is
+
+      number : (run : Run) (through : StepsSucceed p run) (is : run.operators ≡ before ++ operator ∷ []) → step ≡ length (before_of run through is).steps + 1
+      number run through is = at ∙ ap (λ n. n + 1) (sym (sofar_many p layered before s noted.through operator next there run through is))

@@ -9,6 +9,9 @@ pub mod Origins
 pub mod Verdict
 pub mod Trace
 pub mod Traced
+pub mod VerdictBy
 pub mod Retracing
+pub mod Noting
+pub mod Tracing
 pub mod Report
 pub mod ReasonLaws

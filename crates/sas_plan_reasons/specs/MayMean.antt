@@ -44,3 +44,8 @@ pub record IsOther (p : Parts) (run : Run) (k operator : ℕ) : Type 0 where
 abbrev pub MayMean : Parts → Run → ℕ → ℕ → Type 0
 MayMean p run step operator = (before : ℕ) × (step ≡ before + 1)
     × AreLowest (IsOther p run) before operator
+
+-- none of these operators has another of its name above it
+abbrev pub HaveNoNamesakes : Parts → List ℕ → Type 0
+HaveNoNamesakes p operators = (k later : ℕ) → k < length operators → slice_index operators k < later
+    → IsNamed p (operator_at p (slice_index operators k)).name later → ⊥

@@ -13,7 +13,7 @@ use Rattle.sas_plan_reasons.specs.Lines.{with_lines}
 use Rattle.sas_run.specs.Runs.{Run, last_state, StepsSucceed}
 use Rattle.sas_plan_reasons.specs.Cause.{failing_lines}
 use Rattle.sas_plan_reasons.specs.Derivation.{IsDerivation}
-use Rattle.sas_plan_reasons.specs.declared.second_pass.PlanHistory.{PlanHistory}
+use Rattle.sas_plan_reasons.specs.declared.history.PlanHistory.{PlanHistory}
 use Rattle.sas_plan_reasons.specs.declared.causes.Report.{Report}
 use Rattle.sas_plan_reasons.specs.Origins.{is_reported, AreOrigins}
 use Rattle.sas_plan_reasons.specs.Retracing.{HaveSince}

@@ -8,8 +8,8 @@ use Rattle.sas_run.specs.Runs.{Run, last_state, StepsSucceed, RunEndsWith}
 use Rattle.sas_plan_reasons.specs.Cause.{IsSince}
 use Rattle.sas_plan_reasons.specs.Trace.{is_changed, change_line}
 use Rattle.sas_plan_reasons.specs.MayMean.{IsOther, MayMean}
-use Rattle.sas_plan_reasons.specs.declared.second_pass.OtherOperator.{OtherOperator}
-use Rattle.sas_plan_reasons.specs.declared.second_pass.PlanHistory.{PlanHistory}
+use Rattle.sas_plan_reasons.specs.declared.history.OtherOperator.{OtherOperator}
+use Rattle.sas_plan_reasons.specs.declared.history.PlanHistory.{PlanHistory}
 use Rattle.sas_plan_reasons.specs.declared.changes.Changes.{Changes}
 
 -- the first step of the run that may mean another operator, and the lowest that it may mean; or
@@ -45,27 +45,27 @@ pub record ComesUnambiguously (p : Parts) (plan : PlanParts) (fault : PlanFault)
 
 -- there is a place for each of this many variables
 pub record HavePlaces (variables : ℕ) (changes : Changes) : Type 0 where
-  pub values : length changes.values.items ≡ variables
+  pub values : length changes.values ≡ variables
   pub since : length changes.since.items ≡ variables
 
 -- the values of the state s, which no step has changed
 pub record AreFirstChanges (s : List ℕ) (changes : Changes) : Type 0 where
-  pub values : changes.values.items ≡ s
+  pub values : changes.values ≡ s
   pub one_each : length changes.since.items ≡ length s
   pub since : (var : ℕ) → slice_index changes.since.items var ≡ 0
 
 -- the variable has its value in the state s, and the step is noted for it exactly if that is
 -- another one than before
 pub record NotedAt (step : ℕ) (s : List ℕ) (old new : Changes) (var : ℕ) : Type 0 where
-  pub value : slice_index new.values.items var ≡ slice_index s var
-  pub changed : slice_index old.values.items var ≢ slice_index s var
+  pub value : slice_index new.values var ≡ slice_index s var
+  pub changed : slice_index old.values var ≢ slice_index s var
       → slice_index new.since.items var ≡ step
-  pub unchanged : slice_index old.values.items var ≡ slice_index s var
+  pub unchanged : slice_index old.values var ≡ slice_index s var
       → slice_index new.since.items var ≡ slice_index old.since.items var
 
 -- the variable is as it was
 pub record LeftAt (old new : Changes) (var : ℕ) : Type 0 where
-  pub value : slice_index new.values.items var ≡ slice_index old.values.items var
+  pub value : slice_index new.values var ≡ slice_index old.values var
   pub since : slice_index new.since.items var ≡ slice_index old.since.items var
 
 -- these variables are noted so, and the others too, or they are as they were
@@ -79,8 +79,3 @@ pub record Notes (step : ℕ) (s : List ℕ) (These : ℕ → Type 0) (old new :
 -- the line of a variable with its end, where it has another value in s' than in s; else no bytes
 abbrev pub change_text : Parts → List ℕ → List ℕ → ℕ → List ℕ
 change_text p s s' var = if is_changed s s' var then change_line p s s' var ++ 10 ∷ [] else []
-
--- the variables on the list exist, and each whose value in s' isn't that in s is on it
-pub record ListCoversChanges (s s' listed : List ℕ) : Type 0 where
-  pub exist : All (λ var. var < length s) listed
-  pub each : (var : ℕ) → (slice_index s' var ≡ slice_index s var) ⊎ Contains listed var

@@ -9,7 +9,7 @@ ghost use Rattle.sas_plan_reasons.specs.Cause.{fails, since_line, failing_lines,
 ghost use Rattle.sas_plan_reasons.specs.Report.{IsReport, IsReportOf, AddsLines, ReportsGivers};
 
 use crate::origins::{Origins, requires_rules};
-use crate::second_pass::PlanHistory;
+use crate::history::PlanHistory;
 use sas_answers::Line;
 use sas_axioms::rules_of_variables;
 use sas_core::{Fact, Grounded, Items};

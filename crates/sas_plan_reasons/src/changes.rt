@@ -1,5 +1,5 @@
 // Since when the variables have their values.
-ghost use Rattle.std.specs.Prelude.{◌≢◌, ℕ, ◌<◌, length, All, Contains, IfOk};
+ghost use Rattle.std.specs.Prelude.{◌≡◌, ◌≢◌, ℕ, ◌<◌, length, All, Contains, IfOk};
 ghost use Rattle.sas_core.specs.Variables.{IsState};
 ghost use Rattle.sas_plan_reasons.specs.Retracing.{HavePlaces, NotedAt, LeftAt, Notes, AreFirstChanges};
 
@@ -25,12 +25,10 @@ impl Changes {
         requires { IsState task.now.variables state.now }
         ensures { IfOk result (AreFirstChanges state.now) }
     {
-        let since = vec![in alloc; 0; state.values().len()]?;
-        match State::of(alloc, task.task(), state.values()) {
-            Ok(values) => Ok(Changes { values, since }),
-            // They are values of the task.
-            Err(StateFault::BadState | StateFault::Memory) => Err(AllocError),
-        }
+        Ok(Changes {
+            values: copy_of(alloc, task, state)?,
+            since: vec![in alloc; 0; state.values().len()]?,
+        })
     }
 
     /// Notes the step for each of the variables, if it changed its value.
@@ -57,5 +55,21 @@ impl Changes {
             self.values.set(Fact { var, value });
             self.since[var as usize] = step;
         }
+    }
+}
+
+/// Returns a copy of a state of the task.
+pub fn copy_of<T: Grounded>(
+    alloc: Global,
+    task: &Layered<T>,
+    state: &State,
+) -> Result<State, AllocError>
+    requires { IsState task.now.variables state.now }
+    ensures { IfOk result (λ copy. copy ≡ state.now) }
+{
+    match State::of(alloc, task.task(), state.values()) {
+        Ok(copy) => Ok(copy),
+        // Its values are those of a state.
+        Err(StateFault::BadState | StateFault::Memory) => Err(AllocError),
     }
 }

@@ -17,7 +17,7 @@ ghost use Rattle.sas_plan_reasons.specs.Report.{IsBehind, IsReportOf, AddsLines,
 use crate::causes::{Report, report_cause};
 use crate::conflicts::conflict;
 use crate::likeness::like;
-use crate::second_pass::PlanHistory;
+use crate::history::PlanHistory;
 use sas_answers::Line;
 use sas_core::{Fact, Grounded, Items, Stepwise};
 use sas_flat::FlatTask;

@@ -2,19 +2,23 @@
 //! read.
 #![tactic(auto)]
 
+mod answering;
 mod causes;
 mod changes;
 mod conflicts;
 mod faults;
+mod history;
 mod laws;
 mod likeness;
+mod listing;
+mod loaded_task;
 mod order;
 mod origins;
-mod second_pass;
 mod tracing;
 mod writing;
 
 pub use faults::reasons;
 pub use laws::{cause_laws, derivation_laws, name_laws, since_laws, trace_laws, why_laws};
-pub use second_pass::{OtherOperator, PlanHistory, retrace};
-pub use writing::{write_explained, write_trace};
+pub use history::{OtherOperator, PlanHistory};
+pub use answering::answer_plan;
+pub use loaded_task::LoadedTask;

@@ -1,8 +1,9 @@
 // The variables whose values a step may have changed.
-ghost use Rattle.std.specs.Prelude.{◌≡◌, ◌<◌, ◌≤◌, ℕ, length, IfOk};
-ghost use Rattle.sas_core.specs.Grounded.{operator_at};
+ghost use Rattle.std.specs.Prelude.{◌≡◌, ◌^◌, ◌<◌, ◌≤◌, ℕ, [], length, All, Contains, IfOk, IsFalse, vec_capacity};
+ghost use Rattle.sas_core.specs.Grounded.{effect_at, operator_at};
+ghost use Rattle.sas_meaning.specs.Layers.{IsBasic};
 ghost use Rattle.sas_meaning.specs.Steps.{Step};
-ghost use Rattle.sas_plan_reasons.specs.Listing.{CanList, CoversChanges, CoversFrom};
+ghost use Rattle.sas_plan_reasons.specs.Noting.{CanList, ListCoversChanges, ListsBelow};
 
 use sas_axioms::{are_changed, part_end};
 use sas_core::Grounded;
@@ -49,7 +50,7 @@ impl Listing {
         requires before { length before.now ≡ length task.now.variables }
         requires step { Step task.now before.now (operator_at task.now operator) after.now }
         ensures list { CanList task.now self.new }
-        ensures covers { CoversChanges before.now after.now self.new.vars.items }
+        ensures covers { ListCoversChanges before.now after.now self.new.vars.items }
     {
         self.vars.clear();
         if self.basic && task.effects(operator) as usize <= self.few {
@@ -60,14 +61,33 @@ impl Listing {
     }
 
     /// Lists the variables of the operator's effects.
-    fn list_effects<T: Grounded>(&mut self, task: &Layered<T>, operator: u32) {
+    fn list_effects<T: Grounded>(&mut self, task: &Layered<T>, operator: u32)
+        requires operator { operator < length task.now.operators }
+        requires list { CanList task.now self.old }
+        requires few { length (operator_at task.now operator).effects ≤ self.old.few }
+        requires empty { self.old.vars.items ≡ [] }
+        ensures list { CanList task.now self.new }
+        ensures exist { All (λ (var : ℕ). var < length task.now.variables) self.new.vars.items }
+        ensures each { (k : ℕ) → k < length (operator_at task.now operator).effects
+            → Contains self.new.vars.items (effect_at (operator_at task.now operator) k).var }
+    {
+        // By its contract the task is well ranged.
+        let task = task.task();
         for effect in 0..task.effects(operator) {
             self.vars.push(task.effect_change(operator, effect).var).unwrap();
         }
     }
 
     /// Lists the variables whose values differ.
-    fn list_changed(&mut self, before: &[u32], after: &[u32]) {
+    fn list_changed(&mut self, before: &[u32], after: &[u32])
+        requires fit { length after.now ≡ length before.now }
+        requires few { length before.now < 2 ^ 32 }
+        requires room { length before.now ≤ vec_capacity self.old.vars }
+        requires empty { self.old.vars.items ≡ [] }
+        ensures covers { ListsBelow before.now after.now (length before.now) self.new.vars.items }
+        ensures room { vec_capacity self.old.vars ≤ vec_capacity self.new.vars }
+        ensures rest { self.new ≡ record self.old { vars = self.new.vars } }
+    {
         let variables = before.len() as u32;
         let mut start = 0;
         while start < variables {
@@ -80,7 +100,16 @@ impl Listing {
     }
 
     /// Lists the variables from `start` up to `end` whose values differ.
-    fn list_part(&mut self, before: &[u32], after: &[u32], start: u32, end: u32) {
+    fn list_part(&mut self, before: &[u32], after: &[u32], start: u32, end: u32)
+        requires within { end ≤ length before.now }
+        requires fit { length after.now ≡ length before.now }
+        requires room { length before.now ≤ vec_capacity self.old.vars }
+        requires below { ListsBelow before.now after.now start self.old.vars.items }
+        requires ahead { start ≤ end }
+        ensures below { ListsBelow before.now after.now end self.new.vars.items }
+        ensures room { vec_capacity self.old.vars ≤ vec_capacity self.new.vars }
+        ensures rest { self.new ≡ record self.old { vars = self.new.vars } }
+    {
         for var in start..end {
             if before[var as usize] != after[var as usize] {
                 self.vars.push(var).unwrap();

@@ -1,118 +1,97 @@
-// A trace as it is written: the second pass over a plan.
-ghost use Rattle.std.specs.Prelude.{◌≡◌, ◌<◌, ◌∷◌, ℕ, List, length, slice_index, slice_set, IfOk, IsTrue};
+// The trace of a plan, which is written as its steps are made once more.
+ghost use Rattle.std.specs.Prelude.{◌≡◌, ◌<◌, [], length, slice_index, slice_set, IfOk};
 ghost use Rattle.std.specs.List.Sorted.{IsNonDecreasing};
+ghost use Rattle.sas_core.specs.Grounded.{operator_at};
+ghost use Rattle.sas_core.specs.Variables.{IsState};
 ghost use Rattle.sas_lines.specs.Lines.{text};
+ghost use Rattle.sas_meaning.specs.Steps.{Step};
 ghost use Rattle.sas_answers.specs.Facts.{initial_lines};
 ghost use Rattle.sas_answers.specs.Sink.{Pushes};
-ghost use Rattle.sas_run.specs.Executions.{Executes, Advances, next_operator};
-ghost use Rattle.sas_run.specs.Stepping.{ListsChanges};
-ghost use Rattle.sas_run.specs.Runs.{Run};
-ghost use Rattle.sas_plan_reasons.specs.Retracing.{ListCoversChanges, change_text};
-ghost use Rattle.sas_plan_reasons.specs.Trace.{step_line, change_lines, run_lines};
+ghost use Rattle.sas_plan_reasons.specs.Noting.{CanList, ListCoversChanges};
+ghost use Rattle.sas_plan_reasons.specs.Retracing.{change_text};
+ghost use Rattle.sas_plan_reasons.specs.Trace.{change_lines};
 
+use crate::changes::copy_of;
+use crate::listing::Listing;
 use sas_answers::{NumberedLine, Sink, Word, Words, value_name};
-use sas_core::{Fact, Grounded, Stepwise};
-use sas_flat::{FlatPlan, FlatTask};
-use sas_meaning::{Layered, Settle, State};
-use sas_run::Execution;
+use sas_core::{Fact, Grounded};
+use sas_flat::FlatTask;
+use sas_meaning::{Layered, State};
+use sas_run::Observer;
 use std::alloc::{AllocError, Global};
 use std::io::Write;
 
-/// What was printed of a trace. Only `new` takes memory, as a step lists no more variables than the task has.
+/// Adds the lines of each step to the text.
 #[derive(Drop)]
-pub struct Tracer {
-    /// The values of the variables, as they were printed so far.
-    pub printed: Vec<u32>,
-    /// Variables that the last step may have changed. There is room for as many as the task has.
-    pub listed: Vec<u32>,
+pub struct Tracer<'w, W> {
+    pub sink: Sink<'w, W>,
+    pub printed: Printed,
 }
 
-impl Tracer {
-    /// Returns a tracer for a trace that begins with this state.
-    pub fn new(alloc: Global, state: &State) -> Result<Tracer, AllocError>
-        ensures { IfOk result (λ t. t.printed.items ≡ state.now) }
-    {
-        let printed = Vec::from_slice(alloc, state.values())?;
-        let listed = Vec::with_capacity(alloc, state.values().len())?;
-        Ok(Tracer { printed, listed })
-    }
+impl<'w, W: Write> Observer<FlatTask> for Tracer<'w, W> {
+    ghost use Rattle.std.specs.Prelude.{⊤};
+    ghost use Rattle.sas_plan_reasons.specs.Tracing.{HasTraced};
 
-    /// Makes the steps of the execution, which is before its first one, and adds the lines of its run to the text. After a failed write it
-    /// makes no more steps.
-    pub fn push_run<W: Write, E: Settle<FlatTask> + Drop>(
-        &mut self,
-        sink: &mut Sink<'_, W>,
-        task: &Layered<FlatTask>,
-        execution: &mut Execution<'_, '_, E, FlatTask, FlatPlan>,
-    )
-        requires task { execution.old.task ≡ task.now }
-        requires start { execution.old.made ≡ 0 }
-        requires run { (run : Run) × Executes run execution.old }
-        requires printed { self.old.printed.items ≡ execution.old.state }
-        ensures { (run : Run) → Executes run execution.old
-            → Pushes W.contents sink.old sink.new (text (run_lines task.now run)) }
-    {
-        push_initial_lines(sink, task, execution.state());
-        for before in 0..execution.operators().len() {
-            // Nothing more would be written.
-            if sink.out.failed() {
-                return;
-            }
-            self.push_step(sink, task, execution, before + 1);
-        }
-    }
+    ghost admits = { λ t p step operator. ⊤ };
 
-    /// Makes the next step, which has this number, and adds its lines to the text.
-    fn push_step<W: Write, E: Settle<FlatTask> + Drop>(
-        &mut self,
-        sink: &mut Sink<'_, W>,
-        task: &Layered<FlatTask>,
-        execution: &mut Execution<'_, '_, E, FlatTask, FlatPlan>,
-        step: usize,
-    )
-        requires task { execution.old.task ≡ task.now }
-        requires left { execution.old.made < length execution.old.operators }
-        requires printed { self.old.printed.items ≡ execution.old.state }
-        requires fits { length execution.old.state ≡ length task.now.variables }
-        ensures pushes { Pushes W.contents sink.old sink.new
-            (text (step_line task.now step (next_operator execution.old)
-            ∷ change_lines task.now execution.old.state execution.new.state)) }
-        ensures advances { Advances execution.old (next_operator execution.old) execution.new }
-        ensures run { (run : Run) → Executes run execution.old → Executes run execution.new }
-        ensures printed { self.new.printed.items ≡ execution.new.state }
-    {
-        let operator = execution.advance();
-        sink.push_numbered(NumberedLine {
+    ghost sees = { HasTraced W.contents };
+
+    fn observe(&mut self, task: &Layered<FlatTask>, step: usize, operator: u32, state: &State) {
+        self.sink.push_numbered(NumberedLine {
             word: b"step",
             first: step as u64,
             second: u64::from(operator),
             third: u64::from(task.cost(operator)),
             name: task.name(operator),
         });
-        self.push_changes(sink, task, execution);
+        self.printed.push_step(&mut self.sink, task, operator, state);
+    }
+}
+
+/// The values of the variables, as they were printed so far. Only `new` takes memory.
+#[derive(Drop)]
+pub struct Printed {
+    pub values: State,
+    pub listing: Listing,
+}
+
+impl Printed {
+    /// Returns the values of this state, with which a trace begins.
+    pub fn new(
+        alloc: Global,
+        task: &Layered<FlatTask>,
+        state: &State,
+    ) -> Result<Printed, AllocError>
+        requires { IsState task.now.variables state.now }
+        ensures values { IfOk result (λ p. p.values ≡ state.now) }
+        ensures listing { IfOk result (λ p. CanList task.now p.listing) }
+    {
+        Ok(Printed {
+            values: copy_of(alloc, task, state)?,
+            listing: Listing::new(alloc, task)?,
+        })
     }
 
-    /// Adds the lines of what the last step changed to the text.
-    fn push_changes<W: Write, E: Settle<FlatTask> + Drop>(
+    /// Adds the lines of what the step of this operator changed to the text. It led to this state.
+    fn push_step<W: Write>(
         &mut self,
         sink: &mut Sink<'_, W>,
         task: &Layered<FlatTask>,
-        execution: &Execution<'_, '_, E, FlatTask, FlatPlan>,
+        operator: u32,
+        state: &State,
     )
-        requires task { execution.now.task ≡ task.now }
-        requires fits { length self.old.printed.items ≡ length task.now.variables }
-        requires step { ListsChanges task.now self.old.printed.items execution.now.state
-            execution.now.deleted execution.now.touched }
+        requires listing { CanList task.now self.old.listing }
+        requires operator { operator < length task.now.operators }
+        requires fits { IsState task.now.variables self.old.values }
+        requires step { Step task.now self.old.values (operator_at task.now operator) state.now }
         ensures pushes { Pushes W.contents sink.old sink.new
-            (text (change_lines task.now self.old.printed.items execution.now.state)) }
-        ensures printed { self.new.printed.items ≡ execution.now.state }
+            (text (change_lines task.now self.old.values state.now)) }
+        ensures printed { self.new.values ≡ state.now }
+        ensures listing { CanList task.now self.new.listing }
     {
-        if list_changes(execution, &mut self.listed) {
-            self.listed.sort_unstable();
-            self.push_listed(sink, task, execution.state());
-        } else {
-            self.push_all(sink, task, execution.state());
-        }
+        self.listing.list(task, operator, &self.values, state);
+        self.listing.vars.sort_unstable();
+        self.push_listed(sink, task, state);
     }
 
     /// Adds the lines of the variables that are listed, where their values in the state aren't those that were printed. All others
@@ -123,34 +102,17 @@ impl Tracer {
         task: &Layered<FlatTask>,
         state: &State,
     )
-        requires fits { length self.old.printed.items ≡ length task.now.variables }
+        requires fits { length self.old.values ≡ length task.now.variables }
         requires state { length state.now ≡ length task.now.variables }
-        requires cover { ListCoversChanges self.old.printed.items state.now self.old.listed.items }
-        requires ascending { IsNonDecreasing self.old.listed.items }
+        requires cover { ListCoversChanges self.old.values state.now self.old.listing.vars.items }
+        requires ascending { IsNonDecreasing self.old.listing.vars.items }
         ensures pushes { Pushes W.contents sink.old sink.new
-            (text (change_lines task.now self.old.printed.items state.now)) }
-        ensures printed { self.new.printed.items ≡ state.now }
+            (text (change_lines task.now self.old.values state.now)) }
+        ensures printed { self.new.values ≡ state.now }
+        ensures listing { self.new.listing ≡ self.old.listing }
     {
-        for index in 0..self.listed.len() {
-            let var = self.listed[index];
-            self.push_change(sink, task, state, var);
-        }
-    }
-
-    /// Adds the lines of all variables whose values in the state aren't those that were printed.
-    fn push_all<W: Write>(
-        &mut self,
-        sink: &mut Sink<'_, W>,
-        task: &Layered<FlatTask>,
-        state: &State,
-    )
-        requires fits { length self.old.printed.items ≡ length task.now.variables }
-        requires state { length state.now ≡ length task.now.variables }
-        ensures pushes { Pushes W.contents sink.old sink.new
-            (text (change_lines task.now self.old.printed.items state.now)) }
-        ensures printed { self.new.printed.items ≡ state.now }
-    {
-        for var in 0..task.variables() {
+        for index in 0..self.listing.vars.len() {
+            let var = self.listing.vars[index];
             self.push_change(sink, task, state, var);
         }
     }
@@ -163,20 +125,20 @@ impl Tracer {
         state: &State,
         var: u32,
     )
-        requires printed { var < length self.old.printed.items }
+        requires printed { var < length self.old.values }
         requires state { var < length state.now }
         ensures pushes { Pushes W.contents sink.old sink.new
-            (change_text task.now self.old.printed.items state.now var) }
-        ensures printed { self.new.printed.items
-            ≡ slice_set self.old.printed.items var (slice_index state.now var) }
-        ensures listed { self.new.listed.items ≡ self.old.listed.items }
+            (change_text task.now self.old.values state.now var) }
+        ensures printed { self.new.values
+            ≡ slice_set self.old.values var (slice_index state.now var) }
+        ensures listing { self.new.listing ≡ self.old.listing }
     {
-        let before = self.printed[var as usize];
+        let before = self.values.value(var);
         let value = state.value(var);
         if before == value {
             return;
         }
-        self.printed[var as usize] = value;
+        self.values.set(Fact { var, value });
         sink.push_numbered(NumberedLine {
             word: b"change",
             first: u64::from(var),
@@ -188,7 +150,7 @@ impl Tracer {
 }
 
 /// Adds the lines of the initial state to the text.
-fn push_initial_lines<W: Write>(sink: &mut Sink<'_, W>, task: &Layered<FlatTask>, state: &State)
+pub fn push_initial_lines<W: Write>(sink: &mut Sink<'_, W>, task: &Layered<FlatTask>, state: &State)
     requires { length state.now ≡ length task.now.variables }
     ensures { Pushes W.contents sink.old sink.new
         (text (initial_lines task.now.variables state.now)) }
@@ -205,27 +167,4 @@ fn push_initial_lines<W: Write>(sink: &mut Sink<'_, W>, task: &Layered<FlatTask>
             rest: &rest,
         });
     }
-}
-
-/// Lists the variables that the last step may have changed, in no order. Returns whether these are all: not so where any may have changed,
-/// or the list has too little room.
-fn list_changes<E: Settle<T> + Drop, T: Grounded, P: Stepwise>(
-    execution: &Execution<'_, '_, E, T, P>,
-    listed: &mut Vec<u32>,
-) -> bool
-    ensures { IsTrue result → (s : List ℕ) → length s ≡ length execution.now.task.variables
-        → ListsChanges execution.now.task s execution.now.state execution.now.deleted
-        execution.now.touched
-        → ListCoversChanges s execution.now.state listed.new.items }
-{
-    listed.clear();
-    let Some(touched) = execution.touched().vars() else {
-        return false;
-    };
-    for fact in execution.deleted() {
-        if listed.push(fact.var).is_err() {
-            return false;
-        }
-    }
-    listed.extend_from_slice(touched).is_ok()
 }

@@ -1,112 +1,147 @@
 // The answers about a plan with the reasons why it isn't valid, or with its trace, as they go out.
-ghost use Rattle.std.specs.Prelude.{◌≡◌, ℕ, List, Some, false, IfOk, IfSome, IsSomeAnd};
+ghost use Rattle.std.specs.Prelude.{◌≡◌, ◌↔◌, ℕ, List, Some, None, false, All, IfOk, IfSome, IsFalse, IsSomeAnd, slice_index_or};
 ghost use Rattle.sas_core.specs.declared.parts.Parts.{Parts};
 ghost use Rattle.sas_answers.specs.Ending.{EndsCounting, Writes, output_of};
 ghost use Rattle.sas_names.specs.Nameless.{nameless_steps};
-ghost use Rattle.sas_run.specs.Executions.{IsNew, IsFound, HaveNoNamesakes};
+ghost use Rattle.sas_run.specs.Choosers.{HaveOperators};
 ghost use Rattle.sas_run.specs.Plans.{IsValid};
-ghost use Rattle.sas_run.specs.Runs.{Run, RunEndsWith};
+ghost use Rattle.sas_run.specs.Runs.{IsEnding, Run, RunEndsWith};
+ghost use Rattle.sas_run.specs.Stepping.{IsPrepared};
 ghost use Rattle.sas_run.specs.declared.plan_check.PlanFault.TheVariants.{NoOperator};
+ghost use Rattle.sas_plan_reasons.specs.MayMean.{HaveNoNamesakes};
 ghost use Rattle.sas_plan_reasons.specs.Retracing.{Retraces, ComesUnambiguously};
 ghost use Rattle.sas_plan_reasons.specs.Traced.{EndsWith, IsTraced};
 ghost use Rattle.sas_plan_reasons.specs.Verdict.{WhyVerdict, MakeAnswer};
 
 use crate::faults::{reasons, unknown};
-use crate::second_pass::{PlanHistory, retrace};
-use crate::tracing::Tracer;
+use crate::history::{Historian, PlanHistory};
+use crate::tracing::{Printed, Tracer, push_initial_lines};
 use sas_answers::{
     Answer, Line, NameSource, Pieces, Sink, Status, ToolFault, accept_plan, answer_fault,
     write_reasons,
 };
-use sas_axioms::Worklist;
 use sas_core::Stepwise;
 use sas_flat::{FlatPlan, FlatTask};
 use sas_lines::Watched;
-use sas_meaning::{Layered, Settle};
-use sas_run::{Execution, PlanFault};
+use sas_meaning::Settle;
+use sas_names::{nameless, next_in};
+use sas_run::{NamedPlan, PlanFault, Stepper, find_end, initial_of, replay};
 use std::alloc::{AllocError, Global};
 use std::io::Write;
 
-/// Writes the answer about a plan of the task, with the reasons where it isn't valid, and returns its status. The plan is judged
-/// first; then its steps are gone through once more. The names in the reasons are looked up as they go out, in pieces: names that
-/// are repeated may make the answer far longer than the task. If an `Err` isn't a failed write, it is `Memory`, and nothing was
-/// written: all memory is allocated before the first byte. Not to be called after a failure.
-pub fn write_explained<W: Write>(
+/// Writes the answer about a plan, with the reasons where it isn't valid, and returns its status. The plan is checked first; then its
+/// steps are made once more. The names in the reasons are looked up as they go out, in pieces: names that are repeated may make the
+/// answer far longer than the task. If an `Err` isn't a failed write, it is `Memory`, and nothing was written: all memory is allocated
+/// before the first byte. Not to be called after a failure.
+pub fn write_explained<W: Write, E: Settle<FlatTask> + Drop>(
     alloc: Global,
-    task: &Layered<FlatTask>,
-    plan: &FlatPlan,
+    stepper: &mut Stepper<E>,
+    named: &NamedPlan<'_, FlatTask, FlatPlan>,
     out: &mut Watched<W>,
 ) -> Result<Status, ToolFault>
-    requires { out.old.failed ≡ false }
-    ensures { Writes W.contents (EndsCounting (λ output.
-        IsSomeAnd output (WhyVerdict task.now plan.now))) out.old out.new result }
+    requires prepared { IsPrepared E.ready named.now.task.now stepper.old }
+    requires named { HaveOperators named.now.task.now named.now.plan.now
+        named.now.firsts.now named.now.nexts.now named.now.long.now }
+    requires out { out.old.failed ≡ false }
+    ensures prepared { IsPrepared E.ready named.now.task.now stepper.new }
+    ensures writes { Writes W.contents (EndsCounting (λ output.
+        IsSomeAnd output (WhyVerdict named.now.task.now named.now.plan.now)))
+        out.old out.new result }
 {
-    let (verdict, reasons) = explain_plan(alloc, task, plan)?;
-    let named = NameSource {
-        task: task.task(),
-        plan: Some(plan),
+    let (verdict, reasons) = explain_plan(alloc, stepper, named)?;
+    let source = NameSource {
+        task: named.task.task(),
+        plan: Some(named.plan),
     };
-    write_reasons(alloc, out, &verdict, &named, reasons.as_slice())
+    write_reasons(alloc, out, &verdict, &source, reasons.as_slice())
 }
 
 /// Returns the verdict on the plan, and the reasons for it. A valid plan has no reasons.
-fn explain_plan(
+fn explain_plan<E: Settle<FlatTask> + Drop>(
     alloc: Global,
-    task: &Layered<FlatTask>,
-    plan: &FlatPlan,
+    stepper: &mut Stepper<E>,
+    named: &NamedPlan<'_, FlatTask, FlatPlan>,
 ) -> Result<(Answer, Vec<Line>), AllocError>
-    ensures { IfOk result (λ found. MakeAnswer task.now plan.now found.0 found.1.items) }
+    requires prepared { IsPrepared E.ready named.now.task.now stepper.old }
+    requires named { HaveOperators named.now.task.now named.now.plan.now
+        named.now.firsts.now named.now.nexts.now named.now.long.now }
+    ensures prepared { IsPrepared E.ready named.now.task.now stepper.new }
+    ensures answer { IfOk result (λ found.
+        MakeAnswer named.now.task.now named.now.plan.now found.0 found.1.items) }
 {
-    let worklist = Worklist::new(alloc, task)?;
-    let mut execution = Execution::new(alloc, task, worklist, plan)?;
-    match execution.find_fault() {
-        None => {
-            drop(execution);
-            explain_valid(alloc, plan)
-        }
-        Some(fault) => explain_invalid(alloc, task, plan, execution, fault),
+    let end = find_end(alloc, named.task, stepper, named)?;
+    match end.fault {
+        None => explain_valid(alloc, named.plan),
+        Some(fault) => explain_invalid(alloc, stepper, named, end.operators, fault),
     }
 }
 
-/// Returns the verdict on a plan with this fault, and the reasons for it. The execution found the fault, and is at its start. The steps
-/// before the fault are made once more, unless a step's name is unknown and no step before it may mean another operator.
+/// Returns the verdict on a plan with this fault behind the steps of these operators, and the reasons for it. The steps are made once
+/// more, unless a step's name is unknown and no step before it may mean another operator.
 fn explain_invalid<E: Settle<FlatTask> + Drop>(
     alloc: Global,
-    task: &Layered<FlatTask>,
-    plan: &FlatPlan,
-    execution: Execution<'_, '_, E, FlatTask, FlatPlan>,
+    stepper: &mut Stepper<E>,
+    named: &NamedPlan<'_, FlatTask, FlatPlan>,
+    operators: Vec<u32>,
     fault: PlanFault,
 ) -> Result<(Answer, Vec<Line>), AllocError>
-    requires { IsFound task.now plan.now (Some fault) execution }
-    ensures { IfOk result (λ found. MakeAnswer task.now plan.now found.0 found.1.items) }
+    requires prepared { IsPrepared E.ready named.now.task.now stepper.old }
+    requires named { HaveOperators named.now.task.now named.now.plan.now
+        named.now.firsts.now named.now.nexts.now named.now.long.now }
+    requires ends { IsEnding named.now.task.now named.now.plan.now operators.items (Some fault) }
+    ensures prepared { IsPrepared E.ready named.now.task.now stepper.new }
+    ensures answer { IfOk result (λ found.
+        MakeAnswer named.now.task.now named.now.plan.now found.0 found.1.items) }
 {
-    match unknown_step(fault, &execution) {
-        Some(step) => {
-            let nameless = execution.nameless();
-            drop(execution);
-            explain_unknown(alloc, task, plan, step, nameless)
-        }
-        None => {
-            let history = retrace(alloc, execution, fault)?;
-            let explained = explain_fault(alloc, task, plan, &history);
-            drop(history);
-            explained
+    if let PlanFault::NoOperator { step } = fault {
+        if !have_next(operators.as_slice(), named.nexts) {
+            return explain_unknown(alloc, named, step);
         }
     }
+    let history = retrace(alloc, stepper, named, operators, fault)?;
+    let explained = explain_fault(alloc, named, &history);
+    drop(history);
+    explained
 }
 
-/// Returns the step whose name no operator has, if this is the fault and no step before it may mean another operator.
-fn unknown_step<E: Settle<FlatTask> + Drop>(
-    fault: PlanFault,
-    execution: &Execution<'_, '_, E, FlatTask, FlatPlan>,
-) -> Option<usize>
-    ensures { IfSome result (λ step. (fault ≡ NoOperator step)
-        × HaveNoNamesakes execution.now.task execution.now.operators) }
+/// Returns whether one of the operators has a next one in the list.
+fn have_next(operators: &[u32], nexts: &[Option<u32>]) -> bool
+    ensures { IsFalse result ↔ All (λ (operator : ℕ).
+        slice_index_or nexts.now operator None ≡ None) operators.now }
 {
-    match fault {
-        PlanFault::NoOperator { step } if !execution.has_namesakes() => Some(step),
-        _ => None,
-    }
+    operators
+        .iter()
+        .any(|operator| next_in(nexts, *operator).is_some())
+}
+
+/// Makes the steps of these operators, which are those before the plan's fault, once more, and notes since when each variable has its
+/// value, and which other operator a step may mean. All memory is allocated before the first step.
+fn retrace<E: Settle<FlatTask> + Drop>(
+    alloc: Global,
+    stepper: &mut Stepper<E>,
+    named: &NamedPlan<'_, FlatTask, FlatPlan>,
+    operators: Vec<u32>,
+    fault: PlanFault,
+) -> Result<PlanHistory, AllocError>
+    requires prepared { IsPrepared E.ready named.now.task.now stepper.old }
+    requires named { HaveOperators named.now.task.now named.now.plan.now
+        named.now.firsts.now named.now.nexts.now named.now.long.now }
+    requires ends { IsEnding named.now.task.now named.now.plan.now operators.items (Some fault) }
+    ensures prepared { IsPrepared E.ready named.now.task.now stepper.new }
+    ensures retraced { IfOk result (λ history. (run : Run)
+        × Retraces named.now.task.now named.now.plan.now history run) }
+{
+    let mut last = initial_of(alloc, named.task, stepper)?;
+    let mut noted = Historian::new(alloc, named.task, named.nexts, &last)?;
+    replay(named.task, stepper, operators.as_slice(), &mut last, &mut noted);
+    Ok(PlanHistory {
+        fault,
+        nameless: nameless(named.task, named.firsts),
+        operators,
+        last,
+        since: noted.changes.since,
+        other: noted.other,
+    })
 }
 
 /// Returns the verdict on a valid plan, which has no reasons.
@@ -114,83 +149,77 @@ fn explain_valid(alloc: Global, plan: &FlatPlan) -> Result<(Answer, Vec<Line>), 
     ensures { IfOk result (λ found. (p : Parts) (operators : List ℕ)
         → IsValid p plan.now operators → MakeAnswer p plan.now found.0 found.1.items) }
 {
-    Ok((accept_plan(alloc, plan)?, Vec::new(alloc)))
+    let verdict = accept_plan(alloc, plan.steps(), plan.cost())?;
+    Ok((verdict, Vec::new(alloc)))
 }
 
 /// Returns the verdict on a plan with this step, whose name no operator has, and the reasons for it. No step before it may mean another
 /// operator.
 fn explain_unknown(
     alloc: Global,
-    task: &Layered<FlatTask>,
-    plan: &FlatPlan,
+    named: &NamedPlan<'_, FlatTask, FlatPlan>,
     step: usize,
-    nameless: usize,
 ) -> Result<(Answer, Vec<Line>), AllocError>
-    requires run { (run : Run) × ComesUnambiguously task.now plan.now (NoOperator step) run }
-    requires nameless { nameless ≡ nameless_steps task.now plan.now.steps }
-    ensures { IfOk result (λ found. MakeAnswer task.now plan.now found.0 found.1.items) }
+    requires named { HaveOperators named.now.task.now named.now.plan.now
+        named.now.firsts.now named.now.nexts.now named.now.long.now }
+    requires run { (run : Run)
+        × ComesUnambiguously named.now.task.now named.now.plan.now (NoOperator step) run }
+    ensures { IfOk result (λ found.
+        MakeAnswer named.now.task.now named.now.plan.now found.0 found.1.items) }
 {
-    let lines = unknown(alloc, task, plan, step, nameless)?;
-    let verdict = answer_fault(alloc, plan.cost(), PlanFault::NoOperator { step })?;
+    let count = nameless(named.task, named.firsts);
+    let lines = unknown(alloc, named.task, named.plan, step, count)?;
+    let verdict = answer_fault(alloc, named.plan.cost(), PlanFault::NoOperator { step })?;
     Ok((verdict, lines.into_vec()))
 }
 
 /// Returns the verdict on the plan's fault, and the reasons for it.
 fn explain_fault(
     alloc: Global,
-    task: &Layered<FlatTask>,
-    plan: &FlatPlan,
+    named: &NamedPlan<'_, FlatTask, FlatPlan>,
     history: &PlanHistory,
 ) -> Result<(Answer, Vec<Line>), AllocError>
-    requires { (run : Run) × Retraces task.now plan.now history.now run }
-    ensures { IfOk result (λ found. MakeAnswer task.now plan.now found.0 found.1.items) }
+    requires { (run : Run) × Retraces named.now.task.now named.now.plan.now history.now run }
+    ensures { IfOk result (λ found.
+        MakeAnswer named.now.task.now named.now.plan.now found.0 found.1.items) }
 {
-    let lines = reasons(alloc, task, plan, history)?;
-    let verdict = answer_fault(alloc, plan.cost(), history.fault)?;
+    let lines = reasons(alloc, named.task, named.plan, history)?;
+    let verdict = answer_fault(alloc, named.plan.cost(), history.fault)?;
     Ok((verdict, lines))
 }
 
-/// Writes the trace of a plan of the task, and the answer about it, in pieces, and returns its status. The plan is judged first;
-/// then its steps are gone through once more. If an `Err` isn't a failed write, it is `Memory`, and nothing was written: all memory
-/// is allocated before the first byte. Not to be called after a failure.
-pub fn write_trace<W: Write>(
+/// Writes the trace of a plan, and the answer about it, in pieces, and returns its status. The plan is checked first; then its steps are
+/// made once more. If an `Err` isn't a failed write, it is `Memory`, and nothing was written: all memory is allocated before the first
+/// byte. Not to be called after a failure.
+pub fn write_trace<W: Write, E: Settle<FlatTask> + Drop>(
     alloc: Global,
-    task: &Layered<FlatTask>,
-    plan: &FlatPlan,
+    stepper: &mut Stepper<E>,
+    named: &NamedPlan<'_, FlatTask, FlatPlan>,
     out: &mut Watched<W>,
 ) -> Result<Status, ToolFault>
+    requires prepared { IsPrepared E.ready named.now.task.now stepper.old }
+    requires named { HaveOperators named.now.task.now named.now.plan.now
+        named.now.firsts.now named.now.nexts.now named.now.long.now }
     requires out { out.old.failed ≡ false }
-    ensures { Writes W.contents (EndsCounting (IsTraced task.now plan.now)) out.old out.new result }
-{
-    let worklist = Worklist::new(alloc, task)?;
-    let mut execution = Execution::new(alloc, task, worklist, plan)?;
-    let written = write_execution(alloc, task, plan, &mut execution, out);
-    drop(execution);
-    written
-}
-
-/// Writes the trace of the plan by its execution, which is new, as `write_trace` does.
-fn write_execution<W: Write, E: Settle<FlatTask> + Drop>(
-    alloc: Global,
-    task: &Layered<FlatTask>,
-    plan: &FlatPlan,
-    execution: &mut Execution<'_, '_, E, FlatTask, FlatPlan>,
-    out: &mut Watched<W>,
-) -> Result<Status, ToolFault>
-    requires execution { IsNew task.now plan.now execution.old }
-    requires out { out.old.failed ≡ false }
-    ensures { Writes W.contents (EndsCounting (IsTraced task.now plan.now)) out.old out.new result }
+    ensures prepared { IsPrepared E.ready named.now.task.now stepper.new }
+    ensures writes { Writes W.contents
+        (EndsCounting (IsTraced named.now.task.now named.now.plan.now)) out.old out.new result }
 {
     // What takes memory comes first.
-    let verdict = verdict_on(alloc, plan, execution.find_fault())?;
-    let mut tracer = Tracer::new(alloc, execution.state())?;
+    let end = find_end(alloc, named.task, stepper, named)?;
+    let verdict = verdict_on(alloc, named.plan, end.fault)?;
+    let mut state = initial_of(alloc, named.task, stepper)?;
+    let printed = Printed::new(alloc, named.task, &state)?;
     let mut pieces = Pieces::new(alloc)?;
     let mut sink = Sink::new(verdict.status, &mut pieces, out);
-    tracer.push_run(&mut sink, task, execution);
+    push_initial_lines(&mut sink, named.task, &state);
+    let mut tracer = Tracer { sink, printed };
+    replay(named.task, stepper, end.operators.as_slice(), &mut state, &mut tracer);
+    let Tracer { mut sink, printed } = tracer;
     sink.push(verdict.text.as_slice());
     let ended = sink.finish();
+    drop(printed);
     drop(pieces);
-    drop(tracer);
     drop(verdict);
     ended
 }
@@ -205,7 +234,7 @@ fn verdict_on(
         → EndsWith p plan.now run (output_of verdict)) }
 {
     match fault {
-        None => accept_plan(alloc, plan),
+        None => accept_plan(alloc, plan.steps(), plan.cost()),
         Some(fault) => answer_fault(alloc, plan.cost(), fault),
     }
 }

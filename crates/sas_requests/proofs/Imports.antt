@@ -84,6 +84,7 @@ pub use Rattle.sas_plan_file.specs.PlanMachine.{plan_node, plan_start}
 pub use Rattle.sas_plan_file.specs.PlanRefusal.{fault_of, found_of, TellsLineEnd, ReadsPlan}
 pub use Rattle.sas_plan_file.specs.declared.plan_refusal.PlanRefusal.{PlanRefusal}
 pub use Rattle.sas_plan_reasons.proofs.Answering.{some_trace, one_trace}
+pub use Rattle.sas_plan_reasons.specs.VerdictBy.{VerdictBy}
 pub use Rattle.sas_plan_reasons.proofs.WhyPlan.{one_why, some_why}
 pub use Rattle.sas_plan_reasons.specs.Trace.{run_lines}
 pub use Rattle.sas_plan_reasons.specs.Traced.{IsTraced, TraceVerdict, EndsWith}
@@ -129,7 +130,7 @@ pub use Rattle.sas_task_reasons.proofs.TaskAnswers.{not_memory, one_why_check, s
 pub use Rattle.sas_task_reasons.specs.WhyGroups.{IsReasonIfAny, reason_at, AreReasons, reason_lines, explained_group_lines, why_lines_from, why_lines, WhyGroupsAnswer}
 pub use Rattle.sas_task_reasons.specs.WhyLayers.{layer_reasons, why_refusal, WhyAnswer, WhyMutexAnswer, with_reasons, WhyCheckAnswer}
 pub use Rattle.sas_task_reasons.specs.declared.reason.Reason.{Reason}
-pub use Rattle.sas_requests.specs.Answering.{FileBy, TaskBy, PlanBy, UnlayeredBy, layers_by, refusal_by, task_refusal_lines, plan_refusal_lines, reported_by, ReasonedBy, CheckBy, MutexBy, VerdictBy, OutBy, request_of, plan_detail_of, detail_of}
+pub use Rattle.sas_requests.specs.Answering.{FileBy, TaskBy, PlanBy, UnlayeredBy, layers_by, refusal_by, task_refusal_lines, plan_refusal_lines, reported_by, ReasonedBy, CheckBy, MutexBy, OutBy, request_of, detail_of}
 pub use Rattle.sas_requests.specs.EndsRequest.{EndsFile, EndsRequest}
 pub use Rattle.sas_requests.specs.FileLine.{At, Counted, Expected, ExpectedInPlan, FileLine, Found, Hinted, NumberMustBe, due_words, empty_words, ended_line, file_line_bytes, file_text, found_word, least_words, line_if, location_words, plain_in_texts, plan_due_words}
 pub use Rattle.sas_requests.specs.Hint.{hint_words, hint_for}
@@ -151,9 +152,8 @@ pub use Rattle.sas_requests.specs.declared.Request.TheVariants.{Show, Print, Ste
 pub use Rattle.sas_requests.specs.declared.inputs.InputFault.TheVariants.{NotOpened}
 pub use Rattle.sas_requests.specs.declared.inputs.JudgeFault.{JudgeFault}
 pub use Rattle.sas_requests.specs.declared.inputs.JudgeFault.TheVariants.{Tool}
-pub use Rattle.sas_requests.specs.declared.question.Detail.{Detail}
-pub use Rattle.sas_requests.specs.declared.question.Detail.TheVariants.{Reasons}
-pub use Rattle.sas_requests.specs.declared.question.PlanDetail.{PlanDetail}
+pub use Rattle.sas_answers.specs.declared.detail.Detail.{Detail}
+pub use Rattle.sas_answers.specs.declared.detail.Detail.TheVariants.{Reasons}
 pub use Rattle.sas_requests.specs.declared.slices.PlanBytes.{PlanBytes}
 pub use Rattle.sas_requests.specs.declared.tally.BestPlan.{BestPlan}
 pub use Rattle.sas_requests.specs.declared.tally.Tally.{Tally}

@@ -1,5 +1,5 @@
 -- How the output of a request goes out.
-use Rattle.sas_requests.proofs.Imports.{arith, ◌≡◌, ℕ, false, true, List, [], codes, inl, inr, refl, sym, subst, ◌∙◌, Option, Some, Result, Ok, Err, IsTrue, IfOk, IsSomeAnd, Appends, Parts, PlanParts, IsLayered, Device, ValueOf, ReadsAll, ReadsAs, most_bytes, known_answer, plan_format, task_format, Status, Yes, ToolFault, Output, EndsCounting, Answers, ends_by, answers_by, layers_verdict, Consumes-nil, Detail, PlanDetail, detail_of, CheckBy, MutexBy, VerdictBy, UnlayeredBy, layers_by, TaskBy, PlanBy, OutBy, EndsRequest, TaskFileReasons, RefusalReasons, layered_answer, check_layered, check_refused, groups_refused, IsTraced, TraceVerdict, Request, Headline, Invariants, TaskOut, PlanOutBy, PrintAnswer, AreInputs, reads_task, EndsFile}
+use Rattle.sas_requests.proofs.Imports.{arith, ◌≡◌, ℕ, false, true, List, [], codes, inl, inr, refl, sym, subst, ◌∙◌, Option, Some, Result, Ok, Err, IsTrue, IfOk, IsSomeAnd, Appends, Parts, PlanParts, IsLayered, Device, ValueOf, ReadsAll, ReadsAs, most_bytes, known_answer, plan_format, task_format, Status, Yes, ToolFault, Output, EndsCounting, Answers, ends_by, answers_by, layers_verdict, Consumes-nil, Detail, detail_of, CheckBy, MutexBy, VerdictBy, UnlayeredBy, layers_by, TaskBy, PlanBy, OutBy, EndsRequest, TaskFileReasons, RefusalReasons, layered_answer, check_layered, check_refused, groups_refused, IsTraced, TraceVerdict, Request, Headline, Invariants, TaskOut, PlanOutBy, PrintAnswer, AreInputs, reads_task, EndsFile}
 use Rattle.sas_requests.proofs.PlanOutputs.{first_alone, second_alone, not_refused}
 use Rattle.sas_requests.specs.declared.Request.TheVariants as request
 use Rattle.sas_requests.proofs.RefusalReasons.{more_reasoned}
@@ -25,18 +25,18 @@ trace_answers p plan h1 traced = grind arith
 
 -- ---- the output of `plan`
 
-module _ (detail : PlanDetail) (b c : List ℕ) (o : Option Output) where
+module _ (detail : Detail) (b c : List ℕ) (o : Option Output) where
   abbrev PlanOutput : Option Output → Type 0
-  PlanOutput = PlanOutBy (VerdictBy detail) (layers_by (detail_of detail)) b c
+  PlanOutput = PlanOutBy (VerdictBy detail) (layers_by detail) b c
 
   -- of a task that is refused
-  pub unlayered_by : TaskBy (detail_of detail) (UnlayeredBy (detail_of detail)) b o → OutBy detail request.Plan b c o
+  pub unlayered_by : TaskBy detail (UnlayeredBy detail) b o → OutBy detail request.Plan b c o
   unlayered_by =
-      more_reasoned (detail_of detail) (TaskOut (UnlayeredBy (detail_of detail)) b) PlanOutput (TaskFileReasons b) (RefusalReasons request.Plan b c)
-      (λ q out. inl out) (λ q reasons out why. inr (not_refused (layers_by (detail_of detail)) b q out, why)) o
+      more_reasoned detail (TaskOut (UnlayeredBy detail) b) PlanOutput (TaskFileReasons b) (RefusalReasons request.Plan b c)
+      (λ q out. inl out) (λ q reasons out why. inr (not_refused (layers_by detail) b q out, why)) o
 
   -- and of the plan of a layered one
-  pub judged_by : (p : Parts) → IsLayered p → ReadsAs task_format most_bytes b (Ok p) → PlanBy (detail_of detail) (VerdictBy detail p) c o → OutBy detail request.Plan b c o
+  pub judged_by : (p : Parts) → IsLayered p → ReadsAs task_format most_bytes b (Ok p) → PlanBy detail (VerdictBy detail p) c o → OutBy detail request.Plan b c o
   judged_by p layered reads = grind (arith, more_reasoned, detail_of)
 
 -- ---- how they go out
@@ -48,7 +48,7 @@ module _ {T P W : Type 0} (left_task : T → Option (List ℕ)) (left_plan : P �
       → Answers contents (EndsRequest left_task left_plan A asked old new plan_old plan_new) out_old out_new r → Answers contents (EndsRequest left_task left_plan B asked old new plan_old plan_new) out_old out_new r
   ends_as h1 h2 asked old new plan_old plan_new r to = grind (arith, answers_by)
 
-module _ {T P W : Type 0} (left_task : T → Option (List ℕ)) (left_plan : P → Option (List ℕ)) (contents : W → Option (List ℕ)) (out_old out_new : Device W) (detail : PlanDetail) where
+module _ {T P W : Type 0} (left_task : T → Option (List ℕ)) (left_plan : P → Option (List ℕ)) (contents : W → Option (List ℕ)) (out_old out_new : Device W) (detail : Detail) where
   abbrev EndsAsked : Request → Device T → Device T → Device P → Device P → (List ℕ → Type 0) → Result Status ToolFault → Type 0
   EndsAsked asked = EndsRequest left_task left_plan (λ b c. EndsCounting (OutBy detail asked b c)) asked
 
@@ -67,9 +67,9 @@ module _ {T P W : Type 0} (left_task : T → Option (List ℕ)) (left_plan : P �
   })
 
   -- `steps`, which reads the plan alone
-  pub of_steps : (task : Device T) (old new : Device P) (r : Result Status ToolFault) → task.failed ≡ false → Answers contents (EndsFile left_plan (PlanBy (detail_of detail) (PrintAnswer plan_format)) old new) out_old out_new r → Answers contents (EndsAsked request.Steps task task old new) out_old out_new r
+  pub of_steps : (task : Device T) (old new : Device P) (r : Result Status ToolFault) → task.failed ≡ false → Answers contents (EndsFile left_plan (PlanBy detail (PrintAnswer plan_format)) old new) out_old out_new r → Answers contents (EndsAsked request.Steps task task old new) out_old out_new r
   of_steps task old new r working =
-      let Answer = PlanBy (detail_of detail) (PrintAnswer plan_format) in
+      let Answer = PlanBy detail (PrintAnswer plan_format) in
       let alone = second_alone task.failed new.failed (λ t. let apart : true ≡ false = sym t ∙ working in cc) in
       answers_by contents out_old out_new r (EndsFile left_plan Answer old new) (EndsAsked request.Steps task task old new) (λ Sent one. record {
         output = λ b c inputs. ends_by Sent (Answer c) (OutBy detail request.Steps b c) r (λ o out. out) (one.output c (inputs.1 refl));
@@ -84,9 +84,9 @@ module _ {T P W : Type 0} (left_task : T → Option (List ℕ)) (left_plan : P �
 
   -- `plan` of a layered task, which reads both
   pub of_both : (p : Parts) (old new : Device T) → ReadsAll left_task task_format (ValueOf task_format) old new (Ok p) → IsLayered p
-      → (plan_old plan_new : Device P) (r : Result Status ToolFault) → Answers contents (EndsFile left_plan (PlanBy (detail_of detail) (VerdictBy detail p)) plan_old plan_new) out_old out_new r → Answers contents (EndsAsked request.Plan old new plan_old plan_new) out_old out_new r
+      → (plan_old plan_new : Device P) (r : Result Status ToolFault) → Answers contents (EndsFile left_plan (PlanBy detail (VerdictBy detail p)) plan_old plan_new) out_old out_new r → Answers contents (EndsAsked request.Plan old new plan_old plan_new) out_old out_new r
   of_both p old new read layered plan_old plan_new r =
-      let Answer = PlanBy (detail_of detail) (VerdictBy detail p) in
+      let Answer = PlanBy detail (VerdictBy detail p) in
       let alone = second_alone new.failed plan_new.failed (λ t. read.note.1 t) in
       answers_by contents out_old out_new r (EndsFile left_plan Answer plan_old plan_new) (EndsAsked request.Plan old new plan_old plan_new) (λ Sent one. record {
         output = λ b c inputs.

@@ -2,7 +2,7 @@
 use Rattle.std.proofs.lemmas.Grind.{common_steps}
 use Rattle.sas_requests.proofs.Imports.{arith, ◌≡◌, ℕ, List, [], length, inl, inr, Option, Some, Result, Ok, Parts, Device, Consumes, ReadsAll, ReadsAs, ValueOf, most_bytes, task_format, known_answer, IsLayered, Status, ToolFault, Output, Ends, EndsCounting, IsDecided, exact_ends, EndsFile, TaskBy, UnlayeredBy, TaskOut, UnlayeredAnswer, plain_refusal, Plan, JudgeFault, tool_result, HaveBytes, WasRead, WereRead, Consumes-nil, JudgeOut, PlansOut, JudgesPlans}
 use Rattle.sas_requests.proofs.ShortOutputs.{short_output}
-use Rattle.sas_requests.specs.declared.question.Detail.TheVariants.{Plain}
+use Rattle.sas_answers.specs.declared.detail.Detail.TheVariants.{Plain}
 use Rattle.sas_requests.proofs.SideBySide.{choose}
 
 -- what ends with an output ends with another that follows from it

@@ -13,17 +13,14 @@ use Rattle.sas_task_file.specs.TaskFormat.{task_format}
 use Rattle.sas_task_reader.specs.declared.task_refusal.TaskRefusal.{TaskRefusal}
 use Rattle.sas_requests.specs.FileLine.{FileLine, file_text, plan_reasons, task_reasons}
 use Rattle.sas_answers.specs.Ending.{Output}
-use Rattle.sas_answers.specs.Answers.{CheckAnswer, MutexAnswer, VerdictAnswer}
+use Rattle.sas_answers.specs.Answers.{CheckAnswer, MutexAnswer}
 use Rattle.sas_task_reasons.specs.WhyLayers.{with_reasons, why_refusal, WhyCheckAnswer, WhyMutexAnswer}
-use Rattle.sas_plan_reasons.specs.Traced.{TraceVerdict}
-use Rattle.sas_plan_reasons.specs.Verdict.{WhyVerdict}
+use Rattle.sas_plan_reasons.specs.VerdictBy.{VerdictBy}
 use Rattle.sas_requests.specs.declared.Request.{Request}
 use Rattle.sas_requests.specs.declared.Request.TheVariants.{Plan}
 use Rattle.sas_requests.specs.Output.{FileOut, OutOf, UnlayeredAnswer, refusal, plain_refusal}
-use Rattle.sas_requests.specs.declared.question.Detail.{Detail}
-use Rattle.sas_requests.specs.declared.question.Detail.TheVariants.{Plain, Reasons}
-use Rattle.sas_requests.specs.declared.question.PlanDetail.{PlanDetail}
-use Rattle.sas_requests.specs.declared.question.PlanDetail.TheVariants as plan_detail
+use Rattle.sas_answers.specs.declared.detail.Detail.{Detail}
+use Rattle.sas_answers.specs.declared.detail.Detail.TheVariants.{Plain, Reasons, Trace}
 use Rattle.sas_requests.specs.declared.question.Question.{Question}
 use Rattle.sas_requests.specs.declared.question.Question.TheVariants as question
 use Rattle.sas_requests.specs.declared.tasks.ReadTask.{ReadTask}
@@ -44,12 +41,6 @@ CheckBy detail = CheckAnswer
 abbrev pub MutexBy : Detail → Parts → Output → Type 0
 MutexBy Reasons = WhyMutexAnswer
 MutexBy detail = MutexAnswer
-
--- about a plan
-abbrev pub VerdictBy : PlanDetail → Parts → PlanParts → Output → Type 0
-VerdictBy plan_detail.Plain = VerdictAnswer
-VerdictBy plan_detail.Reasons = WhyVerdict
-VerdictBy plan_detail.Trace = TraceVerdict
 
 -- the refusal of a task for a fault of its layers
 abbrev pub layers_by : Detail → Parts → LayerFault → Option Output
@@ -102,16 +93,10 @@ TaskBy = FileBy task_format AreTaskReasons (codes "task")
 abbrev pub PlanBy : Detail → (PlanParts → Output → Type 0) → List ℕ → Option Output → Type 0
 PlanBy = FileBy plan_format ArePlanReasons (codes "plan")
 
--- how much is reported where no plan is judged: there is nothing to trace
-abbrev pub detail_of : PlanDetail → Detail
-detail_of plan_detail.Plain = Plain
-detail_of plan_detail.Reasons = Reasons
-detail_of plan_detail.Trace = Plain
-
 -- of a request
-abbrev pub OutBy : PlanDetail → Request → List ℕ → List ℕ → Option Output → Type 0
-OutBy detail request b c = let tasks = detail_of detail in ReasonedBy tasks
-    (OutOf (CheckBy tasks) (MutexBy tasks) (VerdictBy detail) (layers_by tasks) request b c)
+abbrev pub OutBy : Detail → Request → List ℕ → List ℕ → Option Output → Type 0
+OutBy detail request b c = ReasonedBy detail
+    (OutOf (CheckBy detail) (MutexBy detail) (VerdictBy detail) (layers_by detail) request b c)
     (RefusalReasons request b c)
 
 -- ---- questions: their request, how much is reported, and their output
@@ -121,13 +106,13 @@ request_of (question.Answer request) = request
 request_of (question.Explanation request) = request
 request_of question.Trace = Plan
 
-abbrev pub plan_detail_of : Question → PlanDetail
-plan_detail_of (question.Answer request) = plan_detail.Plain
-plan_detail_of (question.Explanation request) = plan_detail.Reasons
-plan_detail_of question.Trace = plan_detail.Trace
+abbrev pub detail_of : Question → Detail
+detail_of (question.Answer request) = Plain
+detail_of (question.Explanation request) = Reasons
+detail_of question.Trace = Trace
 
 abbrev pub QuestionOut : Question → List ℕ → List ℕ → Option Output → Type 0
-QuestionOut asked = OutBy (plan_detail_of asked) (request_of asked)
+QuestionOut asked = OutBy (detail_of asked) (request_of asked)
 
 -- ---- tasks that are read
 

@@ -8,11 +8,11 @@ ghost use Rattle.sas_task_file.specs.TaskFormat.{task_format};
 ghost use Rattle.sas_requests.specs.EndsRequest.{EndsFile, EndsRequest};
 ghost use Rattle.sas_requests.specs.Answering.{CheckBy, MutexBy, PlanBy, QuestionOut, TaskBy, request_of};
 
-use crate::plans::judge_files;
-use crate::question::{Detail, Question};
+use crate::plans::answer_plan_files;
+use crate::question::Question;
 use crate::refusals::{write_plan_refusal, write_task_refusal};
 use crate::tasks::{ReadTask, read_layered};
-use crate::{Request, Status, ToolFault, write_summary};
+use crate::{Detail, Request, Status, ToolFault, write_summary};
 use sas_answers::{Answer, accept_layers};
 use sas_flat::FlatTask;
 use sas_lines::Watched;
@@ -40,14 +40,13 @@ pub fn answer<T: Read, P: Read, W: Write>(
         (request_of question) task.old task.new plan.old plan.new)
         out.old out.new result }
 {
-    let plan_detail = question.plan_detail();
-    let detail = plan_detail.detail();
+    let detail = question.detail();
     match question.request() {
         Request::Show => answer_show(alloc, detail, task, out),
         Request::Print => answer_print(alloc, detail, task, out),
         Request::Steps => answer_steps(alloc, detail, plan, out),
         Request::Check => answer_check(alloc, detail, task, out),
-        Request::Plan => judge_files(alloc, plan_detail, task, plan, out),
+        Request::Plan => answer_plan_files(alloc, detail, task, plan, out),
         Request::Mutex => answer_mutex(alloc, detail, task, out),
     }
 }
@@ -178,7 +177,7 @@ fn answer_groups<W: Write>(
         out.old out.new result }
 {
     match detail {
-        Detail::Plain => write_groups(alloc, false, layered, out),
         Detail::Reasons => write_groups(alloc, true, layered, out),
+        Detail::Plain | Detail::Trace => write_groups(alloc, false, layered, out),
     }
 }

@@ -1,26 +1,26 @@
 // Whether a plan solves a task. Both are read, the plan only if it is needed.
-ghost use Rattle.std.specs.Prelude.{◌≡◌, false, IsSomeAnd};
-ghost use Rattle.sas_answers.specs.Ending.{Answers, EndsCounting, Writes};
+ghost use Rattle.std.specs.Prelude.{◌≡◌, false, IfOk};
+ghost use Rattle.sas_answers.specs.Ending.{Answers, EndsCounting};
+ghost use Rattle.sas_plan_reasons.specs.VerdictBy.{VerdictBy};
 ghost use Rattle.sas_requests.specs.EndsRequest.{EndsFile, EndsRequest};
-ghost use Rattle.sas_requests.specs.Answering.{OutBy, PlanBy, VerdictBy, detail_of};
+ghost use Rattle.sas_requests.specs.Answering.{OutBy, PlanBy};
 
-use crate::question::PlanDetail;
 use crate::refusals::write_plan_refusal;
 use crate::tasks::{ReadTask, read_layered};
-use crate::{Request, Status, ToolFault};
-use sas_answers::verdict_answer;
-use sas_flat::{FlatPlan, FlatTask};
+use crate::{Detail, Request, Status, ToolFault};
+use sas_axioms::Worklist;
+use sas_flat::FlatTask;
 use sas_lines::Watched;
 use sas_meaning::Layered;
-use sas_plan_file::read_flat_plan;
-use sas_plan_reasons::{write_explained, write_trace};
-use std::alloc::Global;
+use sas_plan_file::{flat_plan_of, read_flat_plan};
+use sas_plan_reasons::{LoadedTask, answer_plan};
+use std::alloc::{AllocError, Global};
 use std::io::{Read, Write};
 
 /// Answers whether the plan solves the task. The plan is read only where the task is layered.
-pub fn judge_files<T: Read, P: Read, W: Write>(
+pub fn answer_plan_files<T: Read, P: Read, W: Write>(
     alloc: Global,
-    detail: PlanDetail,
+    detail: Detail,
     task: &mut Watched<T>,
     plan: &mut Watched<P>,
     out: &mut Watched<W>,
@@ -33,9 +33,9 @@ pub fn judge_files<T: Read, P: Read, W: Write>(
         Request.Plan task.old task.new plan.old plan.new)
         out.old out.new result }
 {
-    match read_layered(alloc, detail.detail(), task, out) {
+    match read_layered(alloc, detail, task, out) {
         ReadTask::Layered(layered) => {
-            let ended = judge_plan_file(alloc, detail, &layered, plan, out);
+            let ended = answer_plan_file(alloc, detail, &layered, plan, out);
             drop(layered);
             ended
         }
@@ -43,30 +43,12 @@ pub fn judge_files<T: Read, P: Read, W: Write>(
     }
 }
 
-/// Answers whether a plan with these bytes solves a layered task, as `answer` does. At `Write` the first bytes of the answer were
-/// written; at any other fault nothing was. Not to be called after a failure.
-pub fn answer_bytes<W: Write>(
-    alloc: Global,
-    detail: PlanDetail,
-    layered: &Layered<FlatTask>,
-    plan: &[u8],
-    out: &mut Watched<W>,
-) -> Result<Status, ToolFault>
-    requires { out.old.failed ≡ false }
-    ensures { Answers W.contents
-        (EndsCounting (PlanBy (detail_of detail) (VerdictBy detail layered.now) plan.now))
-        out.old out.new result }
-{
-    let mut device = Watched::new(plan);
-    judge_plan_file(alloc, detail, layered, &mut device, out)
-}
-
 /// Answers whether the plan solves a layered task that was read. The stack frame of this call is large, so it isn't
 /// inlined where a task is read.
 #[inline(never)]
-fn judge_plan_file<P: Read, W: Write>(
+fn answer_plan_file<P: Read, W: Write>(
     alloc: Global,
-    detail: PlanDetail,
+    detail: Detail,
     layered: &Layered<FlatTask>,
     plan: &mut Watched<P>,
     out: &mut Watched<W>,
@@ -74,8 +56,7 @@ fn judge_plan_file<P: Read, W: Write>(
     requires plan { plan.old.failed ≡ false }
     requires out { out.old.failed ≡ false }
     ensures { Answers W.contents
-        (EndsFile P.remaining (PlanBy (detail_of detail) (VerdictBy detail layered.now))
-        plan.old plan.new)
+        (EndsFile P.remaining (PlanBy detail (VerdictBy detail layered.now)) plan.old plan.new)
         out.old out.new result }
 {
     match read_flat_plan(alloc, plan) {
@@ -84,26 +65,42 @@ fn judge_plan_file<P: Read, W: Write>(
             drop(read);
             ended
         }
-        Err(refusal) => write_plan_refusal(alloc, detail.detail(), refusal, out),
+        Err(refusal) => write_plan_refusal(alloc, detail, refusal, out),
     }
 }
 
-/// Answers whether the plan, which was read, solves a layered task.
-fn answer_plan<W: Write>(
+/// Loads the task for many plans, with an evaluator that counts open conditions. If memory is refused, the task is dropped.
+pub fn load(
     alloc: Global,
-    detail: PlanDetail,
-    layered: &Layered<FlatTask>,
-    plan: &FlatPlan,
+    layered: Layered<FlatTask>,
+) -> Result<LoadedTask<Worklist>, AllocError>
+    ensures { IfOk result (λ h. h ≡ layered) }
+{
+    let worklist = Worklist::new(alloc, &layered)?;
+    LoadedTask::new(alloc, layered, worklist)
+}
+
+/// Answers whether a plan with these bytes solves the task, as `answer` does. Nothing of a plan is left for the next one. At `Write` the
+/// first bytes of the answer were written; at any other fault nothing was. Not to be called after a failure.
+pub fn answer_bytes<W: Write>(
+    alloc: Global,
+    detail: Detail,
+    loaded: &mut LoadedTask<Worklist>,
+    plan: &[u8],
     out: &mut Watched<W>,
 ) -> Result<Status, ToolFault>
     requires { out.old.failed ≡ false }
-    ensures { Writes W.contents (EndsCounting
-        (λ output. IsSomeAnd output (VerdictBy detail layered.now plan.now)))
+    ensures answers { Answers W.contents
+        (EndsCounting (PlanBy detail (VerdictBy detail loaded.old) plan.now))
         out.old out.new result }
+    ensures same { loaded.new ≡ loaded.old }
 {
-    match detail {
-        PlanDetail::Plain => verdict_answer(alloc, layered, plan)?.write(out),
-        PlanDetail::Reasons => write_explained(alloc, layered, plan, out),
-        PlanDetail::Trace => write_trace(alloc, layered, plan, out),
+    match flat_plan_of(alloc, plan) {
+        Ok(read) => {
+            let ended = loaded.answer(alloc, detail, &read, out);
+            drop(read);
+            ended
+        }
+        Err(refusal) => write_plan_refusal(alloc, detail, refusal, out),
     }
 }

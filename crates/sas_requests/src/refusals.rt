@@ -3,8 +3,7 @@ ghost use Rattle.std.specs.Prelude.{◌≡◌, ◌↔◌, codes, false, IsErrOf}
 ghost use Rattle.sas_answers.specs.Ending.{Answers, Ends};
 ghost use Rattle.sas_requests.specs.Answering.{plan_refusal_lines, refusal_by, task_refusal_lines};
 
-use crate::question::Detail;
-use crate::{Status, ToolFault, push_plan_reasons, push_task_reasons, refuse_file};
+use crate::{Detail, Status, ToolFault, push_plan_reasons, push_task_reasons, refuse_file};
 use sas_lines::Watched;
 use sas_plan_file::PlanRefusal;
 use sas_reader::Kind;
@@ -28,7 +27,7 @@ pub fn write_task_refusal<W: Write>(
 {
     let mut answer = refuse_file(alloc, "task", refused.fault)?;
     match detail {
-        Detail::Plain => answer.write(out),
+        Detail::Plain | Detail::Trace => answer.write(out),
         Detail::Reasons => {
             push_task_reasons(&mut answer.text, &refused)?;
             answer.write(out)
@@ -52,7 +51,7 @@ pub fn write_plan_refusal<W: Write>(
 {
     let mut answer = refuse_file(alloc, "plan", refused.fault)?;
     match detail {
-        Detail::Plain => answer.write(out),
+        Detail::Plain | Detail::Trace => answer.write(out),
         Detail::Reasons => {
             push_plan_reasons(&mut answer.text, &refused)?;
             answer.write(out)

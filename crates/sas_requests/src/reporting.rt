@@ -8,7 +8,7 @@ ghost use Rattle.sas_requests.specs.InTurn.{EndsAt, IsOpened, OpensFirst, OpensI
 ghost use Rattle.sas_requests.specs.Judging.{AreReported, HoldsOf, IsUnsaid, Judges, JudgesPlans};
 
 use crate::inputs::{JudgeFault, PlanInputs, judge_ended};
-use crate::loaded::load;
+use crate::plans::load;
 use crate::tally::Tally;
 use crate::verdicts::judge_plan;
 use sas_answers::{Answer, Status};
@@ -16,7 +16,7 @@ use sas_axioms::Worklist;
 use sas_flat::FlatTask;
 use sas_lines::{Watched, push_number};
 use sas_meaning::Layered;
-use sas_run::LoadedTask;
+use sas_plan_reasons::LoadedTask;
 use std::alloc::{AllocError, Global};
 use std::io::Write;
 
@@ -53,7 +53,7 @@ pub fn report_plans<S: PlanInputs, W: Write>(
 /// Adds a line for each plan, and returns how many are valid, and the best of these.
 fn report_each<S: PlanInputs>(
     alloc: Global,
-    loaded: &mut LoadedTask<Worklist, FlatTask>,
+    loaded: &mut LoadedTask<Worklist>,
     plans: &mut S,
     text: &mut Vec<u8>,
 ) -> Result<Tally, JudgeFault>
@@ -78,7 +78,7 @@ fn report_each<S: PlanInputs>(
 /// Adds the line of the plan with this number, and returns its cost if it is valid.
 fn report_plan<S: PlanInputs>(
     alloc: Global,
-    loaded: &mut LoadedTask<Worklist, FlatTask>,
+    loaded: &mut LoadedTask<Worklist>,
     plans: &mut S,
     number: usize,
     text: &mut Vec<u8>,

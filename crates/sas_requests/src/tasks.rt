@@ -7,9 +7,8 @@ ghost use Rattle.sas_task_file.specs.TaskFormat.{task_format};
 ghost use Rattle.sas_requests.specs.EndsRequest.{EndsFile};
 ghost use Rattle.sas_requests.specs.Answering.{IfEnded, IfLayered, TaskBy, UnlayeredBy, layers_by};
 
-use crate::question::Detail;
 use crate::refusals::write_task_refusal;
-use crate::{Status, ToolFault};
+use crate::{Detail, Status, ToolFault};
 use sas_answers::refuse_layers;
 use sas_flat::FlatTask;
 use sas_lines::Watched;
@@ -77,6 +76,6 @@ fn refuse_unlayered<W: Write>(
 {
     match detail {
         Detail::Reasons => write_unlayered(alloc, task, fault, out),
-        Detail::Plain => refuse_layers(alloc, fault)?.write(out),
+        Detail::Plain | Detail::Trace => refuse_layers(alloc, fault)?.write(out),
     }
 }

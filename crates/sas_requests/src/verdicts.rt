@@ -9,14 +9,14 @@ ghost use Rattle.sas_requests.specs.Output.{refusal};
 
 use crate::inputs::{InputFault, JudgeFault, PlanInputs};
 use crate::refuse_file;
-use sas_answers::{Answer, Status, ToolFault, answer_by};
+use sas_answers::{Answer, Status, ToolFault};
 use sas_axioms::Worklist;
 use sas_core::Stepwise;
-use sas_flat::{FlatPlan, FlatTask};
+use sas_flat::FlatPlan;
 use sas_lines::Watched;
 use sas_plan_file::read_flat_plan;
+use sas_plan_reasons::LoadedTask;
 use sas_reader::{Fault, Kind};
-use sas_run::LoadedTask;
 use std::alloc::{AllocError, Global};
 use std::io::Read;
 
@@ -30,7 +30,7 @@ pub struct PlanReport {
 /// Opens the plan with this number, reads it, and returns the report on it. The input is let go.
 pub fn judge_plan<S: PlanInputs>(
     alloc: Global,
-    loaded: &mut LoadedTask<Worklist, FlatTask>,
+    loaded: &mut LoadedTask<Worklist>,
     plans: &mut S,
     number: usize,
 ) -> Result<PlanReport, JudgeFault>
@@ -77,7 +77,7 @@ fn fault_of_plan(number: usize, fault: ToolFault) -> JudgeFault
 /// Reads a plan, and returns the report on it. There is one on a plan file that is refused, too.
 fn judge_input<P: Read>(
     alloc: Global,
-    loaded: &mut LoadedTask<Worklist, FlatTask>,
+    loaded: &mut LoadedTask<Worklist>,
     plan: &mut Watched<P>,
 ) -> Result<PlanReport, ToolFault>
     requires { plan.old.failed ≡ false }
@@ -108,7 +108,7 @@ fn verdict_on_refusal(alloc: Global, fault: Fault) -> Result<PlanReport, ToolFau
 /// Returns the report on a plan that was read.
 fn verdict_by(
     alloc: Global,
-    loaded: &mut LoadedTask<Worklist, FlatTask>,
+    loaded: &mut LoadedTask<Worklist>,
     plan: &FlatPlan,
 ) -> Result<PlanReport, AllocError>
     ensures verdict { IfOk result (λ report.
@@ -116,7 +116,7 @@ fn verdict_by(
         × (report.cost ≡ cost_if report.answer.status plan.now.cost)) }
     ensures same { loaded.new ≡ loaded.old }
 {
-    let answer = answer_by(alloc, loaded, plan)?;
+    let answer = loaded.verdict(alloc, plan)?;
     let cost = match answer.status {
         Status::Yes => Some(plan.cost()),
         Status::No => None,

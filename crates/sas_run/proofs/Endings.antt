@@ -1,16 +1,11 @@
 -- How a plan ends: at a step that fails, or after the last step.
-use Rattle.sas_run.proofs.Imports.{◌≡◌, ℕ, ◌+◌, ◌-◌, ◌<◌, List, [], length, take, drop, get_or, Option, Some, None, sym, ◌∙◌, ap, subst, arith, take_all, Parts, PlanParts, PlanFault, Memory, NoOperator, NotApplicable, Conflict, GoalMissed, CostDiffers, LeadsTo, IsValid, IsFinalVerdict, IsChoice, StepFailsBy, IsRunOf, Run, steps_before, RunEndsWith, ComesTo, IsFaultOf}
+use Rattle.sas_run.proofs.Imports.{◌≡◌, ℕ, ◌+◌, ◌-◌, ◌<◌, List, [], length, take, drop, get_or, Option, Some, None, sym, ◌∙◌, ap, subst, arith, take_all, Parts, PlanParts, PlanFault, Memory, NoOperator, NotApplicable, Conflict, GoalMissed, CostDiffers, LeadsTo, IsValid, IsFinalVerdict, IsChoice, StepFailsBy, IsRunOf, IsEnding, Run, steps_before, RunEndsWith, ComesTo, IsFaultOf}
 use Rattle.sas_run.proofs.Going.{around, length_of_take}
 use Rattle.sas_run.proofs.Runs.{some_run}
 
 -- the fault says why the step with this number and name fails in the state s
 abbrev pub StepFails : Parts → List ℕ → List ℕ → ℕ → PlanFault → Type 0
 StepFails p s name = StepFailsBy p (IsChoice p s name) s
-
--- the plan ends with this fault, or is valid, after a run of these operators
-abbrev pub IsEnding : Parts → PlanParts → List ℕ → Option PlanFault → Type 0
-IsEnding p plan operators fault = (run : Run) × IsRunOf p plan run × RunEndsWith p plan run fault
-    × (run.operators ≡ operators)
 
 -- if step k + 1 fails, that is the fault of the plan
 module _ (p : Parts) (plan : PlanParts) (k : ℕ) (lt : k < length plan.steps) (operators s : List ℕ) (leads : LeadsTo p (take k plan.steps) operators s) where

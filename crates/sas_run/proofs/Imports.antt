@@ -56,13 +56,12 @@ pub use Rattle.sas_run.specs.Laws.{AreChosen, ValidByNumbers, SomeVerdictByNumbe
 pub use Rattle.sas_run.specs.ValueGroups.{first_with, IsFirstFrom, AreValueGroups}
 pub use Rattle.sas_run.specs.LongChains.{RequiresValue, HaveValues, IsLongChain, AreAll, NoneAmong, IsFirstAmong, AreLongChains}
 pub use Rattle.sas_names.specs.Named.{IsNamed}
-pub use Rattle.sas_names.specs.Nameless.{nameless_steps}
 pub use Rattle.sas_names.specs.Names.{IsNextNamed, IsLowestNamed, existing}
 pub use Rattle.sas_run.specs.NumberFaults.{IsStuck, IsFaultByNumbers, IsNumberFaultOrMemory}
 pub use Rattle.sas_run.specs.OtherSensesLaws.{ValidIsUsuallyValid, ValidInFastDownward, EndsInFastDownward}
 pub use Rattle.sas_run.specs.Plans.{IsApplicable, NoneApplicable, IsChosen, LeadFrom, LeadsTo, IsValid, cost_of_all}
 pub use Rattle.sas_run.specs.Running.{IsSolution, IsFaultOrMemory, IsChoice, StepFailsBy, IsFinalVerdict, Steps, IsApplied, IsFirstConflict, IsFirstMissedFact, IsFirstChosen, IsLater, IsLaterIfAny, IsStepFault}
-pub use Rattle.sas_run.specs.Runs.{Run, steps_before, RunEndsWith, IsRunOf, state_at, last_state, StepsSucceed}
+pub use Rattle.sas_run.specs.Runs.{Run, steps_before, RunEndsWith, IsRunOf, IsEnding, state_at, last_state, StepsSucceed}
 pub use Rattle.sas_run.specs.Observing.{IsTold, CanSee, AreMadeAndSeen}
 pub use Rattle.sas_run.specs.Stepping.{IsAt}
 pub use Rattle.sas_run.specs.Verdicts.{IsFirstMissed, ComesTo, IsFaultOf}

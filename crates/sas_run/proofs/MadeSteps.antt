@@ -1,6 +1,6 @@
 -- The steps of a plan were made, by names or by numbers.
-use Rattle.sas_run.proofs.Imports.{◌≡◌, ℕ, ◌+◌, ◌≤◌, List, [], length, take, get_or, Option, None, Some, sym, ◌∙◌, subst, inl, inr, arith, none-some, same_Some, take_all, length-take-le, get_or-take, same_lists, get_or_default, Parts, PlanParts, PlanFault, Valid, Choice, IsChosen, LeadsTo, IsChoice, StepFailsBy, IsFinalVerdict, IsSolution, IsFaultOrMemory, GoesThrough, IsValidByNumbers, IsNumberChoice, IsNumberFaultOrMemory, Makes, EndsPlan, IsSolutionBy, IsFaultByOrMemory}
-use Rattle.sas_run.proofs.Endings.{IsEnding, stops_there, judged_there, ends_valid, ends_faulty}
+use Rattle.sas_run.proofs.Imports.{◌≡◌, ℕ, ◌+◌, ◌≤◌, List, [], length, take, get_or, Option, None, Some, sym, ◌∙◌, subst, inl, inr, arith, none-some, same_Some, take_all, length-take-le, get_or-take, same_lists, get_or_default, Parts, PlanParts, PlanFault, Valid, Choice, IsChosen, LeadsTo, IsChoice, StepFailsBy, IsFinalVerdict, IsSolution, IsFaultOrMemory, GoesThrough, IsValidByNumbers, IsNumberChoice, IsNumberFaultOrMemory, Makes, EndsPlan, IsSolutionBy, IsFaultByOrMemory, IsEnding}
+use Rattle.sas_run.proofs.Endings.{stops_there, judged_there, ends_valid, ends_faulty}
 use Rattle.sas_run.proofs.GoingByNumbers.{goes_front, leads_by_numbers}
 
 -- ---- by names

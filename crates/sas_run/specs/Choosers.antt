@@ -2,13 +2,17 @@
 use Rattle.std.specs.Prelude.{◌≡◌, ◌≢◌, ◌⊎◌, ⊤, ℕ, ◌+◌, ◌<◌, List, length, take, slice_index, Option, Some, None, Result, Ok, Err}
 use Rattle.sas_core.specs.declared.parts.Parts.{Parts}
 use Rattle.sas_core.specs.Grounded.{operator_at}
+use Rattle.sas_core.specs.PlanParts.{PlanParts}
 use Rattle.sas_meaning.specs.Steps.{Step}
 use Rattle.sas_run.specs.declared.plan_check.PlanFault.{PlanFault}
 use Rattle.sas_run.specs.declared.plan_check.PlanFault.TheVariants.{Memory}
 use Rattle.sas_run.specs.declared.plan_check.Valid.{Valid}
 use Rattle.sas_run.specs.declared.runner.Choice.{Choice}
 use Rattle.sas_run.specs.declared.runner.Choice.TheVariants.{Unknown, Blocked, Found}
+use Rattle.sas_names.specs.Chains.{AreStepOperators}
+use Rattle.sas_run.specs.declared.long_chains.LongChains.{LongChains}
 use Rattle.sas_run.specs.ByNumbers.{GoesThrough}
+use Rattle.sas_run.specs.LongChains.{AreLongChains}
 use Rattle.sas_run.specs.Plans.{IsApplicable}
 use Rattle.sas_run.specs.Running.{IsFinalVerdict, StepFailsBy}
 
@@ -17,6 +21,12 @@ abbrev pub IsPossible : Parts → List ℕ → Choice → Type 0
 IsPossible p s (Found operator) =
     (operator < length p.operators) × IsApplicable s (operator_at p operator)
 IsPossible p s _ = ⊤
+
+-- the lists and the long chains have the operators of the names of the plan's steps
+pub record HaveOperators (p : Parts) (plan : PlanParts) (firsts : List ℕ) (nexts : List (Option ℕ))
+    (long : LongChains) : Type 0 where
+  pub names : AreStepOperators p plan.steps firsts nexts
+  pub chains : AreLongChains p long
 
 -- which operator a number means in a state: none has the number, it isn't applicable, or that one
 abbrev pub IsNumberChoice : Parts → List ℕ → ℕ → Choice → Type 0

@@ -47,3 +47,8 @@ steps_before plan Memory = plan.steps
 abbrev pub RunEndsWith : Parts → PlanParts → Run → Option PlanFault → Type 0
 RunEndsWith p plan run (Some fault) = IsFaultOf p plan fault × (run.steps ≡ steps_before plan fault)
 RunEndsWith p plan run None = IsValid p plan run.operators × (run.steps ≡ plan.steps)
+
+-- the plan ends with this fault, or is valid, after a run of these operators
+abbrev pub IsEnding : Parts → PlanParts → List ℕ → Option PlanFault → Type 0
+IsEnding p plan operators fault = (run : Run) × IsRunOf p plan run × RunEndsWith p plan run fault
+    × (run.operators ≡ operators)

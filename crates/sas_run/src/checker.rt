@@ -75,6 +75,7 @@ impl<E: Drop> Checker<E> {
     {
         let firsts = self.names.first_operators(alloc, layered, plan)?;
         let named = NamedPlan {
+            task: layered,
             plan,
             firsts: firsts.as_slice(),
             nexts: self.names.next(),

@@ -1,9 +1,7 @@
 // What the steps of a plan mean: by their names, or by numbers.
 ghost use Rattle.std.specs.Prelude.{⊤, length, slice_index};
 ghost use Rattle.sas_core.specs.Stepwise.{step_at};
-ghost use Rattle.sas_names.specs.Chains.{AreStepOperators};
-ghost use Rattle.sas_run.specs.Choosers.{IsNumberChoice};
-ghost use Rattle.sas_run.specs.LongChains.{AreLongChains};
+ghost use Rattle.sas_run.specs.Choosers.{HaveOperators, IsNumberChoice};
 ghost use Rattle.sas_run.specs.Running.{IsChoice};
 
 use crate::long_chains::LongChains;
@@ -49,9 +47,10 @@ pub trait Chooser<T: Grounded> {
         ensures possible { IsPossible task.now state.now result };
 }
 
-/// A plan with the operators of its steps' names, borrowed.
+/// A plan of a task with the operators of its steps' names, borrowed.
 #[derive(Drop)]
-pub struct NamedPlan<'f, P: Stepwise> {
+pub struct NamedPlan<'f, T: Grounded, P: Stepwise> {
+    pub task: &'f Layered<T>,
     pub plan: &'f P,
     /// The lowest operator of the name of each step, or a number that no operator has if there is none.
     pub firsts: &'f [u32],
@@ -62,9 +61,9 @@ pub struct NamedPlan<'f, P: Stepwise> {
 }
 
 /// By name: a step means the lowest applicable operator of its name.
-impl<'f, T: Grounded, P: Stepwise> Chooser<T> for NamedPlan<'f, P> {
-    ghost ready = { λ named p. AreStepOperators p (P.says named.plan.now).steps
-        named.firsts.now named.nexts.now × AreLongChains p named.long.now };
+impl<'f, T: Grounded, P: Stepwise> Chooser<T> for NamedPlan<'f, T, P> {
+    ghost ready = { λ named p. HaveOperators p (P.says named.plan.now)
+        named.firsts.now named.nexts.now named.long.now };
 
     ghost count = { λ named. length (P.says named.plan.now).steps };
 

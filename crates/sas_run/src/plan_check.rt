@@ -1,17 +1,14 @@
 // Checks whether a plan is valid.
 ghost use Rattle.std.specs.Prelude.{◌≡◌, ◌^◌, ◌+◌, ◌<◌, IfOk, IfErr};
 ghost use Rattle.sas_run.specs.Choosers.{EndsPlan, IsFaultByOrMemory, IsSolutionBy};
-ghost use Rattle.sas_run.specs.Running.{IsSolution, IsFaultOrMemory};
 ghost use Rattle.sas_run.specs.Stepping.{IsPrepared};
 
-use crate::choosers::{Chooser, NamedPlan};
+use crate::choosers::Chooser;
 use crate::executor::make_steps;
 use crate::goal_and_cost::last_fault;
-use crate::long_chains::LongChains;
-use crate::stepper::{Stepper, initial_of, stepper_for};
-use sas_core::{Grounded, Stepwise};
+use crate::stepper::{Stepper, initial_of};
+use sas_core::Grounded;
 use sas_meaning::{Layered, Settle};
-use sas_names::StepOperators;
 use std::alloc::{AllocError, Global};
 
 /// The result for a valid plan: the operators of its steps, and its cost.
@@ -53,34 +50,6 @@ impl From<AllocError> for PlanFault {
     fn from(_error: AllocError) -> PlanFault {
         PlanFault::Memory
     }
-}
-
-/// Checks whether the plan is valid, like `Runner::check_plan`. The evaluator must be ready for the task. Use it to check a single plan: it
-/// keeps nothing for the next one. All memory is allocated before the first step.
-pub fn check_once<E: Settle<T> + Drop, T: Grounded, P: Stepwise>(
-    alloc: Global,
-    layered: &Layered<T>,
-    evaluator: E,
-    plan: &P,
-) -> Result<Valid, PlanFault>
-    requires { E.ready evaluator layered.now }
-    ensures valid { IfOk result (IsSolution layered.now (P.says plan.now)) }
-    ensures fault { IfErr result (IsFaultOrMemory layered.now (P.says plan.now)) }
-{
-    let Ok(mut stepper) = stepper_for(alloc, layered, evaluator) else {
-        return Err(PlanFault::Memory);
-    };
-    let operators = StepOperators::new(alloc, layered, plan)?;
-    let firsts = operators.firsts.as_slice();
-    let nexts = operators.nexts.as_slice();
-    let long = LongChains::new(alloc, layered, firsts, nexts)?;
-    let named = NamedPlan {
-        plan,
-        firsts,
-        nexts,
-        long: &long,
-    };
-    check(alloc, layered, &mut stepper, &named)
 }
 
 /// Checks whether the plan is valid. All memory is allocated before the first step.

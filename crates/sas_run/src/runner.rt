@@ -8,9 +8,9 @@ ghost use Rattle.sas_run.specs.Plans.{IsApplicable};
 ghost use Rattle.sas_run.specs.Running.{IsChoice, IsFaultOrMemory, IsGoalAnswer, IsLaterIfAny, IsSolution, Steps};
 
 use crate::checker::{Checker, checker_for};
+use crate::goal_and_cost::first_missed;
 use crate::plain_steps::old_values_hold;
 use crate::plan_check::{PlanFault, Valid};
-use crate::goal_and_cost::first_missed;
 use crate::stepper::{initial_of, step_on};
 use crate::steps::{StepFault, missed_precondition};
 use sas_core::{Grounded, Stepwise, Task};

@@ -10,8 +10,11 @@ observe-requires g c =
     let p = c.args.layered.now in
     let within : c.loop-before.before < g.C.Chooser.count c.args.chooser.now = omega (arith, c.loop-before-test.true, c.steps-before-end.ensures) in
     record {
-      told = (c.args.observer.now, inv.operators,
-          told_next p (g.C.Chooser.means c.args.chooser.now p) _ _ _ _ _ _ _ _ c.requires.observer inv.makes inv.one_each within inv.sees (rw c.in-Ok.is at c.make_plan_step.ensures.makes));
+      told = (
+        c.args.observer.now,
+        inv.operators,
+        told_next p (g.C.Chooser.means c.args.chooser.now p) _ _ _ _ _ _ _ _ c.requires.observer inv.makes inv.one_each within inv.sees (rw c.in-Ok.is at c.make_plan_step.ensures.makes),
+      );
     }
 
 pub loop-before-preserved : goal.loop-before-preserved

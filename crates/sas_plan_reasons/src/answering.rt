@@ -1,0 +1,94 @@
+// The answer about a plan, by how much is reported.
+ghost use Rattle.std.specs.Prelude.{◌≡◌, false, IfOk, IsSomeAnd};
+ghost use Rattle.sas_answers.specs.Answers.{VerdictAnswer};
+ghost use Rattle.sas_answers.specs.Ending.{EndsCounting, Writes, output_of};
+ghost use Rattle.sas_run.specs.Choosers.{HaveOperators};
+ghost use Rattle.sas_run.specs.Stepping.{IsPrepared};
+ghost use Rattle.sas_plan_reasons.specs.VerdictBy.{VerdictBy};
+
+use crate::writing::{write_explained, write_trace};
+use sas_answers::{Answer, Detail, Status, ToolFault, accept_plan, answer_fault};
+use sas_axioms::Worklist;
+use sas_core::Stepwise;
+use sas_flat::{FlatPlan, FlatTask};
+use sas_lines::Watched;
+use sas_meaning::{Layered, Settle};
+use sas_names::StepOperators;
+use sas_run::{LongChains, NamedPlan, Stepper, check, stepper_for};
+use std::alloc::{AllocError, Global};
+use std::io::Write;
+
+/// Writes the answer about a plan of a layered task, and returns its status. It keeps nothing for the next plan: that is what a
+/// `LoadedTask` is for. If an `Err` isn't a failed write, it is `Memory`, and nothing was written. Not to be called after a failure.
+pub fn answer_plan<W: Write>(
+    alloc: Global,
+    detail: Detail,
+    task: &Layered<FlatTask>,
+    plan: &FlatPlan,
+    out: &mut Watched<W>,
+) -> Result<Status, ToolFault>
+    requires { out.old.failed ≡ false }
+    ensures { Writes W.contents (EndsCounting
+        (λ output. IsSomeAnd output (VerdictBy detail task.now plan.now)))
+        out.old out.new result }
+{
+    let worklist = Worklist::new(alloc, task)?;
+    let Ok(mut stepper) = stepper_for(alloc, task, worklist) else {
+        return Err(ToolFault::Memory);
+    };
+    let operators = StepOperators::new(alloc, task, plan)?;
+    let firsts = operators.firsts.as_slice();
+    let nexts = operators.nexts.as_slice();
+    let long = LongChains::new(alloc, task, firsts, nexts)?;
+    let named = NamedPlan {
+        task,
+        plan,
+        firsts,
+        nexts,
+        long: &long,
+    };
+    answer_named(alloc, detail, &mut stepper, &named, out)
+}
+
+/// Writes the answer about a plan whose names are known, and returns its status, as `answer_plan` does.
+pub fn answer_named<W: Write, E: Settle<FlatTask> + Drop>(
+    alloc: Global,
+    detail: Detail,
+    stepper: &mut Stepper<E>,
+    named: &NamedPlan<'_, FlatTask, FlatPlan>,
+    out: &mut Watched<W>,
+) -> Result<Status, ToolFault>
+    requires prepared { IsPrepared E.ready named.now.task.now stepper.old }
+    requires named { HaveOperators named.now.task.now named.now.plan.now
+        named.now.firsts.now named.now.nexts.now named.now.long.now }
+    requires out { out.old.failed ≡ false }
+    ensures prepared { IsPrepared E.ready named.now.task.now stepper.new }
+    ensures writes { Writes W.contents (EndsCounting
+        (λ output. IsSomeAnd output (VerdictBy detail named.now.task.now named.now.plan.now)))
+        out.old out.new result }
+{
+    match detail {
+        Detail::Plain => verdict_answer(alloc, stepper, named)?.write(out),
+        Detail::Reasons => write_explained(alloc, stepper, named, out),
+        Detail::Trace => write_trace(alloc, stepper, named, out),
+    }
+}
+
+/// Returns the answer about a plan whose names are known: one line.
+pub fn verdict_answer<E: Settle<FlatTask> + Drop>(
+    alloc: Global,
+    stepper: &mut Stepper<E>,
+    named: &NamedPlan<'_, FlatTask, FlatPlan>,
+) -> Result<Answer, AllocError>
+    requires prepared { IsPrepared E.ready named.now.task.now stepper.old }
+    requires named { HaveOperators named.now.task.now named.now.plan.now
+        named.now.firsts.now named.now.nexts.now named.now.long.now }
+    ensures prepared { IsPrepared E.ready named.now.task.now stepper.new }
+    ensures answer { IfOk result (λ a.
+        VerdictAnswer named.now.task.now named.now.plan.now (output_of a)) }
+{
+    match check(alloc, named.task, stepper, named) {
+        Ok(_) => accept_plan(alloc, named.plan.steps(), named.plan.cost()),
+        Err(fault) => answer_fault(alloc, named.plan.cost(), fault),
+    }
+}
