@@ -48,8 +48,7 @@ pub use Rattle.sas_requests.proofs.TracedPlans.{traced_headline}
 pub use Rattle.sas_requests.specs.FileReasons.{PlanFileReasons}
 pub use Rattle.sas_requests.specs.TraceOut.{EndsInLine, TraceOut}
 pub use Rattle.sas_requests.specs.Why.{OutWhy, WithReasons}
-pub use Rattle.sas_requests.specs.declared.question.PlanDetail.TheVariants.{Reasons}
-pub use Rattle.sas_requests.specs.declared.question.Detail.TheVariants.{Plain}
+pub use Rattle.sas_answers.specs.declared.detail.Detail.TheVariants.{Plain, Reasons}
 pub use Rattle.sas_task_file.specs.TaskFormat.{task_format}
 pub use Rattle.sas_plan_reasons.specs.Traced.{TraceVerdict}
 pub use Rattle.sas_plan_reasons.specs.Verdict.{WhyVerdict}

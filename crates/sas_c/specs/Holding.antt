@@ -7,7 +7,8 @@ use Rattle.sas_reader.specs.Limit.{most_bytes}
 use Rattle.sas_task_file.specs.TaskFormat.{task_format}
 use Rattle.sas_answers.specs.Ending.{Output}
 use Rattle.sas_answers.specs.NumberedPlans.{NumbersAnswer}
-use Rattle.sas_requests.specs.Answering.{PlanBy, VerdictBy, detail_of}
+use Rattle.sas_plan_reasons.specs.VerdictBy.{VerdictBy}
+use Rattle.sas_requests.specs.Answering.{PlanBy}
 use Rattle.sas_c.specs.Reporting.{Returns}
 use Rattle.sas_c.specs.declared.plans.PlanCall.{PlanCall}
 use Rattle.sas_c.specs.declared.plans.PlanCall.TheVariants.{Bytes, Numbers}
@@ -22,7 +23,7 @@ use Rattle.sas_flat.specs.contracts.task.FlatTask as flat
 use Rattle.sas_flat.specs.contracts.task.FlatTaskGrounded.TheImpl as grounded
 use Rattle.sas_axioms.specs.contracts.worklist.Worklist as worklist
 use Rattle.sas_axioms.specs.contracts.worklist.WorklistSettle.TheImpl as settle
-use Rattle.sas_run.specs.contracts.loaded_task.LoadedTask as loaded
+use Rattle.sas_plan_reasons.specs.contracts.loaded_task.LoadedTask as loaded
 
 -- a task is held, the one that the bytes are a text of, and it is layered
 abbrev pub HoldsTask : List ℕ → Option Parts → Type 0
@@ -37,7 +38,7 @@ NumbersOut p operators cost output =
 
 -- the output of a call about a plan of the task that is held
 abbrev pub HeldOut : PlanCall → Parts → Option Output → Type 0
-HeldOut (Bytes detail plan) p = PlanBy (detail_of detail) (VerdictBy detail p) plan.now
+HeldOut (Bytes detail plan) p = PlanBy detail (VerdictBy detail p) plan.now
 HeldOut (Numbers plan) p = NumbersOut p plan.operators.now plan.cost
 
 -- What a call about the task that is held returns. `Out` holds of the right output for this task.
@@ -52,8 +53,8 @@ pub record ReturnsHeld (Out : Parts → Option Output → Type 0) (held after : 
 -- the type of a task that is held, as the logic names it; `impl` stands for the code of the task's
 -- methods, which no ghost member reads
 abbrev pub the_row : RattleType
-the_row = loaded.the_row worklist.the_row flat.the_row
-    (settle.ghosts flat.the_row grounded.ghosts (impl [] tnil dnil)) grounded.ghosts
+the_row = loaded.the_row worklist.the_row
+    (settle.ghosts flat.the_row grounded.ghosts (impl [] tnil dnil))
 
 -- the box of the task that it points to, or nothing
 abbrev pub owns_task : Ptr → Option Parts → Fml

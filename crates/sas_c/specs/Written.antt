@@ -1,6 +1,5 @@
 -- What a run has written that answers into memory.
-use Rattle.std.specs.Prelude.{◌≡◌, ℕ, List, [], Option, Some, None, Result, Ok, Err}
-use Rattle.sas_answers.specs.declared.answer.Answer.{Answer}
+use Rattle.std.specs.Prelude.{◌≡◌, ℕ, List, Option, Some, None, Result, Ok, Err}
 use Rattle.sas_answers.specs.declared.ending.Status.{Status}
 use Rattle.sas_answers.specs.declared.ending.ToolFault.{ToolFault}
 use Rattle.sas_answers.specs.declared.ending.ToolFault.TheVariants.{TooLong}
@@ -10,8 +9,3 @@ use Rattle.sas_answers.specs.Ending.{Output}
 abbrev pub IsWritten : List ℕ → Result Status ToolFault → Option Output → Type 0
 IsWritten text (Ok status) output = output ≡ Some (record { text = text; status = status })
 IsWritten text (Err why) output = (why ≡ TooLong) × (output ≡ None)
-
--- the output of this answer; there is none where an input is too long
-abbrev pub IsAnswered : Result Answer ToolFault → Option Output → Type 0
-IsAnswered (Ok answer) = IsWritten answer.text.items (Ok answer.status)
-IsAnswered (Err why) = IsWritten [] (Err why)

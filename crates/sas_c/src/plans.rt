@@ -12,11 +12,10 @@ ghost use Rattle.sas_c.specs.Reporting.{Returns, ReturnsByNumbers, ReturnsHeadli
 ghost use Rattle.sas_c.specs.Holding.{HeldOut, HoldsTask, NumbersOut, ReturnsHeld};
 
 use crate::numbers::{NO_TASK, OUT_OF_MEMORY};
-use crate::reporting::{report_answer, report_ended, return_answer};
+use crate::reporting::{report_ended, return_answer};
 use crate::sas_task::{HeldTask, SasTask};
-use sas_answers::answer_numbers;
 use sas_lines::Watched;
-use sas_requests::{PlanDetail, Request, answer_bytes, judge_bytes};
+use sas_requests::{Detail, Request, answer_bytes};
 use sas_run::NumberedPlan;
 use std::alloc::Global;
 
@@ -36,7 +35,7 @@ pub extern "C" fn sas_task_plan(
     ensures headline { (b : List ℕ) → HoldsTask b task.old.pointer.task
         → ReturnsHeadline b plan.now room.new size.new result }
 {
-    let call = PlanCall::Bytes(PlanDetail::Plain, plan);
+    let call = PlanCall::Bytes(Detail::Plain, plan);
     answer_held(alloc, task, call, room, size)
 }
 
@@ -57,7 +56,7 @@ pub extern "C" fn sas_task_plan_why(
     ensures headline { (b : List ℕ) → HoldsTask b task.old.pointer.task
         → ReturnsHeadline b plan.now room.new size.new result }
 {
-    let call = PlanCall::Bytes(PlanDetail::Reasons, plan);
+    let call = PlanCall::Bytes(Detail::Reasons, plan);
     answer_held(alloc, task, call, room, size)
 }
 
@@ -77,7 +76,7 @@ pub extern "C" fn sas_task_trace(
     ensures headline { (b : List ℕ) → HoldsTask b task.old.pointer.task
         → ReturnsLastLine b plan.now room.new size.new result }
 {
-    let call = PlanCall::Bytes(PlanDetail::Trace, plan);
+    let call = PlanCall::Bytes(Detail::Trace, plan);
     answer_held(alloc, task, call, room, size)
 }
 
@@ -104,7 +103,7 @@ pub extern "C" fn sas_task_plan_operators(
 #[derive(Clone, Copy)]
 pub enum PlanCall<'b> {
     /// How much is reported, and the bytes of the plan.
-    Bytes(PlanDetail, &'b [u8]),
+    Bytes(Detail, &'b [u8]),
     /// The numbers of its operators, and its cost.
     Numbers(NumberedPlan<'b>),
 }
@@ -147,17 +146,12 @@ fn answer_loaded(
     // By its contract the task is layered.
     let _ = loaded.layered().task();
     match call {
-        // The names and the evaluator of the loaded task serve all its plans.
-        PlanCall::Bytes(PlanDetail::Plain, plan) => {
-            report_answer(judge_bytes(alloc, loaded, plan), room, size)
-        }
         PlanCall::Bytes(detail, plan) => {
             let mut text = Watched::new(Vec::new(alloc));
-            let layered = loaded.layered();
-            let ended = answer_bytes(alloc, detail, layered, plan, &mut text);
+            let ended = answer_bytes(alloc, detail, loaded, plan, &mut text);
             report_ended(ended, text, room, size)
         }
-        PlanCall::Numbers(plan) => match answer_numbers(alloc, loaded, &plan) {
+        PlanCall::Numbers(plan) => match loaded.verdict_by_numbers(alloc, &plan) {
             Ok(answer) => return_answer(answer, room, size),
             Err(_) => OUT_OF_MEMORY,
         },

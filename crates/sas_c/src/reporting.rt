@@ -2,7 +2,7 @@
 ghost use Rattle.std.specs.Prelude.{◌≡◌, ◌<◌, length, take, drop, IfErr, IfOk, IsTrue, IsFalse, Some};
 ghost use Rattle.sas_answers.specs.Ending.{output_of};
 ghost use Rattle.sas_c.specs.Reporting.{Returns, number_of_fault};
-ghost use Rattle.sas_c.specs.Written.{IsAnswered, IsWritten};
+ghost use Rattle.sas_c.specs.Written.{IsWritten};
 
 use crate::numbers::{ROOM_TOO_SHORT, fault_number, status_number};
 use sas_answers::{Answer, Status, ToolFault};
@@ -30,18 +30,6 @@ pub fn return_answer(answer: Answer, room: &mut [u8], size: &mut usize) -> u32
     let number = report(answer.text.as_slice(), answer.status, room, size);
     drop(answer);
     number
-}
-
-/// Writes the answer, or returns why there is none.
-pub fn report_answer(answered: Result<Answer, ToolFault>, room: &mut [u8], size: &mut usize) -> u32
-    ensures answers { Returns (IsAnswered answered) room.old room.new size.new result }
-    ensures number { IfErr answered (λ why. result ≡ number_of_fault why) }
-    ensures never { IfOk answered (λ _. result ≡ 3 → ⊥) }
-{
-    match answered {
-        Ok(answer) => return_answer(answer, room, size),
-        Err(fault) => fault_number(fault),
-    }
 }
 
 /// Writes the answer of a run that wrote this text and ended so, or returns why there is none.

@@ -4,13 +4,12 @@ ghost use Rattle.std.specs.Prelude.{◌≡◌, ◌↔◌, Some, None, IsSome, Is
 use crate::box_pointer::BoxPointer;
 use crate::task_pointer::TaskPointer;
 use sas_axioms::Worklist;
-use sas_flat::FlatTask;
-use sas_run::LoadedTask;
+use sas_plan_reasons::LoadedTask;
 use std::alloc::Global;
 use std::mem::replace;
 
 /// A task with all that its plans need.
-pub type HeldTask = LoadedTask<Worklist, FlatTask>;
+pub type HeldTask = LoadedTask<Worklist>;
 
 /// A task that a program in C holds between two calls, or none. It begins with all bytes 0, which is none, and the program never
 /// changes or copies what is inside.

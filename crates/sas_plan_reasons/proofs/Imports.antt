@@ -8,7 +8,7 @@ pub use Rattle.std.proofs.lemmas.Bool.Decides.{eqb_tells, Decides-eqb, Decides-n
 pub use Rattle.std.proofs.lemmas.Cmp.{nat_cmp_total, on_total, then_total}
 pub use Rattle.std.proofs.lemmas.Fn.{always_returns_same}
 pub use Rattle.std.proofs.lemmas.Grind.{flat_map-append, common_steps, same_number_lists}
-pub use Rattle.std.proofs.lemmas.List.{get_or_default, nil_from_length, get_or-set_same, get_or-set_other, length-set, get_or_at, take-append-le, get_or_push, drop_more, append-nil, map-append, take_more, take_all, take-take, length-take-le, get_or-take, length-append, same_lists, length-replicate, get_or_append_left, get_or-map, length-map, get_or-append-add, get_or-replicate, get_or_past, take_at, drop_at, drop_all, length-drop}
+pub use Rattle.std.proofs.lemmas.List.{get_or_default, nil_from_length, get_or-set_same, get_or-set_other, length-set, get_or_at, take-append-le, get_or_push, drop_more, append-nil, map-append, take_more, take_all, take-take, length-take, length-take-le, get_or-take, length-append, same_lists, length-replicate, get_or_append_left, get_or-map, length-map, get_or-append-add, get_or-replicate, get_or_past, take_at, drop_at, drop_all, length-drop}
 pub use Rattle.std.proofs.lemmas.List.Concat.{flat_map-cons}
 pub use Rattle.std.proofs.lemmas.List.Elements.{All-nil, All-cons, All-contains, Contains-append_left, Contains-append_right, Contains-append_cases, Contains-get_or, All-head, All-tail, Contains-push, Contains-push_cases, filter-append, All-map, All-weaker, All-append, All-push, All-from_recursion, All-rest}
 pub use Rattle.std.proofs.lemmas.List.Folds.{Any-from_list_any, list_any_at, list_any-append, flat_map-map}
@@ -82,7 +82,7 @@ pub use Rattle.sas_meaning.specs.Places.{can_give, places_from, places}
 pub use Rattle.sas_meaning.specs.Settled.{new_value_of, differs, IsSettled, value_with, is_on_layer, IsClosed, IsSettledAt}
 pub use Rattle.sas_meaning.specs.States.{Holds, AllHold}
 pub use Rattle.sas_meaning.specs.InitialStates.{IsInitial}
-pub use Rattle.sas_meaning.specs.Steps.{Fires, Agree, Step, preconditions}
+pub use Rattle.sas_meaning.specs.Steps.{Fires, Agree, preconditions}
 pub use Rattle.sas_run.proofs.Choosing.{named_or_not, applicable_or_not}
 pub use Rattle.sas_run.proofs.Determined.{leads_one_way}
 pub use Rattle.sas_run.proofs.Going.{MakesStep}
@@ -99,7 +99,7 @@ pub use Rattle.sas_names.specs.Named.{IsNamed}
 pub use Rattle.sas_names.specs.Nameless.{nameless_steps}
 pub use Rattle.sas_run.specs.Plans.{IsApplicable, LeadFrom, LeadsTo, IsValid}
 pub use Rattle.sas_run.specs.Running.{IsLater, IsLaterIfAny}
-pub use Rattle.sas_run.specs.Runs.{Run, last_state, state_at, StepsSucceed, steps_before, RunEndsWith, IsEnding}
+pub use Rattle.sas_run.specs.Runs.{Run, last_state, state_at, StepsSucceed, steps_before, RunEndsWith, IsRunOf, IsEnding}
 pub use Rattle.sas_run.specs.Verdicts.{IsFirstMissed, ComesTo, IsFaultOf}
 pub use Rattle.sas_run.specs.declared.plan_check.PlanFault.{PlanFault}
 pub use Rattle.sas_run.specs.declared.plan_check.PlanFault.TheVariants.{Memory, NoOperator, NotApplicable, Conflict, GoalMissed, CostDiffers}

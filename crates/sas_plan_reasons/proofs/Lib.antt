@@ -26,7 +26,8 @@ pub mod Building
 pub mod ReportingSteps
 pub mod ReportedRules
 mod Changing
-mod Listing
+mod ListedChanges
+mod StepChains
 mod Standing
 mod Replaying
 pub mod Answering

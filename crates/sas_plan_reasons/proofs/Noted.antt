@@ -1,6 +1,7 @@
 -- What is noted of a run, step by step.
 use Rattle.std.proofs.lemmas.Grind.{common_steps}
-use Rattle.sas_plan_reasons.proofs.Imports.{◌≡◌, ℕ, ◌+◌, ◌<◌, ◌≤◌, List, [], ◌∷◌, ◌++◌, length, take, get_or, Option, Some, None, refl, sym, ◌∙◌, ap, subst, inl, inr, arith, cases_eq, same_lists, get_or_default, take_all, take-append_seam, get_or-append_seam, length-append, Parts, operator_at, IsState, IsLayered, IsInitial, Step, IsLaterIfAny, Run, state_at, last_state, StepsSucceed, GoesThrough, MakesStep, run_goes, goes_one_way, goes_one_more, goes_on, goes_none, leads_on_numbers, IsSince, MayMean, Changes, Historian, OtherOperator, HavePlaces, AreFirstChanges, Notes, IsOtherIfAny, HaveSince, AddsOther, HasNoted, CanList, is_some, true, false, false≢true}
+use Rattle.sas_meaning.specs.Steps.{Step}
+use Rattle.sas_plan_reasons.proofs.Imports.{◌≡◌, ℕ, ◌+◌, ◌<◌, ◌≤◌, List, [], ◌∷◌, ◌++◌, length, take, get_or, Option, Some, None, refl, sym, ◌∙◌, ap, subst, inl, inr, arith, cases_eq, same_lists, get_or_default, take_all, take-append_seam, get_or-append_seam, length-append, Parts, operator_at, IsState, IsLayered, IsInitial, IsLaterIfAny, Run, state_at, last_state, StepsSucceed, GoesThrough, MakesStep, run_goes, goes_one_way, goes_one_more, goes_on, goes_none, leads_on_numbers, IsSince, MayMean, Changes, Historian, OtherOperator, HavePlaces, AreFirstChanges, Notes, IsOtherIfAny, HaveSince, AddsOther, HasNoted, CanList, is_some, true, false, false≢true}
 use Rattle.sas_plan_reasons.proofs.LongerRuns.{first_steps, first_many, first_goes, first_last, first_more, first_all, none_since, one_more, since_changed, since_unchanged, may_mean_longer, still_none, may_mean_now}
 
 -- ---- which other operator is noted
@@ -59,6 +60,17 @@ module _ (p : Parts) (run : Run) (through : StepsSucceed p run) (name : List ℕ
         subst (λ k. MayMean p (one_more run name operator next) k other.operator) (sym (adds.0 ∙ at))
         (may_mean_now p run through name operator next named none other.operator adds.1.0 adds.1.1)
 
+-- ---- runs, by their operators
+
+module _ (p : Parts) (layered : IsLayered p) (run : Run) (through : StepsSucceed p run) where
+  -- the first operators of a run lead to one state, that of the run
+  pub state_after : (operators s : List ℕ) → operators ≡ take (length operators) run.operators → length operators ≤ length run.steps → GoesThrough p operators s
+      → state_at run (length operators) ≡ s
+  state_after operators s front le goes =
+      let n = length operators in
+      let leads = leads_on_numbers p (take n run.steps) (take n run.operators) (state_at run n) (through.leads n le) in
+      goes_one_way p layered operators (state_at run n) s (subst (λ os. GoesThrough p os (state_at run n)) (sym front) leads) goes
+
 -- ---- a step of a run, by its operators
 
 module _ (p : Parts) (layered : IsLayered p) (before : List ℕ) (s : List ℕ) (goes : GoesThrough p before s) (operator : ℕ) (next : List ℕ) (there : GoesThrough p (before ++ operator ∷ []) next) where
@@ -91,9 +103,6 @@ module _ (p : Parts) (layered : IsLayered p) (before : List ℕ) (s : List ℕ) 
     within : k < length run.steps
     within = omega (arith, many)
 
-    leads_at : (n : ℕ) → n ≤ length run.steps → GoesThrough p (take n run.operators) (state_at run n)
-    leads_at n le = leads_on_numbers p (take n run.steps) (take n run.operators) (state_at run n) (through.leads n le)
-
     -- the run before
     abbrev pub sofar : Run
     sofar = first_steps run k
@@ -104,18 +113,17 @@ module _ (p : Parts) (layered : IsLayered p) (before : List ℕ) (s : List ℕ) 
     pub sofar_is : sofar.operators ≡ before
     sofar_is = ap (take k) is ∙ front
 
-    state_before : state_at run k ≡ s
-    state_before = goes_one_way p layered before (state_at run k) s (subst (λ os. GoesThrough p os (state_at run k)) sofar_is (leads_at k (omega (arith, within)))) goes
-
     pub sofar_last : last_state sofar ≡ s
-    sofar_last = first_last p run through k (omega (arith, within)) ∙ state_before
+    sofar_last = first_last p run through k (omega (arith, within)) ∙ state_after p layered run through before s (sym sofar_is) (omega (arith, within)) goes
 
     pub sofar_many : length sofar.steps ≡ k
     sofar_many = first_many p run through k (omega (arith, within))
 
+    whole : more ≡ take (length more) run.operators
+    whole = sym (ap (take (length more)) is ∙ take_all (length more) more (omega arith))
+
     state_behind : state_at run (k + 1) ≡ next
-    state_behind = goes_one_way p layered more (state_at run (k + 1)) next
-        (subst (λ os. GoesThrough p os (state_at run (k + 1))) (take_all (k + 1) run.operators (omega (arith, through.operators, many)) ∙ is) (leads_at (k + 1) (omega (arith, many)))) there
+    state_behind = ap (state_at run) (sym one_longer) ∙ state_after p layered run through more next whole (omega (arith, many, one_longer)) there
 
     abbrev pub its_name : List ℕ
     its_name = get_or run.steps k []

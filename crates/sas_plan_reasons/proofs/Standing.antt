@@ -1,7 +1,7 @@
--- A trace stands at a step of a run, and what is written of the next one is what the run has there;
--- and the text of a whole run.
-use Rattle.sas_plan_reasons.proofs.Imports.{◌≡◌, ℕ, List, ◌++◌, flat_map, length, ◌∙◌, ap, range_with_len, Parts, text, text_of_both, text_of_each, initial_lines, Run, StepsSucceed, state_at, step_lines, run_lines, ◌+◌, ◌∷◌, PlanParts, Answer, Output, output_of, Executed, Executes, Advances, next_operator, executed_fits, step_line, change_lines, TraceVerdict, EndsWith, IsTraced, [], Option, Some, Status, ToolFault, Sink, Pushed, Pushes, EndsCounting, ends_counting_as, subst}
-use Rattle.sas_plan_reasons.proofs.Changing.{said}
+-- What is written of the steps of a run, and of the whole run.
+use Rattle.sas_plan_reasons.proofs.Imports.{◌≡◌, ℕ, ◌+◌, ◌<◌, ◌≤◌, List, [], ◌∷◌, ◌++◌, flat_map, length, take, get_or, refl, sym, ◌∙◌, ap, subst, append_assoc, take_all, get_or-append_seam, get_or-take, take-append_seam, take-take, length-take, length-append, range_with_len, Parts, text, text_of_both, text_of_each, initial_lines, IsLayered, IsInitial, Run, StepsSucceed, state_at, GoesThrough, step_lines, run_lines, step_line, change_lines, PlanParts, Answer, Output, output_of, TraceVerdict, EndsWith, IsTraced, Option, Status, ToolFault, Sink, Pushed, Pushes, pushes_then, EndsCounting, ends_counting_as, Tracer, HasTraced, CanList}
+use Rattle.sas_plan_reasons.proofs.Changing.{said, said_more}
+use Rattle.sas_plan_reasons.proofs.Noted.{state_after}
 use Rattle.std.proofs.lemmas.Grind.{common_steps}
 use Rattle.std.proofs.Common.{arith}
 use Rattle.std.specs.Prelude.{Result}
@@ -11,31 +11,57 @@ module _ (p : Parts) (run : Run) where
   abbrev pub step_text : ℕ → List ℕ
   step_text k = text (step_lines p run k)
 
-  -- the lines of the initial state, and behind them those of the first n steps
-  abbrev pub run_text : ℕ → List ℕ
-  run_text n = text (initial_lines p.variables (state_at run 0)) ++ said step_text n
+  -- those of the first steps
+  abbrev pub steps_text : ℕ → List ℕ
+  steps_text n = text (flat_map (step_lines p run) (range_with_len 0 n))
 
-  pub run_text_all : (n : ℕ) → n ≡ length run.steps → run_text n ≡ text (run_lines p run)
-  run_text_all n e = grind (arith, range_with_len, length, text, initial_lines, state_at, text_of_each, step_lines, text_of_both, flat_map)
+  steps_are : (n : ℕ) → steps_text n ≡ said step_text n
+  steps_are n = text_of_each (step_lines p run) (range_with_len 0 n)
 
--- the first steps of the run were made, and these are the values that were printed
-pub record HasTraced (p : Parts) (run : Run) (e : Executed) (printed : List ℕ) : Type 0 where
-  pub task : e.task ≡ p
-  pub executes : Executes run e
-  pub values : printed ≡ e.state
+  pub steps_more : (n : ℕ) → steps_text n ++ step_text n ≡ steps_text (n + 1)
+  steps_more n = ap (λ (l : List ℕ). l ++ step_text n) (steps_are n) ∙ (said_more step_text n ∙ sym (steps_are (n + 1)))
 
-module _ (p : Parts) (run : Run) (e : Executed) (printed : List ℕ) (at : HasTraced p run e printed) where
-  -- its state has a value for each variable
-  pub stands_fits : length e.state ≡ length p.variables
-  stands_fits = (executed_fits run e at.executes).one_each ∙ ap (λ (q : Parts). length q.variables) at.task
+  -- the lines of the initial state, and behind them those of the steps
+  pub run_text : text (initial_lines p.variables (state_at run 0)) ++ steps_text (length run.steps) ≡ text (run_lines p run)
+  run_text = sym (text_of_both (initial_lines p.variables (state_at run 0)) (flat_map (step_lines p run) (range_with_len 0 (length run.steps))))
 
-  -- the next step is that of the run
-  module _ (k : ℕ) (made : e.made ≡ k) (new : Executed) (operator : ℕ) (advances : Advances e operator new) (along : Executes run new) where
-    pub stands_next : (printed' : List ℕ) → printed' ≡ new.state → HasTraced p run new printed'
-    stands_next printed' is = record { task = advances.task ∙ at.task; executes = along; values = is }
+-- ---- one step more
 
-    pub step_is : text (step_line p (k + 1) (next_operator e) ∷ change_lines p e.state new.state) ≡ text (step_lines p run k)
-    step_is = grind (arith, common_steps)
+module _ {W : Type 0} (contents : W → Option (List ℕ)) (p : Parts) (layered : IsLayered p) (first old new : Tracer W) (before : List ℕ) (operator : ℕ) (next : List ℕ)
+    (traced : HasTraced contents p first old before) (there : GoesThrough p (before ++ operator ∷ []) next) where
+  abbrev more : List ℕ
+  more = before ++ operator ∷ []
+
+  abbrev k : ℕ
+  k = length before
+
+  pub traced_next : (step : ℕ) → step ≡ k + 1 → CanList p new.printed.listing → new.printed.values ≡ next
+      → Pushes contents old.sink new.sink (text (step_line p step operator ∷ change_lines p old.printed.values next)) → HasTraced contents p first new more
+  traced_next step at listing values pushes = record {
+    listing = listing;
+    through = subst (GoesThrough p more) (sym values) there;
+    pushes = λ run through front.
+        let many : length more ≡ k + 1 = length-append before (operator ∷ []) in
+        let within : length more ≤ length run.steps = within_run run through front in
+        let front_before : before ≡ take k run.operators = front_of run front in
+        let its : get_or run.operators k 0 ≡ operator = operator_of run front in
+        let s_is = state_after p layered run through before old.printed.values front_before (omega (arith, within, many)) traced.through in
+        let next_is = ap (state_at run) (sym many) ∙ state_after p layered run through more next front within there in
+        let line : step_text p run k ≡ text (step_line p step operator ∷ change_lines p old.printed.values next) = rw (its, s_is, next_is, at) refl in
+        subst (λ n. Pushes contents first.sink new.sink (steps_text p run n)) (sym many)
+        (subst (Pushes contents first.sink new.sink) (steps_more p run k)
+        (pushes_then contents first.sink old.sink new.sink _ _ (traced.pushes run through front_before) (subst (Pushes contents old.sink new.sink) (sym line) pushes)));
+  }
+    where
+      within_run : (run : Run) → StepsSucceed p run → more ≡ take (length more) run.operators → length more ≤ length run.steps
+      within_run run through front = omega (arith, ap length front, length-take (length more) run.operators, through.operators)
+
+      front_of : (run : Run) → more ≡ take (length more) run.operators → before ≡ take k run.operators
+      front_of run front = sym (take-append_seam before (operator ∷ [])) ∙ (ap (take k) front ∙ take-take k (length more) run.operators (omega (arith, length-append before (operator ∷ []))))
+
+      operator_of : (run : Run) → more ≡ take (length more) run.operators → get_or run.operators k 0 ≡ operator
+      operator_of run front = sym (get_or-take (length more) run.operators k 0 (omega (arith, length-append before (operator ∷ []))))
+          ∙ (ap (λ os. get_or os k 0) (sym front) ∙ get_or-append_seam before operator [] 0)
 
 -- what was written, as an output
 abbrev pub written : Parts → Answer → Run → Output

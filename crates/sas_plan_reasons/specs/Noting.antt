@@ -1,5 +1,5 @@
 -- What is noted of the steps of a plan as they are made once more.
-use Rattle.std.specs.Prelude.{◌≡◌, ◌⊎◌, ℕ, ◌+◌, ◌≤◌, List, length, All, Contains, IsTrue, Option, Some, None, slice_index, vec_capacity}
+use Rattle.std.specs.Prelude.{◌≡◌, ◌⊎◌, ℕ, ◌+◌, ◌<◌, ◌≤◌, List, length, All, Contains, IsTrue, Option, Some, None, slice_index, vec_capacity}
 use Rattle.sas_core.specs.declared.parts.Parts.{Parts}
 use Rattle.sas_meaning.specs.Layers.{IsBasic}
 use Rattle.sas_run.specs.ByNumbers.{GoesThrough}

@@ -1,5 +1,5 @@
 -- What a trace has of the steps that were made.
-use Rattle.std.specs.Prelude.{◌≡◌, ℕ, List, length, flat_map, Option}
+use Rattle.std.specs.Prelude.{◌≡◌, ℕ, List, length, take, flat_map, Option}
 use Rattle.std.specs.List.{range_with_len}
 use Rattle.sas_core.specs.declared.parts.Parts.{Parts}
 use Rattle.sas_lines.specs.Lines.{text}
@@ -10,12 +10,13 @@ use Rattle.sas_plan_reasons.specs.Noting.{CanList}
 use Rattle.sas_plan_reasons.specs.Trace.{step_lines}
 use Rattle.sas_plan_reasons.specs.declared.tracing.Tracer.{Tracer}
 
--- The steps of these operators lead to the values that were printed. For each run of them, its
--- lines of steps were added to the text.
+-- The steps of these operators lead to the values that were printed. Of each run that begins with
+-- these operators, the lines of these steps were added to the text.
 pub record HasTraced {W : Type 0} (contents : W → Option (List ℕ)) (p : Parts)
     (first now : Tracer W) (operators : List ℕ) : Type 0 where
   pub listing : CanList p now.printed.listing
   pub through : GoesThrough p operators now.printed.values
-  pub pushes : (run : Run) → StepsSucceed p run → run.operators ≡ operators
+  pub pushes : (run : Run) → StepsSucceed p run
+      → operators ≡ take (length operators) run.operators
       → Pushes contents first.sink now.sink
-      (text (flat_map (step_lines p run) (range_with_len 0 (length run.steps))))
+      (text (flat_map (step_lines p run) (range_with_len 0 (length operators))))

@@ -8,8 +8,8 @@ ghost use Rattle.sas_run.specs.Runs.{last_state};
 ghost use Rattle.sas_plan_reasons.specs.Cause.{fails, since_line, failing_lines, can_be_given, keeping_lines, IsCause};
 ghost use Rattle.sas_plan_reasons.specs.Report.{IsReport, IsReportOf, AddsLines, ReportsGivers};
 
-use crate::origins::{Origins, requires_rules};
 use crate::history::PlanHistory;
+use crate::origins::{Origins, requires_rules};
 use sas_answers::Line;
 use sas_axioms::rules_of_variables;
 use sas_core::{Fact, Grounded, Items};

@@ -16,8 +16,8 @@ ghost use Rattle.sas_plan_reasons.specs.Report.{IsBehind, IsReportOf, AddsLines,
 
 use crate::causes::{Report, report_cause};
 use crate::conflicts::conflict;
-use crate::likeness::like;
 use crate::history::PlanHistory;
+use crate::likeness::like;
 use sas_answers::Line;
 use sas_core::{Fact, Grounded, Items, Stepwise};
 use sas_flat::FlatTask;

@@ -80,10 +80,26 @@ impl<'n> Historian<'n> {
         if self.other.is_some() {
             return;
         }
-        let later = later_applicable(task, self.nexts, &self.changes.values, operator);
-        if let Some(operator) = later {
-            self.other = Some(OtherOperator { step, operator });
+        if let Some(later) = later_applicable(task, self.nexts, &self.changes.values, operator) {
+            self.other = Some(OtherOperator {
+                step,
+                operator: later,
+            });
         }
+    }
+
+    /// Returns since when each variable has its value, and which other operator a step may mean.
+    pub fn into_parts(self) -> (Vec<usize>, Option<OtherOperator>)
+        ensures since { result.0 ≡ self.entry.changes.since }
+        ensures other { result.1 ≡ self.entry.other }
+    {
+        let Historian {
+            nexts: _,
+            listing: _,
+            changes,
+            other,
+        } = self;
+        (changes.since, other)
     }
 }
 
@@ -96,7 +112,8 @@ impl<'n, T: Grounded> Observer<T> for Historian<'n> {
     #[inline(always)]
     fn observe(&mut self, task: &Layered<T>, step: usize, operator: u32, state: &State) {
         self.note_other(task, step, operator);
-        self.listing.list(task, operator, &self.changes.values, state);
+        self.listing
+            .list(task, operator, &self.changes.values, state);
         self.changes.note(step, state, self.listing.vars.as_slice());
     }
 }

@@ -2,7 +2,6 @@
 //! read.
 #![tactic(auto)]
 
-mod answering;
 mod causes;
 mod changes;
 mod conflicts;
@@ -15,10 +14,11 @@ mod loaded_task;
 mod order;
 mod origins;
 mod tracing;
+mod verdicts;
 mod writing;
 
 pub use faults::reasons;
-pub use laws::{cause_laws, derivation_laws, name_laws, since_laws, trace_laws, why_laws};
 pub use history::{OtherOperator, PlanHistory};
-pub use answering::answer_plan;
+pub use laws::{cause_laws, derivation_laws, name_laws, since_laws, trace_laws, why_laws};
 pub use loaded_task::LoadedTask;
+pub use verdicts::answer_plan;

@@ -1,13 +1,12 @@
 // The variables whose values a step may have changed.
-ghost use Rattle.std.specs.Prelude.{◌≡◌, ◌^◌, ◌<◌, ◌≤◌, ℕ, [], length, All, Contains, IfOk, IsFalse, vec_capacity};
+ghost use Rattle.std.specs.Prelude.{◌≡◌, ◌^◌, ◌<◌, ◌≤◌, ℕ, [], length, All, Contains, IfOk, IsFalse, slice_index, vec_capacity};
 ghost use Rattle.sas_core.specs.Grounded.{effect_at, operator_at};
 ghost use Rattle.sas_meaning.specs.Layers.{IsBasic};
 ghost use Rattle.sas_meaning.specs.Steps.{Step};
 ghost use Rattle.sas_plan_reasons.specs.Noting.{CanList, ListCoversChanges, ListsBelow};
 
-use sas_axioms::{are_changed, part_end};
 use sas_core::Grounded;
-use sas_meaning::{Layered, State};
+use sas_meaning::{Layered, State, derived_variables};
 use std::alloc::{AllocError, Global};
 
 // An operator with this many effects, and one more for each eighth variable, has its effects' variables listed.
@@ -31,7 +30,7 @@ impl Listing {
     {
         let variables = task.variables() as usize;
         Ok(Listing {
-            basic: !has_derived(task),
+            basic: derived_variables(alloc, task)?.is_empty(),
             few: variables / 8 + FEW,
             vars: Vec::with_capacity(alloc, variables + FEW)?,
         })
@@ -74,7 +73,9 @@ impl Listing {
         // By its contract the task is well ranged.
         let task = task.task();
         for effect in 0..task.effects(operator) {
-            self.vars.push(task.effect_change(operator, effect).var).unwrap();
+            self.vars
+                .push(task.effect_change(operator, effect).var)
+                .unwrap();
         }
     }
 
@@ -116,4 +117,36 @@ impl Listing {
             }
         }
     }
+}
+
+/// How many variables are compared at once.
+const PART: u32 = 64;
+
+/// Returns the end of the part that begins with the variable `start`.
+fn part_end(start: u32, variables: u32) -> u32
+    requires { start < variables }
+    ensures after { start < result }
+    ensures within { result ≤ variables }
+{
+    if variables - start > PART {
+        start + PART
+    } else {
+        variables
+    }
+}
+
+/// Returns whether the lists differ between these places.
+fn are_changed(former: &[u32], values: &[u32], start: usize, end: usize) -> bool
+    requires former { end ≤ length former.now }
+    requires values { end ≤ length values.now }
+    ensures { IsFalse result → (k : ℕ) → start ≤ k → k < end
+        → slice_index former.now k ≡ slice_index values.now k }
+{
+    let mut changed = false;
+    for place in start..end {
+        if former[place] != values[place] {
+            changed = true;
+        }
+    }
+    changed
 }

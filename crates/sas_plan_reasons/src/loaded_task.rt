@@ -5,7 +5,7 @@ ghost use Rattle.sas_answers.specs.Ending.{EndsCounting, Writes, output_of};
 ghost use Rattle.sas_answers.specs.NumberedPlans.{NumbersAnswer};
 ghost use Rattle.sas_plan_reasons.specs.VerdictBy.{VerdictBy};
 
-use crate::answering::{answer_named, verdict_answer};
+use crate::verdicts::{answer_named, verdict_answer};
 use sas_answers::{Answer, Detail, Status, ToolFault, accept_plan, answer_number_fault};
 use sas_flat::{FlatPlan, FlatTask};
 use sas_lines::Watched;

@@ -44,7 +44,8 @@ impl<'w, W: Write> Observer<FlatTask> for Tracer<'w, W> {
             third: u64::from(task.cost(operator)),
             name: task.name(operator),
         });
-        self.printed.push_step(&mut self.sink, task, operator, state);
+        self.printed
+            .push_step(&mut self.sink, task, operator, state);
     }
 }
 

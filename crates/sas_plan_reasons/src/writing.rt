@@ -133,7 +133,13 @@ fn retrace<E: Settle<FlatTask> + Drop>(
 {
     let mut last = initial_of(alloc, named.task, stepper)?;
     let mut noted = Historian::new(alloc, named.task, named.nexts, &last)?;
-    replay(named.task, stepper, operators.as_slice(), &mut last, &mut noted);
+    replay(
+        named.task,
+        stepper,
+        operators.as_slice(),
+        &mut last,
+        &mut noted,
+    );
     Ok(PlanHistory {
         fault,
         nameless: nameless(named.task, named.firsts),
@@ -214,7 +220,13 @@ pub fn write_trace<W: Write, E: Settle<FlatTask> + Drop>(
     let mut sink = Sink::new(verdict.status, &mut pieces, out);
     push_initial_lines(&mut sink, named.task, &state);
     let mut tracer = Tracer { sink, printed };
-    replay(named.task, stepper, end.operators.as_slice(), &mut state, &mut tracer);
+    replay(
+        named.task,
+        stepper,
+        end.operators.as_slice(),
+        &mut state,
+        &mut tracer,
+    );
     let Tracer { mut sink, printed } = tracer;
     sink.push(verdict.text.as_slice());
     let ended = sink.finish();

@@ -1,6 +1,6 @@
 -- The variables that were listed, in order.
 use Rattle.sas_plan_reasons.proofs.Imports.{◌≤◌, IsNonDecreasingBy-from_sort}
-use Rattle.sas_plan_reasons.proofs.Listing.{covers_permuted}
+use Rattle.sas_plan_reasons.proofs.ListedChanges.{covers_permuted}
 use Rattle.sas_plan_reasons.proofs.tracing.Printed.push_step.Goals as goal
 
 pub push_listed-requires-clause-cover : goal.push_listed-requires-clause-cover
