@@ -28,14 +28,12 @@ pub use Rattle.sas_flat.proofs.ByKey.{under_key, all_items, items_none, items_co
 pub use Rattle.sas_flat.proofs.Tables.{length-table}
 pub use Rattle.sas_flat.specs.ByKey.{items_of, by_key}
 pub use Rattle.sas_flat.specs.declared.by_key.Entry.{Entry}
-pub use Rattle.sas_meaning.proofs.DerivedVariables.{not_basic, derived_within}
 pub use Rattle.sas_meaning.proofs.Forced.{condition_within, Fired, fired_there, rule_new, differs_true, differs_not, differs_same, fact_within, state_set}
 pub use Rattle.sas_meaning.proofs.Layers.{looks_down, layer_decides, on_layer_within, given_on}
 pub use Rattle.sas_meaning.proofs.Members.{contains_head, contains_tail, contains_cases}
 pub use Rattle.sas_meaning.proofs.Places.{places_to, places_one_more, places_all, place_is, is_place}
 pub use Rattle.sas_meaning.proofs.Rules.{new_value_is}
 pub use Rattle.sas_meaning.proofs.Settling.{default_off, forced_at_default, settled_when_fired, settled_where_empty, settled_off, basic_off}
-pub use Rattle.sas_meaning.proofs.Covering.{covers_set, covers_gone, covers_any}
 pub use Rattle.sas_meaning.proofs.Spans.{basic_kept, at_default, state_reset}
 pub use Rattle.sas_meaning.proofs.Unique.{differs_decides}
 pub use Rattle.sas_meaning.specs.DerivedVariables.{AreDerivedSpans, CopiesSpans}
@@ -45,8 +43,6 @@ pub use Rattle.sas_meaning.specs.Layers.{IsLayered, IsBasic, IsOnLayer, default_
 pub use Rattle.sas_meaning.specs.Places.{places, can_give}
 pub use Rattle.sas_meaning.specs.Settled.{IsSettled, differs, IsSettledAt, Settles, new_value_of, value_with, IsClosed, SameBasic}
 pub use Rattle.sas_meaning.specs.States.{Holds, AllHold}
-pub use Rattle.sas_meaning.specs.ChangedVariables.{AddsTouched, StillCovers}
-pub use Rattle.sas_meaning.specs.declared.changed_variables.ChangedVariables.{ChangedVariables}
 pub use Rattle.sas_axioms.specs.Agenda.{layer_cmp, entry_for, IsOnAgenda, AddsToAgenda, work_left, IsOrdered, IsAwaited, AreBehind, RemovesFromAgenda, IsMadeReady, AreMadeReady, IsEmpty, NoLowerLayer, Lowest}
 pub use Rattle.sas_axioms.specs.ByLayers.{SettlesNext, SettlesLayer}
 pub use Rattle.sas_axioms.specs.Conditions.{asking, waiting_entry, waiting_at, released, occurrences, open_conditions, IsOfRule, entries, IsFullIndex, AreCounted, IsCounted, waits_for, CanCount}

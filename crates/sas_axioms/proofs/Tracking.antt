@@ -1,5 +1,5 @@
 -- What is counted and noted goes on to fit the state.
-use Rattle.sas_axioms.proofs.Imports.{arith, ◌≡◌, ℕ, ◌≤◌, List, ◌++◌, length, get_or, set, is_some, sym, ap, ◌∙◌, All, Contains, heap_items, All-contains, All-append, Parts, rule_at, IsState, IsOnLayer, IsLayered, ChangedVariables, AddsTouched, StillCovers, looks_down, covers_set, SameOff, get_or-set_other, Agenda, Work, IsAwaited, RemovesFromAgenda, AreCounted, IsHolding, AsksAbout, CountsChange, IsOnTrack, KeepsRoom, IsRuleOn, no_effect}
+use Rattle.sas_axioms.proofs.Imports.{arith, ◌≡◌, ℕ, ◌≤◌, List, ◌++◌, length, get_or, set, sym, ◌∙◌, All, Contains, heap_items, All-contains, All-append, Parts, rule_at, IsState, IsOnLayer, IsLayered, looks_down, SameOff, get_or-set_other, Agenda, Work, IsAwaited, RemovesFromAgenda, AreCounted, IsHolding, AsksAbout, CountsChange, IsOnTrack, KeepsRoom, IsRuleOn, no_effect}
 use Rattle.sas_axioms.proofs.Counters.{all_hold_when_none_open, none_open_when_all_hold}
 
 -- what holds of all elements of a list holds of those of one that has no others
@@ -58,11 +58,6 @@ track_set p layer s w sources same track = grind arith
 
 pub off_step : (p : Parts) (layer at : ℕ) (s0 s s' : List ℕ) (var value : ℕ) → at ≡ layer → SameOff p layer s0 s → IsOnLayer p at var → s' ≡ set s var value → SameOff p layer s0 s'
 off_step p layer at s0 s s' var value same so_far on is v off = grind (arith, get_or-set_other)
-
--- ---- what is known of it
-
-pub covered_step : (p : Parts) (layer : ℕ) (s0 s s' : List ℕ) (var value : ℕ) (t0 t t' : ChangedVariables) → StillCovers p s0 t0 s t → IsOnLayer p layer var → s' ≡ set s var value → AddsTouched var t t' → StillCovers p s0 t0 s' t'
-covered_step p layer s0 s s' var value t0 t t' so_far on is notes before covers = covers_set p s s' var value t t' (ap is_some on) is notes before (so_far before covers)
 
 pub room_more : (w w' w'' : Work) → KeepsRoom w w' → KeepsRoom w' w'' → KeepsRoom w w''
 room_more w w' w'' a b = record { layer = b.layer ∙ a.layer; stack = b.stack ∙ a.stack; one_each = b.one_each ∙ a.one_each; sources = b.sources ∙ a.sources }

@@ -6,7 +6,6 @@ ghost use Rattle.sas_meaning.specs.DerivedVariables.{AreDerivedSpans};
 ghost use Rattle.sas_meaning.specs.Forced.{AtDefault};
 ghost use Rattle.sas_meaning.specs.Following.{HaveGone};
 ghost use Rattle.sas_meaning.specs.Settled.{SameBasic};
-ghost use Rattle.sas_meaning.specs.ChangedVariables.{StillCovers};
 ghost use Rattle.sas_axioms.specs.ByLayers.{SettlesLayer};
 ghost use Rattle.sas_axioms.specs.declared.layer_rules.LayerRule.{LayerRule};
 ghost use Rattle.sas_axioms.specs.LayerRules.{IsRuleOn, IsLayerSpan, AreReadyFrom, AreWaiting, layer_at};
@@ -23,7 +22,7 @@ use crate::indexed_rules::IndexedRules;
 use crate::layer_rules::{LayerRule, rules_of_variables};
 use sas_core::{Fact, Grounded, Items};
 use sas_flat::Lists;
-use sas_meaning::{ChangedVariables, Layered, State, VariableSpan};
+use sas_meaning::{Layered, State, VariableSpan};
 use std::alloc::{AllocError, Global};
 use std::mem::replace;
 
@@ -183,14 +182,13 @@ impl LayerSettler {
         fire_ready(&indexed, rules, start, &mut self.work, state)
     }
 
-    /// Updates the state, which must be settled except that the facts `gone` may have become false. The derived variables that it sets are
-    /// added to `touched`. Gives up if the update takes too much work.
+    /// Updates the state, which must be settled except that the facts `gone` may have become false. Gives up if the update takes too much
+    /// work.
     pub fn follow<T: Grounded>(
         &mut self,
         layered: &Layered<T>,
         gone: &[Fact],
         state: &mut State,
-        touched: &mut ChangedVariables,
     ) -> Result<(), OverBudget>
         requires prepared { IsFiringReady layered.now self.old }
         requires state { IsState layered.now.variables state.old }
@@ -199,7 +197,6 @@ impl LayerSettler {
         ensures prepared { IsFiringReady layered.now self.new }
         ensures state { IsState layered.now.variables state.new }
         ensures basic { SameBasic layered.now state.old state.new }
-        ensures covered { StillCovers layered.now state.old touched.old state.new touched.new }
         ensures followed { OnOk result (IsFollowed layered.now state.new self.new.work) }
     {
         let indexed = IndexedRules {
@@ -207,7 +204,7 @@ impl LayerSettler {
             waiting: &self.counted.index,
             setting: &self.rules_of,
         };
-        let followed = settle_gone(&indexed, gone, &mut self.work, state, touched);
+        let followed = settle_gone(&indexed, gone, &mut self.work, state);
         self.work.agenda.end(followed);
         followed
     }

@@ -6,11 +6,10 @@
 // those that were reset.
 ghost use Rattle.std.specs.Prelude.{◌≡◌, ◌≢◌, ◌+◌, ◌<◌, ◌≤◌, ℕ, List, length, OnOk, OnErr, IsTrue, IsFalse, slice_index, slice_set};
 ghost use Rattle.sas_core.specs.Grounded.{rule_at};
-ghost use Rattle.sas_core.specs.Variables.{IsDerived, IsState};
+ghost use Rattle.sas_core.specs.Variables.{IsState};
 ghost use Rattle.sas_meaning.specs.Following.{HaveGone};
 ghost use Rattle.sas_meaning.specs.Forced.{SameOff};
 ghost use Rattle.sas_meaning.specs.Settled.{SameBasic, differs};
-ghost use Rattle.sas_meaning.specs.ChangedVariables.{AddsTouched, StillCovers};
 ghost use Rattle.sas_axioms.specs.Agenda.{IsEmpty, IsOnAgenda, IsOrdered, AreMadeReady, work_left};
 ghost use Rattle.sas_axioms.specs.Conditions.{AreCounted};
 ghost use Rattle.sas_axioms.specs.LayerRules.{IsRuleOn};
@@ -24,7 +23,7 @@ use crate::firing::Work;
 use crate::indexed_rules::IndexedRules;
 use crate::layer_rules::{LayerRule, firing_layer};
 use sas_core::{Fact, Grounded};
-use sas_meaning::{ChangedVariables, Layered, State};
+use sas_meaning::{Layered, State};
 
 /// Updates the counters of the rules with conditions on the variables of `gone`, which are facts that may have become false.
 fn count_gone<T: Grounded>(
@@ -53,20 +52,18 @@ fn count_gone<T: Grounded>(
 }
 
 /// Updates the state, which must be settled except that the facts `gone` may have become false. Settles the layers with noted rules, one by
-/// one. The derived variables that it sets are added to `touched`.
+/// one.
 pub fn settle_gone<T: Grounded>(
     indexed: &IndexedRules<'_, '_, T>,
     gone: &[Fact],
     work: &mut Work,
     state: &mut State,
-    touched: &mut ChangedVariables,
 ) -> Result<(), OverBudget>
     requires state { IsState indexed.now.variables state.old }
     requires follows { (s : List ℕ)
         × IsFollowed indexed.now s work.old × HaveGone indexed.now gone.now s state.old }
     ensures state { IsState indexed.now.variables state.new }
     ensures basic { SameBasic indexed.now state.old state.new }
-    ensures covered { StillCovers indexed.now state.old touched.old state.new touched.new }
     ensures stack { work.new.stack ≡ work.old.stack }
     ensures one_each { length work.new.counters ≡ length work.old.counters }
     ensures sources { length work.new.sources ≡ length work.old.sources }
@@ -76,8 +73,8 @@ pub fn settle_gone<T: Grounded>(
     count_gone(indexed, gone, work, state)?;
     while let Some(layer) = work.agenda.lowest() {
         work.layer = layer;
-        fall(indexed, work, state, touched)?;
-        rise(indexed, work, state, touched)?;
+        fall(indexed, work, state)?;
+        rise(indexed, work, state)?;
     }
     Ok(())
 }
@@ -87,14 +84,12 @@ fn fall<T: Grounded>(
     indexed: &IndexedRules<'_, '_, T>,
     work: &mut Work,
     state: &mut State,
-    touched: &mut ChangedVariables,
 ) -> Result<(), OverBudget>
     requires falling { (s : List ℕ) × IsFalling indexed.now s state.old work.old }
     requires noted { (rule : ℕ) × IsOnAgenda work.old.agenda work.old.layer rule }
     ensures same { SameWork work.old work.new }
     ensures state { IsState indexed.now.variables state.new }
     ensures off { SameOff indexed.now work.old.layer state.old state.new }
-    ensures covered { StillCovers indexed.now state.old touched.old state.new touched.new }
     ensures rising { OnOk result ((s : List ℕ) → IsFalling indexed.now s state.old work.old
         → IsRising indexed.now s state.new work.new) }
     ensures left { OnOk result (work_left work.new.agenda < work_left work.old.agenda) }
@@ -105,7 +100,7 @@ fn fall<T: Grounded>(
             let var = layered.rule_change(rule).var;
             let value = layered.initial_value(var);
             make_ready(indexed.setting.get(var as usize), &mut work.agenda)?;
-            set_to(indexed, Fact { var, value }, work, state, touched)?;
+            set_to(indexed, Fact { var, value }, work, state)?;
         } else {
             work.agenda.make_ready(rule)?;
         }
@@ -150,13 +145,11 @@ fn rise<T: Grounded>(
     indexed: &IndexedRules<'_, '_, T>,
     work: &mut Work,
     state: &mut State,
-    touched: &mut ChangedVariables,
 ) -> Result<(), OverBudget>
     requires { (s : List ℕ) × IsRising indexed.now s state.old work.old }
     ensures stands { KeepsRoom work.old work.new }
     ensures state { IsState indexed.now.variables state.new }
     ensures off { SameOff indexed.now work.old.layer state.old state.new }
-    ensures covered { StillCovers indexed.now state.old touched.old state.new touched.new }
     ensures risen { OnOk result ((s : List ℕ) → IsRising indexed.now s state.old work.old
         → HasRisen indexed.now s state.new work.new) }
     ensures sources { SameSourcesOff indexed.now work.old.layer work.old.sources work.new.sources }
@@ -170,7 +163,7 @@ fn rise<T: Grounded>(
                 var: change.var,
                 value: change.new,
             };
-            set_to(indexed, fact, work, state, touched)?;
+            set_to(indexed, fact, work, state)?;
             work.sources.set(change.var as usize, rule);
         }
     }
@@ -194,23 +187,20 @@ fn has_to_set<T: Grounded>(layered: &Layered<T>, rule: u32, work: &Work, state: 
     work.counters.as_slice()[rule as usize] == 0 && state.value(change.var) != change.new
 }
 
-/// Updates the counters of the rules with conditions on the variable for another value, sets it to that value, and adds it to `touched`. On
-/// `Err`, state and `touched` are unchanged.
+/// Updates the counters of the rules with conditions on the variable for another value, and sets it to that value. On `Err`, the state is
+/// unchanged.
 fn set_to<T: Grounded>(
     indexed: &IndexedRules<'_, '_, T>,
     fact: Fact,
     work: &mut Work,
     state: &mut State,
-    touched: &mut ChangedVariables,
 ) -> Result<(), OverBudget>
     requires counts { AreCounted indexed.now state.old work.old.counters }
     requires ordered { IsOrdered work.old.agenda }
-    requires derived { IsDerived indexed.now.variables fact.var }
+    requires exists { fact.var < length indexed.now.variables }
     requires other { slice_index state.old fact.var ≢ fact.value }
     ensures state { OnOk result (state.new ≡ slice_set state.old fact.var fact.value) }
-    ensures noted { OnOk result (AddsTouched fact.var touched.old touched.new) }
     ensures unchanged { OnErr result (state.new ≡ state.old) }
-    ensures untouched { OnErr result (touched.new ≡ touched.old) }
     ensures same { SameWork work.old work.new }
     ensures moves { OnOk result
         (CountsChange indexed.now fact.var state.old work.old state.new work.new) }
@@ -221,7 +211,6 @@ fn set_to<T: Grounded>(
     };
     recount(indexed, fact.var, moved, work)?;
     state.set(fact);
-    touched.note(fact.var);
     Ok(())
 }
 

@@ -16,7 +16,5 @@ mod worklist;
 pub use conditions::{RuleCondition, index_of_all};
 pub use layer_rules::rules_of_variables;
 pub use rounds::Rounds;
-pub use sas_meaning::{
-    ChangedVariables, LayerFault, Layered, Settle, State, StateFault, meaning_laws,
-};
+pub use sas_meaning::{LayerFault, Layered, Settle, State, StateFault, meaning_laws};
 pub use worklist::Worklist;

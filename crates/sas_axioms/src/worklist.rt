@@ -6,7 +6,7 @@ use crate::by_layers::{ByLayers, settle_by_layers};
 use crate::firing::LayerSettler;
 use crate::layer_rules::{LayerRule, first_rules};
 use sas_core::{Fact, Grounded};
-use sas_meaning::{ChangedVariables, Layered, Settle, State, VariableSpan, derived_spans};
+use sas_meaning::{Layered, Settle, State, VariableSpan, derived_spans};
 use std::alloc::{AllocError, Global};
 
 /// An evaluator for the states of one layered task. It keeps counts of the previous state to settle the next one faster, but it can settle
@@ -71,20 +71,12 @@ impl<T: Grounded> Settle<T> for Worklist {
         settle_by_layers(self, layered, state);
     }
 
-    fn settle_on(
-        &mut self,
-        layered: &Layered<T>,
-        gone: &[Fact],
-        state: &mut State,
-        touched: &mut ChangedVariables,
-    ) {
-        touched.clear();
+    fn settle_on(&mut self, layered: &Layered<T>, gone: &[Fact], state: &mut State) {
         if self.derived.is_empty() {
             // No rule can fire, so the state is already settled.
             return;
         }
-        if self.firing.follow(layered, gone, state, touched).is_err() {
-            touched.note_any();
+        if self.firing.follow(layered, gone, state).is_err() {
             settle_by_layers(self, layered, state);
         }
     }

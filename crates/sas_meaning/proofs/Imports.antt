@@ -32,7 +32,6 @@ pub use Rattle.sas_core.specs.declared.parts.Parts.{Parts}
 pub use Rattle.sas_core.specs.declared.parts.Variable.{Variable}
 pub use Rattle.sas_meaning.specs.DerivedVariables.{AreDerived, AreDerivedSpans, AreSpansOf, CopiesSpans, IsSpanned}
 pub use Rattle.sas_meaning.specs.declared.state.VariableSpan.{VariableSpan}
-pub use Rattle.sas_meaning.specs.Following.{HaveGone}
 pub use Rattle.sas_meaning.specs.Forced.{OnlyForced, HasFired, Changes, SameOff, AtDefault, equal_places, Occurs}
 pub use Rattle.sas_meaning.specs.FastDownward.{FiresLast, FastDownwardStep, FastDownwardReachable, Start, Onward}
 pub use Rattle.sas_meaning.specs.Laws.{SettledExists, InitialExists, SettledIsOne, StepIsOne}
@@ -46,7 +45,5 @@ pub use Rattle.sas_meaning.specs.Settled.{Settles, IsSettledAt, SameBasic, new_v
 pub use Rattle.sas_meaning.specs.States.{Holds, AllHold}
 pub use Rattle.sas_meaning.specs.Steps.{preconditions, Fires, Agree, Step}
 pub use Rattle.sas_meaning.specs.StepLaws.{fires, written, StepExists, FastDownwardStepExists, FastDownwardStepIsOne, StepIsFastDownwards, FastDownwardStepIsStep, FastDownwardReaches, FastDownwardReachesNoMore, FastDownwardWrites}
-pub use Rattle.sas_meaning.specs.ChangedVariables.{MayHaveChanged, IsCleared, AddsTouched, CoversChanges, StillCovers}
 pub use Rattle.sas_meaning.specs.declared.layered.LayerFault.{LayerFault}
 pub use Rattle.sas_meaning.specs.declared.layered.LayerFault.TheVariants.{OldValue, TwoValues, LayerOrder, EffectOnDerived, RuleOnBasic}
-pub use Rattle.sas_meaning.specs.declared.changed_variables.ChangedVariables.{ChangedVariables}

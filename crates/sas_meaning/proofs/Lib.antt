@@ -3,7 +3,6 @@ pub mod Layers
 pub mod Rules
 pub mod Forced
 pub mod Settling
-pub mod Covering
 pub mod Unique
 pub mod Exists
 mod Writing

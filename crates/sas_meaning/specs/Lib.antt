@@ -2,7 +2,6 @@ pub mod States
 pub mod Layers
 pub mod Settled
 pub mod Following
-pub mod ChangedVariables
 pub mod Steps
 pub mod Preconditions
 pub mod InitialStates

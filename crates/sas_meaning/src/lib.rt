@@ -1,7 +1,6 @@
 //! The semantics of tasks: layered tasks, states, settled states, preconditions, steps and reachable states.
 #![tactic(auto)]
 
-mod changed_variables;
 mod derived;
 mod laws;
 mod layer_checks;
@@ -11,7 +10,6 @@ mod settle;
 mod state;
 mod steps;
 
-pub use changed_variables::ChangedVariables;
 pub use derived::{derived_spans, derived_variables};
 pub use laws::meaning_laws;
 pub use layered::{LayerFault, Layered};

@@ -1,5 +1,4 @@
 // Axiom evaluators, which settle states.
-use crate::changed_variables::ChangedVariables;
 use crate::layered::Layered;
 use crate::state::State;
 use sas_core::{Fact, Grounded};
@@ -11,7 +10,6 @@ pub trait Settle<T: Grounded> {
     ghost use Rattle.sas_core.specs.Variables.{IsState};
     ghost use Rattle.sas_meaning.specs.Settled.{Settles};
     ghost use Rattle.sas_meaning.specs.Following.{HaveGone};
-    ghost use Rattle.sas_meaning.specs.ChangedVariables.{CoversChanges};
 
     /// The evaluator can settle states of this task.
     ghost ready: { Self → Parts → Type 0 };
@@ -29,15 +27,8 @@ pub trait Settle<T: Grounded> {
         ensures settles { Settles layered.now state.old state.new };
 
     /// Settles the state like `settle`. The state must be the one that this evaluator settled last, except that the facts `gone` may
-    /// have become false. So an evaluator need only re-evaluate what depends on these facts and on those that replaced them. Afterwards
-    /// `touched` contains the derived variables that may differ from the state settled last. Its previous contents are lost.
-    fn settle_on(
-        &mut self,
-        layered: &Layered<T>,
-        gone: &[Fact],
-        state: &mut State,
-        touched: &mut ChangedVariables,
-    )
+    /// have become false. So an evaluator need only re-evaluate what depends on these facts and on those that replaced them.
+    fn settle_on(&mut self, layered: &Layered<T>, gone: &[Fact], state: &mut State)
         requires ready { ready self.old layered.now }
         requires state { IsState layered.now.variables state.old }
         requires follows { (s : List ℕ)
@@ -45,12 +36,7 @@ pub trait Settle<T: Grounded> {
         ensures ready { ready self.new layered.now }
         ensures follows { follows self.new layered.now state.new }
         ensures settles { Settles layered.now state.old state.new }
-        ensures covered { (s : List ℕ) → follows self.old layered.now s
-            → HaveGone layered.now gone.now s state.old
-            → CoversChanges layered.now s state.new touched.new }
     {
-        touched.clear();
-        touched.note_any();
         self.settle(layered, state);
     }
 }

@@ -3,7 +3,7 @@ ghost use Rattle.sas_axioms.specs.Worklist.{IsReadyFor};
 
 use crate::runner_calls::call_with_runner;
 use crate::task_calls::{say_state, say_state_fault, state_of};
-use sas_axioms::{ChangedVariables, Layered, Rounds, Settle, State, Worklist};
+use sas_axioms::{Layered, Rounds, Settle, State, Worklist};
 use sas_core::{Fact, Task};
 use std::alloc::AllocError;
 use test_words::{TestCall, say};
@@ -26,14 +26,8 @@ impl<'a, E: Settle<Task> + Drop> Settle<Task> for PrintingEvaluator<'a, E> {
         say_state(self.rt, state);
     }
 
-    fn settle_on(
-        &mut self,
-        layered: &Layered<Task>,
-        gone: &[Fact],
-        state: &mut State,
-        touched: &mut ChangedVariables,
-    ) {
-        self.evaluator.settle_on(layered, gone, state, touched);
+    fn settle_on(&mut self, layered: &Layered<Task>, gone: &[Fact], state: &mut State) {
+        self.evaluator.settle_on(layered, gone, state);
         say_state(self.rt, state);
     }
 }

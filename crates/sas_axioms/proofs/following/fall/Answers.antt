@@ -1,8 +1,8 @@
 -- The rules are removed one by one: each resets its variable or becomes ready.
-use Rattle.sas_axioms.proofs.Imports.{◌≡◌, ◌⊎◌, ℕ, ◌<◌, true, ◌∷◌, [], length, get_or, set, is_some, refl, sym, ap, subst, ◌∙◌, inl, inr, arith, All, Contains, heap_items, length-append, Change, rule_at, IsState, default_of, differs, on_layer_within, state_set, differs_not, Agenda, work_left, IsFalling, IsRuleOn, IsHolding}
+use Rattle.sas_axioms.proofs.Imports.{◌≡◌, ◌⊎◌, ℕ, ◌<◌, true, ◌∷◌, [], length, get_or, set, refl, sym, ap, subst, ◌∙◌, inl, inr, arith, All, Contains, heap_items, length-append, Change, rule_at, IsState, default_of, differs, on_layer_within, state_set, differs_not, Agenda, work_left, IsFalling, IsRuleOn, IsHolding}
 use Rattle.sas_axioms.proofs.RulesOf.{rules_on, rule_under}
 use Rattle.sas_axioms.proofs.FallingSteps.{falling_passed, falling_fell, risen_from_fallen, fallen_is, less_in_the_end}
-use Rattle.sas_axioms.proofs.Tracking.{awaited_on, holding_when_zero, off_step, covered_step}
+use Rattle.sas_axioms.proofs.Tracking.{awaited_on, holding_when_zero, off_step}
 use Rattle.sas_axioms.proofs.following.fall.Goals as goal
 use Rattle.sas_axioms.proofs.following.fall.Given.{Over}
 use Rattle.sas_axioms.proofs.following.fall.Goals.{In-Some}
@@ -35,7 +35,7 @@ set_to-requires g c =
     record {
       counts = (some g (goal.at.set_to-requires g c).In-Some).track.counts;
       ordered = rw c.in_ok-make_ready.ensures.noted c.in-Some.ensures.some.ordered;
-      derived = rw (ap (λ (x : Change). x.var) read) (ap is_some (on g (goal.at.set_to-requires g c).In-Some).on);
+      exists = rw (ap (λ (x : Change). x.var) read) (within g (goal.at.set_to-requires g c).In-Some);
       other = λ same. differs_not c.args.indexed.now c.loop-rule.state (rule_at c.args.indexed.now c.in-Some.rule).var ((rw c.indexed.view_is at c.has_lost.ensures).yes c.if-has_lost.true)
           (ap (λ (x : Change). get_or c.loop-rule.state x.var 0) (sym read) ∙ (same ∙ ((rw c.indexed.view_is at c.initial_value-value.ensures) ∙ ap (λ (x : Change). default_of c.args.indexed.now x.var) read)));
     }
@@ -75,8 +75,6 @@ loop-rule-preserved-in-Continue-branch-2 g c =
       same = record { layer = c.set_to.ensures.same.layer ∙ inv.same.layer; stack = c.set_to.ensures.same.stack ∙ inv.same.stack; one_each = c.set_to.ensures.same.one_each ∙ inv.same.one_each; sources = c.set_to.ensures.same.sources ∙ inv.same.sources };
       state = state;
       off = off_step p c.args.work.now.layer work.layer c.args.state.now s (set s (rule_at p rule).var (default_of p (rule_at p rule).var)) (rule_at p rule).var (default_of p (rule_at p rule).var) inv.same.layer inv.off is.on refl;
-      covered = covered_step p work.layer c.args.state.now s (set s (rule_at p rule).var (default_of p (rule_at p rule).var)) (rule_at p rule).var (default_of p (rule_at p rule).var)
-          c.args.touched.now c.loop-rule.touched c.set_to.new.touched inv.covered is.on refl (rw var_is at c.in_ok-set_to.ensures.noted);
       falling = λ s0 falling. falling_fell p s0 s rule work _ c.make_ready.new.agenda c.set_to.new.work c.get.result.now (rw c.indexed.view_is at c.indexed.invariant).layered (inv.falling s0 falling) c.in-Some.ensures.some
           (omega (arith, within g i, b.track.state.one_each)) state c.in_ok-make_ready.ensures c.set_to.ensures.same moves all each;
       left = inl (less work.agenda c.args.work.now.agenda c.set_to.new.work.agenda inv.left (let a = c.in-Some.ensures.left in let d = moves.left in let e = c.in_ok-make_ready.ensures.left in omega arith));
@@ -96,7 +94,6 @@ loop-rule-preserved g c =
       same = record { layer = inv.same.layer; stack = inv.same.stack; one_each = inv.same.one_each; sources = inv.same.sources };
       state = inv.state;
       off = inv.off;
-      covered = inv.covered;
       falling = λ s0 falling. falling_passed p s0 s rule work _ _ (inv.falling s0 falling) c.in-Some.ensures.some holds c.in_ok-make_ready-2.ensures;
       left = inl (less work.agenda c.args.work.now.agenda c.make_ready-else-has_lost.new.self inv.left
           (let a = c.in-Some.ensures.left in let made = c.in_ok-make_ready-2.ensures in
@@ -105,9 +102,6 @@ loop-rule-preserved g c =
 
 pub returns-clause-left : goal.returns-clause-left
 returns-clause-left g c = less_in_the_end c.args.work.now.layer c.requires.noted.0 c.args.work.now.agenda c.take.new.self c.requires.noted.1 (rw c.loop-rule.invariant.same.layer at c.in_default.ensures.none) (rw c.in_default.ensures.same c.loop-rule.invariant.left)
-
-pub returns-in_err-set_to-clause-covered : goal.returns-in_err-set_to-clause-covered
-returns-in_err-set_to-clause-covered g c = rw (c.in_err-set_to.ensures.unchanged, c.in_err-set_to.ensures.untouched) c.loop-rule.invariant.covered
 
 pub returns-in_err-set_to-clause-state : goal.returns-in_err-set_to-clause-state
 returns-in_err-set_to-clause-state g c = rw c.in_err-set_to.ensures.unchanged c.loop-rule.invariant.state
@@ -122,4 +116,4 @@ pub loop-rule-smaller : goal.loop-rule-smaller
 loop-rule-smaller g c = search (arith, length, length-append, heap_items)
 
 pub loop-rule-init : goal.loop-rule-init
-loop-rule-init g c = record { same = record { layer = refl; stack = refl; one_each = refl; sources = refl }; state = c.requires.falling.1.track.state; off = λ v off. refl; covered = λ before covers. covers; falling = λ s falling. falling; left = inr refl }
+loop-rule-init g c = record { same = record { layer = refl; stack = refl; one_each = refl; sources = refl }; state = c.requires.falling.1.track.state; off = λ v off. refl; falling = λ s falling. falling; left = inr refl }

@@ -1,5 +1,5 @@
 -- The variables so far are reset.
-use Rattle.sas_axioms.proofs.Imports.{◌≡◌, ◌⊎◌, ℕ, ◌<◌, List, IsState, SameOff, StillCovers, work_left, SameWork, IsFalling}
+use Rattle.sas_axioms.proofs.Imports.{◌≡◌, ◌⊎◌, ℕ, ◌<◌, List, IsState, SameOff, work_left, SameWork, IsFalling}
 use Rattle.sas_axioms.proofs.following.fall.Given as goal
 
 abbrev pub invariant-loop-rule : goal.invariant-loop-rule
@@ -7,7 +7,6 @@ invariant-loop-rule g l = record {
   same : SameWork l.fn.work l.work;
   state : IsState l.indexed.variables l.state;
   off : SameOff l.indexed l.fn.work.layer l.fn.state l.state;
-  covered : StillCovers l.indexed l.fn.state l.fn.touched l.state l.touched;
   falling : (s : List ℕ) → IsFalling l.indexed s l.fn.state l.fn.work → IsFalling l.indexed s l.state l.work;
   left : (work_left l.work.agenda < work_left l.fn.work.agenda) ⊎ (l.work.agenda ≡ l.fn.work.agenda);
 }

@@ -1,7 +1,7 @@
 -- The rules are removed one by one: each sets its variable, or needs not.
-use Rattle.sas_axioms.proofs.Imports.{◌≡◌, ℕ, ◌<◌, true, List, length, get_or, set, is_some, refl, sym, ap, subst, ◌∙◌, arith, Change, rule_at, IsOnLayer, on_layer_within, length-set, get_or-set_other, differs, differs_true, IsRising, IsRuleOn, IsHolding}
+use Rattle.sas_axioms.proofs.Imports.{◌≡◌, ℕ, ◌<◌, true, List, length, get_or, set, refl, sym, ap, subst, ◌∙◌, arith, Change, rule_at, IsOnLayer, on_layer_within, length-set, get_or-set_other, differs, differs_true, IsRising, IsRuleOn, IsHolding}
 use Rattle.sas_axioms.proofs.RisingSteps.{rising_passed, rising_set, fires}
-use Rattle.sas_axioms.proofs.Tracking.{awaited_on, holding_when_zero, zero_when_holding, off_step, covered_step, room_more}
+use Rattle.sas_axioms.proofs.Tracking.{awaited_on, holding_when_zero, zero_when_holding, off_step, room_more}
 use Rattle.sas_axioms.proofs.following.rise.Goals as goal
 use Rattle.sas_axioms.proofs.following.rise.Given.{Over}
 use Rattle.sas_axioms.proofs.following.rise.Goals.{In-Some}
@@ -31,7 +31,7 @@ set_to-requires g c =
     record {
       counts = (some g (goal.at.set_to-requires g c).In-Some).track.counts;
       ordered = c.in-Some.ensures.some.ordered;
-      derived = rw (ap (λ (x : Change). x.var) read) (ap is_some (on g (goal.at.set_to-requires g c).In-Some).on);
+      exists = rw (ap (λ (x : Change). x.var) read) (within g (goal.at.set_to-requires g c).In-Some);
       other = rw read ((rw c.indexed.view_is at c.has_to_set.ensures).other c.if-has_to_set.true);
     }
 
@@ -68,8 +68,6 @@ loop-rule-preserved-then-has_to_set g c =
           ∙ (ap (λ (xs : List ℕ). get_or xs v 0) same.sources ∙ inv.sources v off);
       state = (fires p c.requires.0 s rule work _ (rw c.indexed.view_is at c.indexed.invariant).ranged (rw c.indexed.view_is at c.indexed.invariant).layered b takes hold ne).state;
       off = off_step p c.args.work.now.layer work.layer c.args.state.now s (set s (rule_at p rule).var (rule_at p rule).new) (rule_at p rule).var (rule_at p rule).new inv.room.layer inv.off is.on refl;
-      covered = covered_step p work.layer c.args.state.now s (set s (rule_at p rule).var (rule_at p rule).new) (rule_at p rule).var (rule_at p rule).new
-          c.args.touched.now c.loop-rule.touched c.set_to.new.touched inv.covered is.on refl (rw (ap (λ (x : Change). x.var) e) at c.in_ok-set_to.ensures.noted);
       rising = λ s0 r. rising_set p s0 s rule work _ (rw c.indexed.view_is at c.indexed.invariant).ranged (rw c.indexed.view_is at c.indexed.invariant).layered (inv.rising s0 r) takes hold ne c.set_to.new.work
           (omega (arith, within g i, b.track.state.one_each)) (omega (arith, within g i, b.track.places)) same moves;
       left = let a = inv.left in let d = takes.left in let f = moves.left in omega arith;
@@ -91,13 +89,9 @@ loop-rule-preserved g c =
       sources = inv.sources;
       state = inv.state;
       off = inv.off;
-      covered = inv.covered;
       rising = λ s0 r. rising_passed p s0 s rule work _ (inv.rising s0 r) c.in-Some.ensures.some done;
       left = let a = inv.left in let d = c.in-Some.ensures.some.left in omega arith;
     }
-
-pub returns-in_err-set_to-clause-covered : goal.returns-in_err-set_to-clause-covered
-returns-in_err-set_to-clause-covered g c = rw (c.in_err-set_to.ensures.unchanged, c.in_err-set_to.ensures.untouched) c.loop-rule.invariant.covered
 
 pub returns-clause-risen : goal.returns-clause-risen
 returns-clause-risen g c s rising =

@@ -23,12 +23,6 @@ rise-requires g c =
     let s0 = c.loop-layer.invariant.between.0 in
     (s0, c.in_ok-fall.ensures.rising s0 (begins g (goal.at.rise-requires g c).In-Some))
 
-pub returns-in_err-fall-clause-covered : goal.returns-in_err-fall-clause-covered
-returns-in_err-fall-clause-covered g c before covers = c.fall.ensures.covered before (c.loop-layer.invariant.covered before covers)
-
-pub returns-in_err-rise-clause-covered : goal.returns-in_err-rise-clause-covered
-returns-in_err-rise-clause-covered g c before covers = c.rise.ensures.covered before (c.fall.ensures.covered before (c.loop-layer.invariant.covered before covers))
-
 pub returns-clause-followed : goal.returns-clause-followed
 returns-clause-followed g c =
     let b = c.loop-layer.invariant.between in
@@ -50,7 +44,6 @@ loop-layer-preserved g c =
       sources = c.rise.ensures.stands.sources ∙ (ap length c.fall.ensures.same.sources ∙ inv.sources);
       state = c.rise.ensures.state;
       basic = λ v basic. inv.basic v basic ∙ basic_off p layer c.loop-layer.state c.rise.new.state b.layered off v basic;
-      covered = λ before covers. c.rise.ensures.covered before (c.fall.ensures.covered before (inv.covered before covers));
       between = (
         s0,
         layer + 1,
@@ -72,4 +65,4 @@ returns-in_err-rise-clause-basic g c v basic =
     ∙ basic_off c.args.indexed.now c.fall.new.work.layer c.fall.new.state c.rise.new.state layered c.rise.ensures.off v basic)
 
 pub loop-layer-init : goal.loop-layer-init
-loop-layer-init g c = record { stack = c.count_gone.ensures.same.stack; one_each = c.count_gone.ensures.same.one_each; sources = ap length c.count_gone.ensures.same.sources; state = c.requires.state; basic = λ v basic. refl; covered = λ before covers. covers; between = (c.in_ok-count_gone.ensures.between.0, 0, c.in_ok-count_gone.ensures.between.1) }
+loop-layer-init g c = record { stack = c.count_gone.ensures.same.stack; one_each = c.count_gone.ensures.same.one_each; sources = ap length c.count_gone.ensures.same.sources; state = c.requires.state; basic = λ v basic. refl; between = (c.in_ok-count_gone.ensures.between.0, 0, c.in_ok-count_gone.ensures.between.1) }

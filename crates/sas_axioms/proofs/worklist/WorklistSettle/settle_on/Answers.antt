@@ -1,5 +1,5 @@
 -- A state that was updated is settled.
-use Rattle.sas_axioms.proofs.Imports.{rules, ap, ℕ, length, arith, is_some, IsOnLayer, covers_gone, covers_any, IsFollowed}
+use Rattle.sas_axioms.proofs.Imports.{rules, ap, ℕ, length, arith, is_some, IsOnLayer, IsFollowed}
 use Rattle.sas_axioms.proofs.GoneSteps.{idle_followed}
 use Rattle.sas_axioms.proofs.worklist.WorklistSettle.settle_on.Goals as goal
 use Rattle.sas_axioms.proofs.worklist.WorklistSettle.settle_on.Given.{Over}
@@ -18,10 +18,4 @@ returns-else-is_err g c =
       ready = record { derived = c.requires.ready.derived; rules = c.requires.ready.rules; firing = c.follow.ensures.prepared };
       follows = followed;
       settles = record { state = c.follow.ensures.state; basic = c.follow.ensures.basic; settled = followed.settled };
-      covered = λ s before have. c.follow.ensures.covered s (covers_gone c.args.layered.now c.args.gone.now s c.args.state.now c.clear.new.self have c.clear.ensures.cleared);
     }
-
-pub returns-then-is_err-clause-covered : goal.returns-then-is_err-clause-covered
-returns-then-is_err-clause-covered g c s followed have =
-    let covered = c.follow.ensures.covered s (covers_gone c.args.layered.now c.args.gone.now s c.args.state.now c.clear.new.self have c.clear.ensures.cleared) in
-    covers_any c.args.layered.now s c.settle_by_layers.new.state c.note_any.new.self (rw c.note_any.ensures.same covered.only) c.note_any.ensures.any
