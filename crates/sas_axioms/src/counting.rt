@@ -113,8 +113,8 @@ impl ConditionCounts {
 /// How many variables are compared at once.
 const PART: u32 = 64;
 
-/// Returns the end of the part that begins with the variable `start`.
-fn part_end(start: u32, variables: u32) -> u32
+/// Returns the end of the part of the variables that begins with `start`. Values are compared part by part.
+pub fn part_end(start: u32, variables: u32) -> u32
     requires { start < variables }
     ensures after { start < result }
     ensures within { result ≤ variables }
@@ -126,8 +126,8 @@ fn part_end(start: u32, variables: u32) -> u32
     }
 }
 
-/// Returns whether the lists differ between these places.
-fn are_changed(former: &[u32], values: &[u32], start: usize, end: usize) -> bool
+/// Returns whether the lists differ from place `start` up to place `end`.
+pub fn are_changed(former: &[u32], values: &[u32], start: usize, end: usize) -> bool
     requires former { end ≤ length former.now }
     requires values { end ≤ length values.now }
     ensures { IsFalse result → (k : ℕ) → start ≤ k → k < end

@@ -14,6 +14,7 @@ mod rounds;
 mod worklist;
 
 pub use conditions::{RuleCondition, index_of_all};
+pub use counting::{are_changed, part_end};
 pub use layer_rules::rules_of_variables;
 pub use rounds::Rounds;
 pub use sas_meaning::{LayerFault, Layered, Settle, State, StateFault, meaning_laws};

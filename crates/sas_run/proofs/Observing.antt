@@ -1,14 +1,15 @@
 -- An observer is told of the next step. Operators that go through are made once more.
-use Rattle.sas_run.proofs.Imports.{◌≡◌, ℕ, ◌+◌, ◌<◌, List, [], ◌++◌, length, get_or, Option, None, Some, Ok, sym, ap, subst, ◌∙◌, arith, Parts, operator_at, IsLayered, Step, PlanFault, Memory, NoOperator, NotApplicable, Conflict, GoalMissed, CostDiffers, Choice, GoesThrough, Makes, MakesStepBy, EndsSteps, StepFailsBy, IsTold, CanSee, Vec}
+use Rattle.sas_run.proofs.Imports.{◌≡◌, ℕ, ◌+◌, ◌<◌, List, [], ◌∷◌, ◌++◌, length, get_or, Option, None, Some, Ok, sym, ap, subst, ◌∙◌, arith, Parts, operator_at, IsLayered, Step, PlanFault, Memory, NoOperator, NotApplicable, Conflict, GoalMissed, CostDiffers, Choice, IsState, GoThrough, GoesThrough, Makes, MakesStepBy, EndsSteps, StepFailsBy, IsTold, CanSee, Vec}
 use Rattle.sas_run.proofs.GoingByNumbers.{goes_one_more, goes_on}
 use Rattle.sas_run.proofs.MadeSteps.{by_number, front, whole}
 
 module _ {O : Type 0} {Admits : O → Parts → ℕ → ℕ → Type 0} {Sees : Parts → O → O → List ℕ → Type 0} (p : Parts) (Means : ℕ → List ℕ → Choice → Type 0) where
   -- one more step was made
-  pub told_next : (first now : O) (steps before : ℕ) (operators s : List ℕ) (operator : ℕ) (next : List ℕ) → CanSee Admits Sees p Means steps first → Makes p Means operators s
+  pub told_next : IsLayered p → (first now : O) (steps before : ℕ) (operators s : List ℕ) (operator : ℕ) (next : List ℕ) → CanSee Admits Sees p Means steps first → Makes p Means operators s
       → length operators ≡ before → before < steps → Sees p first now operators → MakesStepBy p (Means before s) s (before + 1) next (Ok operator)
       → IsTold Admits Sees p first operators now (before + 1) operator next
-  told_next first now steps before operators s operator next can makes many lt sees (means, exists, step) = record {
+  told_next layered first now steps before operators s operator next can makes many lt sees (means, exists, step) = record {
+    layered = layered;
     number = ap (λ n. n + 1) (sym many);
     through = goes_one_more p operators s operator next makes.through exists step;
     admits = can.each before operator s lt means;
@@ -40,3 +41,12 @@ module _ (p : Parts) (layered : IsLayered p) (numbers last : List ℕ) (through 
 
 pub noted : (first now : Vec ℕ) (operators : List ℕ) → first.items ≡ [] → now.items ≡ first.items ++ operators → operators ≡ now.items
 noted first now operators none is = sym (is ∙ ap (λ (l : List ℕ). l ++ operators) none)
+
+-- ---- a state to which operators lead
+
+go_state : (p : Parts) (s operators last : List ℕ) → IsState p.variables s → GoThrough p s operators last → IsState p.variables last
+go_state p s [] last fits goes = subst (IsState p.variables) (sym goes) fits
+go_state p s (o ∷ os) last fits (there, its, by, rest) = go_state p there os last by.state rest
+
+pub goes_state : (p : Parts) (operators s : List ℕ) → GoesThrough p operators s → IsState p.variables s
+goes_state p operators s through = go_state p through.initial operators s through.starts.state through.goes

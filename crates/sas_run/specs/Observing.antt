@@ -1,6 +1,7 @@
 -- What an observer is told of the steps of a plan.
 use Rattle.std.specs.Prelude.{◌≡◌, ℕ, ◌+◌, ◌<◌, List, [], ◌∷◌, ◌++◌, length, Option}
 use Rattle.sas_core.specs.declared.parts.Parts.{Parts}
+use Rattle.sas_meaning.specs.Layers.{IsLayered}
 use Rattle.sas_run.specs.declared.plan_check.PlanFault.{PlanFault}
 use Rattle.sas_run.specs.declared.runner.Choice.{Choice}
 use Rattle.sas_run.specs.declared.runner.Choice.TheVariants.{Found}
@@ -12,9 +13,10 @@ use Rattle.sas_run.specs.Choosers.{Makes, EndsSteps}
 module _ {O : Type 0} (Admits : O → Parts → ℕ → ℕ → Type 0)
     (Sees : Parts → O → O → List ℕ → Type 0) (p : Parts) where
   -- The observer was this one at first, and was told of the steps before. They and one more led
-  -- from the initial state to the state s. Now it is told of that one.
+  -- from the initial state to the state s, in a layered task. Now it is told of that one.
   pub record IsTold (first : O) (before : List ℕ) (now : O) (step operator : ℕ) (s : List ℕ)
       : Type 0 where
+    pub layered : IsLayered p
     pub number : step ≡ length before + 1
     pub through : GoesThrough p (before ++ operator ∷ []) s
     pub admits : Admits first p step operator

@@ -13,7 +13,7 @@ ghost use Rattle.sas_run.specs.Stepping.{IsAt, IsPrepared};
 use crate::deletions::DeletedFacts;
 use crate::steps::{StepFault, apply};
 use sas_core::{Grounded, Items};
-use sas_meaning::{ChangedVariables, Layered, Settle, State};
+use sas_meaning::{Layered, Settle, State};
 use std::alloc::{AllocError, Global};
 
 /// An evaluator, and the memory for a step.
@@ -23,8 +23,6 @@ pub struct Stepper<E> {
     pub given: Items<Option<u32>>,
     /// Facts that the last step made false. They are noted if a variable is derived, since the evaluator uses them.
     pub deleted: DeletedFacts,
-    /// The derived variables that the last step may have changed, if `go_on_from` made it.
-    pub touched: ChangedVariables,
 }
 
 impl<E: Drop> Drop for Stepper<E> {
@@ -33,12 +31,10 @@ impl<E: Drop> Drop for Stepper<E> {
             evaluator,
             given,
             deleted,
-            touched,
         } = self;
         drop(evaluator);
         drop(given);
         drop(deleted);
-        drop(touched);
     }
 }
 
@@ -58,7 +54,6 @@ pub fn stepper_for<E: Settle<T> + Drop, T: Grounded>(
             evaluator,
             given,
             deleted,
-            touched: ChangedVariables::none(alloc),
         }),
         Err(error) => Err((evaluator, error)),
     }
@@ -135,12 +130,8 @@ pub fn go_on_from<E: Settle<T> + Drop, T: Grounded>(
 {
     apply(layered, stepper, operator, state)?;
     if stepper.deleted.noted {
-        stepper.evaluator.settle_on(
-            layered,
-            stepper.deleted.facts.as_slice(),
-            state,
-            &mut stepper.touched,
-        );
+        let gone = stepper.deleted.facts.as_slice();
+        stepper.evaluator.settle_on(layered, gone, state);
     }
     Ok(())
 }

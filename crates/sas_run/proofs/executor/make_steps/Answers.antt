@@ -13,7 +13,7 @@ observe-requires g c =
       told = (
         c.args.observer.now,
         inv.operators,
-        told_next p (g.C.Chooser.means c.args.chooser.now p) _ _ _ _ _ _ _ _ c.requires.observer inv.makes inv.one_each within inv.sees (rw c.in-Ok.is at c.make_plan_step.ensures.makes),
+        told_next p (g.C.Chooser.means c.args.chooser.now p) inv.at.prepared.layered _ _ _ _ _ _ _ _ c.requires.observer inv.makes inv.one_each within inv.sees (rw c.in-Ok.is at c.make_plan_step.ensures.makes),
       );
     }
 
@@ -30,5 +30,5 @@ loop-before-preserved g c =
       operators = inv.operators ++ operator ∷ [];
       makes = makes_one_more p inv.at.prepared.layered Means inv.operators c.loop-before.state inv.makes operator c.make_plan_step.new.state made.1 (rw inv.one_each made.0) made.2;
       one_each = (let len = length-append inv.operators (operator ∷ []) in let one = inv.one_each in omega arith);
-      sees = c.observe.ensures.sees c.args.observer.now inv.operators (told_next p Means _ _ _ _ _ _ _ _ c.requires.observer inv.makes inv.one_each within inv.sees made);
+      sees = c.observe.ensures.sees c.args.observer.now inv.operators (told_next p Means inv.at.prepared.layered _ _ _ _ _ _ _ _ c.requires.observer inv.makes inv.one_each within inv.sees made);
     }
