@@ -21,10 +21,11 @@ held_by start now p q short text bytes false held written puts = record {
 }
 
 module _ {W : Type 0} (contents : W → Option (List ℕ)) where
-  pub pushes_held : (s : Sink W) (pieces : MutBor Piece) (bytes : List ℕ) → pieces.now.held ≡ s.pieces.now.held ++ bytes → pieces.now.written ≡ s.pieces.now.written
+  pub pushes_held : (s : Sink W) (pieces : MutBor Piece) (bytes : List ℕ) → pieces.ghost_name ≡ s.pieces.ghost_name → pieces.now.held ≡ s.pieces.now.held ++ bytes → pieces.now.written ≡ s.pieces.now.written
       → Pushes contents s (record s { pieces = pieces }) bytes
-  pushes_held s pieces bytes held written = record {
+  pushes_held s pieces bytes name held written = record {
     same = refl;
+    pieces = name;
     status = refl;
     text = λ start text. held_by start (contents s.out.now.device) s.pieces.now pieces.now s.short text bytes s.out.now.failed held written;
   }
@@ -33,6 +34,7 @@ module _ {W : Type 0} (contents : W → Option (List ℕ)) where
   pub pushes_then : (s t u : Sink W) (x y : List ℕ) → Pushes contents s t x → Pushes contents t u y → Pushes contents s u (x ++ y)
   pushes_then s t u x y first second = record {
     same = second.same ∙ first.same;
+    pieces = second.pieces ∙ first.pieces;
     status = second.status ∙ first.status;
     text = λ start text pushed. subst (Pushed contents start u) (append_assoc text x y) (second.text start (text ++ x) (first.text start text pushed));
   }
@@ -41,6 +43,7 @@ module _ {W : Type 0} (contents : W → Option (List ℕ)) where
   pub pushes_lost : (s : Sink W) (bytes : List ℕ) → s.out.now.failed ≡ true → Pushes contents s s bytes
   pushes_lost s bytes failed = record {
     same = refl;
+    pieces = refl;
     status = refl;
     text = λ start text pushed.
         let by = subst (PushedBy start (contents s.out.now.device) s.pieces.now s.short text) failed pushed in
@@ -52,10 +55,11 @@ module _ {W : Type 0} (contents : W → Option (List ℕ)) where
   pub puts_so_far : (s : Sink W) → s.out.now.failed ≡ false → (start : Option (List ℕ)) (text : List ℕ) → Pushed contents start s text → Puts start (contents s.out.now.device) empty_piece s.pieces.now text
   puts_so_far s well start text pushed = subst (PushedBy start (contents s.out.now.device) s.pieces.now s.short text) well pushed
 
-  module _ (s t : Sink W) (bytes : List ℕ) (same : t.out.ghost_name ≡ s.out.ghost_name) (status : t.status ≡ s.status) (well : s.out.now.failed ≡ false) where
+  module _ (s t : Sink W) (bytes : List ℕ) (same : t.out.ghost_name ≡ s.out.ghost_name) (pieces : t.pieces.ghost_name ≡ s.pieces.ghost_name) (status : t.status ≡ s.status) (well : s.out.now.failed ≡ false) where
     pub pushes_put : t.out.now.failed ≡ false → Puts (contents s.out.now.device) (contents t.out.now.device) s.pieces.now t.pieces.now bytes → Pushes contents s t bytes
     pushes_put is puts = record {
       same = same;
+      pieces = pieces;
       status = status;
       text = λ start text pushed. subst (PushedBy start (contents t.out.now.device) t.pieces.now t.short (text ++ bytes)) (sym is)
           (puts_then start (contents s.out.now.device) empty_piece s.pieces.now text (contents t.out.now.device) t.pieces.now bytes (puts_so_far s well start text pushed) puts);
@@ -64,6 +68,7 @@ module _ {W : Type 0} (contents : W → Option (List ℕ)) where
     pub pushes_broken : t.out.now.failed ≡ true → Breaks (contents s.out.now.device) (contents t.out.now.device) s.pieces.now bytes (record { written = t.short }) → Pushes contents s t bytes
     pushes_broken is broken = record {
       same = same;
+      pieces = pieces;
       status = status;
       text = λ start text pushed. subst (PushedBy start (contents t.out.now.device) t.pieces.now t.short (text ++ bytes)) (sym is)
           (puts_then_breaks start (contents s.out.now.device) empty_piece s.pieces.now text (contents t.out.now.device) bytes (record { written = t.short }) (puts_so_far s well start text pushed) broken);

@@ -23,6 +23,7 @@ module _ {W : Type 0} (contents : W → Option (List ℕ)) where
   -- these bytes were added to the text
   pub record Pushes (old new : Sink W) (bytes : List ℕ) : Type 0 where
     pub same : new.out.ghost_name ≡ old.out.ghost_name
+    pub pieces : new.pieces.ghost_name ≡ old.pieces.ghost_name
     pub status : new.status ≡ old.status
     pub text : (start : Option (List ℕ)) (text : List ℕ) → Pushed start old text
         → Pushed start new (text ++ bytes)

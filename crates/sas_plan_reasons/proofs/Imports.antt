@@ -19,7 +19,7 @@ pub use Rattle.std.proofs.lemmas.List.Sorted.{All-permutation, Contains-permutat
 pub use Rattle.std.proofs.lemmas.List.Sums.{fails_before_first, passes_at_first}
 pub use Rattle.std.proofs.lemmas.Map.Keys.{IsDistinct-IsPermutation}
 pub use Rattle.std.proofs.lemmas.Map.Made.{AllPairs-from_IsDistinct, IsDistinct-from_AllPairs}
-pub use Rattle.std.proofs.lemmas.Option.{same_Some}
+pub use Rattle.std.proofs.lemmas.Option.{none-some, same_Some}
 pub use Rattle.std.proofs.lemmas.Result.{on_ok_weaker, IfOk-weaker}
 pub use Rattle.std.proofs.lemmas.Slice.Eq.{bytes_eq-Decides}
 pub use Rattle.std.specs.BinaryHeap.{heap_items, IsUpperBound}
@@ -37,7 +37,8 @@ pub use Rattle.sas_answers.proofs.RuleLines.{same_is, is_same}
 pub use Rattle.sas_answers.proofs.Sent.{writes_as, ends_counting_as}
 pub use Rattle.sas_answers.proofs.Texts.{text_of_each}
 pub use Rattle.sas_answers.proofs.WordedLines.{worded}
-pub use Rattle.sas_answers.specs.Answers.{VerdictAnswer, valid_answer, invalid_answer}
+pub use Rattle.sas_answers.specs.Answers.{VerdictAnswer, valid_by, valid_answer, invalid_answer}
+pub use Rattle.sas_answers.specs.NumberedPlans.{NumbersAnswer, invalid_by_numbers}
 pub use Rattle.sas_answers.specs.Ending.{output_of, Output, EndsCounting}
 pub use Rattle.sas_answers.specs.Facts.{initial_lines, fact_line}
 pub use Rattle.sas_answers.specs.Line.{is_rule_line, is_same_rule_line, rule_numbers, reasons_text}
@@ -87,20 +88,23 @@ pub use Rattle.sas_run.proofs.Choosing.{named_or_not, applicable_or_not}
 pub use Rattle.sas_run.proofs.Determined.{leads_one_way}
 pub use Rattle.sas_run.proofs.Going.{MakesStep}
 pub use Rattle.sas_run.proofs.GoingByNumbers.{goes_one_way, goes_one_more, goes_on, goes_none, leads_on_numbers}
-pub use Rattle.sas_run.proofs.MadeSteps.{named_ending, named_valid, named_faulty, numbered_valid, numbered_faulty}
+pub use Rattle.sas_run.proofs.MadeSteps.{by_number, named_ending, named_valid, named_faulty, numbered_valid, numbered_faulty}
 pub use Rattle.sas_run.proofs.Giving.{not_both}
 pub use Rattle.sas_run.proofs.PlanVerdicts.{some_verdict, valid_has_no_fault, fault_is_one}
 pub use Rattle.sas_run.proofs.Ranges.{preconditions_within, effect_within}
 pub use Rattle.sas_run.proofs.Runs.{some_run, one_run, leads_to_last, last_rests, operators_exist, to_fault, state_fits, run_goes}
 pub use Rattle.sas_run.specs.ByNumbers.{GoesThrough}
-pub use Rattle.sas_run.specs.Choosers.{HaveOperators}
+pub use Rattle.sas_run.specs.Choosers.{HaveOperators, IsSolutionBy, IsFaultByOrMemory}
+pub use Rattle.sas_run.proofs.Observing.{goes_state}
 pub use Rattle.sas_run.specs.Observing.{IsTold}
 pub use Rattle.sas_names.specs.Named.{IsNamed}
 pub use Rattle.sas_names.specs.Nameless.{nameless_steps}
 pub use Rattle.sas_run.specs.Plans.{IsApplicable, LeadFrom, LeadsTo, IsValid}
-pub use Rattle.sas_run.specs.Running.{IsLater, IsLaterIfAny}
+pub use Rattle.sas_run.specs.Running.{IsChoice, IsLater, IsLaterIfAny}
+pub use Rattle.sas_run.specs.declared.runner.Choice.{Choice}
 pub use Rattle.sas_run.specs.Runs.{Run, last_state, state_at, StepsSucceed, steps_before, RunEndsWith, IsRunOf, IsEnding}
 pub use Rattle.sas_run.specs.Verdicts.{IsFirstMissed, ComesTo, IsFaultOf}
+pub use Rattle.sas_run.specs.declared.plan_check.Valid.{Valid}
 pub use Rattle.sas_run.specs.declared.plan_check.PlanFault.{PlanFault}
 pub use Rattle.sas_run.specs.declared.plan_check.PlanFault.TheVariants.{Memory, NoOperator, NotApplicable, Conflict, GoalMissed, CostDiffers}
 pub use Rattle.sas_plan_reasons.specs.Cause.{fails, AreDerivationLines, since_line, missing_lines, IsCause, value_at, IsSince, failing_lines, can_be_given, keeping_lines}
@@ -128,7 +132,8 @@ pub use Rattle.sas_plan_reasons.specs.declared.history.Historian.{Historian}
 pub use Rattle.sas_plan_reasons.specs.declared.history.PlanHistory.{PlanHistory}
 pub use Rattle.sas_plan_reasons.specs.declared.listing.Listing.{Listing}
 pub use Rattle.sas_plan_reasons.specs.declared.tracing.Tracer.{Tracer}
-pub use Rattle.sas_plan_reasons.specs.Tracing.{HasTraced}
+pub use Rattle.sas_plan_reasons.specs.Tracing.{HasTraced, sink_of}
+pub use Rattle.sas_plan_reasons.specs.declared.tracing.Printed.{Printed}
 pub use Rattle.sas_names.specs.Chains.{IsChain, AreStepOperators}
 pub use Rattle.sas_names.specs.Names.{IsNextNamed, IsLowestNamed, existing}
 pub use Rattle.sas_plan_reasons.specs.declared.causes.Report.{Report}

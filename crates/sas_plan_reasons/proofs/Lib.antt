@@ -28,6 +28,7 @@ pub mod ReportedRules
 mod Changing
 mod ListedChanges
 mod StepChains
+mod VerdictAnswers
 mod Standing
 mod Replaying
 pub mod Answering

@@ -146,6 +146,7 @@ pub noted_none : (p : Parts) (h : Historian) → IsInitial p h.changes.values �
 noted_none p h starts listing first none = record {
   nexts = refl;
   listing = listing;
+  one_each = first.one_each ∙ starts.state.one_each;
   through = goes_none p h.changes.values starts;
   since = λ run through is. record {
     one_each = first.one_each ∙ starts.state.one_each;
@@ -162,6 +163,7 @@ module _ (p : Parts) (layered : IsLayered p) (first old new : Historian) (before
   noted_next step at nexts listing changes adds = record {
     nexts = nexts ∙ noted.nexts;
     listing = listing;
+    one_each = changes.places.since ∙ fits;
     through = subst (GoesThrough p (before ++ operator ∷ [])) (sym (values_are step next old.changes new.changes changes)) there;
     since = λ run through is.
         let goes = sofar_goes p layered before s noted.through operator next there run through is in

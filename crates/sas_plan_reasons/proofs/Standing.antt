@@ -1,5 +1,5 @@
 -- What is written of the steps of a run, and of the whole run.
-use Rattle.sas_plan_reasons.proofs.Imports.{◌≡◌, ℕ, ◌+◌, ◌<◌, ◌≤◌, List, [], ◌∷◌, ◌++◌, flat_map, length, take, get_or, refl, sym, ◌∙◌, ap, subst, append_assoc, take_all, get_or-append_seam, get_or-take, take-append_seam, take-take, length-take, length-append, range_with_len, Parts, text, text_of_both, text_of_each, initial_lines, IsLayered, IsInitial, Run, StepsSucceed, state_at, GoesThrough, step_lines, run_lines, step_line, change_lines, PlanParts, Answer, Output, output_of, TraceVerdict, EndsWith, IsTraced, Option, Status, ToolFault, Sink, Pushed, Pushes, pushes_then, EndsCounting, ends_counting_as, Tracer, HasTraced, CanList}
+use Rattle.sas_plan_reasons.proofs.Imports.{◌≡◌, ℕ, ◌+◌, ◌<◌, ◌≤◌, List, [], ◌∷◌, ◌++◌, flat_map, length, take, get_or, refl, sym, ◌∙◌, ap, subst, append_assoc, take_all, get_or-append_seam, get_or-take, take-append_seam, take-take, length-take, length-append, range_with_len, Parts, text, text_of_both, text_of_each, initial_lines, IsLayered, IsInitial, Run, StepsSucceed, state_at, GoesThrough, step_lines, run_lines, step_line, change_lines, PlanParts, Answer, Output, output_of, TraceVerdict, EndsWith, IsTraced, Option, Some, Status, ToolFault, Sink, Pushed, Pushes, pushes_then, EndsCounting, ends_counting_as, Tracer, HasTraced, sink_of, CanList}
 use Rattle.sas_plan_reasons.proofs.Changing.{said, said_more}
 use Rattle.sas_plan_reasons.proofs.Noted.{state_after}
 use Rattle.std.proofs.lemmas.Grind.{common_steps}
@@ -35,8 +35,8 @@ module _ {W : Type 0} (contents : W → Option (List ℕ)) (p : Parts) (layered 
   abbrev k : ℕ
   k = length before
 
-  pub traced_next : (step : ℕ) → step ≡ k + 1 → CanList p new.printed.listing → new.printed.values ≡ next
-      → Pushes contents old.sink new.sink (text (step_line p step operator ∷ change_lines p old.printed.values next)) → HasTraced contents p first new more
+  pub traced_next : (step : ℕ) → step ≡ k + 1 → CanList p new.printed.now.listing → new.printed.now.values ≡ next
+      → Pushes contents (sink_of old) (sink_of new) (text (step_line p step operator ∷ change_lines p old.printed.now.values next)) → HasTraced contents p first new more
   traced_next step at listing values pushes = record {
     listing = listing;
     through = subst (GoesThrough p more) (sym values) there;
@@ -45,12 +45,16 @@ module _ {W : Type 0} (contents : W → Option (List ℕ)) (p : Parts) (layered 
         let within : length more ≤ length run.steps = within_run run through front in
         let front_before : before ≡ take k run.operators = front_of run front in
         let its : get_or run.operators k 0 ≡ operator = operator_of run front in
-        let s_is = state_after p layered run through before old.printed.values front_before (omega (arith, within, many)) traced.through in
+        let s_is = state_after p layered run through before old.printed.now.values front_before (omega (arith, within, many)) traced.through in
         let next_is = ap (state_at run) (sym many) ∙ state_after p layered run through more next front within there in
-        let line : step_text p run k ≡ text (step_line p step operator ∷ change_lines p old.printed.values next) = rw (its, s_is, next_is, at) refl in
-        subst (λ n. Pushes contents first.sink new.sink (steps_text p run n)) (sym many)
-        (subst (Pushes contents first.sink new.sink) (steps_more p run k)
-        (pushes_then contents first.sink old.sink new.sink _ _ (traced.pushes run through front_before) (subst (Pushes contents old.sink new.sink) (sym line) pushes)));
+        let line : step_text p run k ≡ text (step_line p step operator ∷ change_lines p old.printed.now.values next) =
+        ap (λ (n : ℕ). text (step_line p n (get_or run.operators k 0) ∷ change_lines p (state_at run k) (state_at run (k + 1)))) (sym at)
+        ∙ (ap (λ (o : ℕ). text (step_line p step o ∷ change_lines p (state_at run k) (state_at run (k + 1)))) its
+        ∙ (ap (λ (s : List ℕ). text (step_line p step operator ∷ change_lines p s (state_at run (k + 1)))) s_is
+        ∙ ap (λ (s : List ℕ). text (step_line p step operator ∷ change_lines p old.printed.now.values s)) next_is)) in
+        subst (λ n. Pushes contents (sink_of first) (sink_of new) (steps_text p run n)) (sym many)
+        (subst (Pushes contents (sink_of first) (sink_of new)) (steps_more p run k)
+        (pushes_then contents (sink_of first) (sink_of old) (sink_of new) _ _ (traced.pushes run through front_before) (subst (Pushes contents (sink_of old) (sink_of new)) (sym line) pushes)));
   }
     where
       within_run : (run : Run) → StepsSucceed p run → more ≡ take (length more) run.operators → length more ≤ length run.steps

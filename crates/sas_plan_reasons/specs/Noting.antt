@@ -44,6 +44,7 @@ AddsOther p s operator step None (Some other) = (other.step ≡ step)
 pub record HasNoted (p : Parts) (first now : Historian) (operators : List ℕ) : Type 0 where
   pub nexts : now.nexts.now ≡ first.nexts.now
   pub listing : CanList p now.listing
+  pub one_each : length now.changes.since.items ≡ length p.variables
   pub through : GoesThrough p operators now.changes.values
   pub since : (run : Run) → StepsSucceed p run → run.operators ≡ operators
       → HaveSince p run now.changes.since.items

@@ -1,10 +1,11 @@
 // The variables whose values a step may have changed.
-ghost use Rattle.std.specs.Prelude.{◌≡◌, ◌^◌, ◌<◌, ◌≤◌, ℕ, [], length, All, Contains, IfOk, IsFalse, slice_index, vec_capacity};
+ghost use Rattle.std.specs.Prelude.{◌≡◌, ◌<◌, ◌≤◌, ℕ, [], length, All, Contains, IfOk, vec_capacity};
 ghost use Rattle.sas_core.specs.Grounded.{effect_at, operator_at};
 ghost use Rattle.sas_meaning.specs.Layers.{IsBasic};
 ghost use Rattle.sas_meaning.specs.Steps.{Step};
 ghost use Rattle.sas_plan_reasons.specs.Noting.{CanList, ListCoversChanges, ListsBelow};
 
+use sas_axioms::{are_changed, part_end};
 use sas_core::Grounded;
 use sas_meaning::{Layered, State, derived_variables};
 use std::alloc::{AllocError, Global};
@@ -55,7 +56,7 @@ impl Listing {
         if self.basic && task.effects(operator) as usize <= self.few {
             self.list_effects(task, operator);
         } else {
-            self.list_changed(before.values(), after.values());
+            self.list_changed(task.variables(), before.values(), after.values());
         }
     }
 
@@ -79,17 +80,16 @@ impl Listing {
         }
     }
 
-    /// Lists the variables whose values differ.
-    fn list_changed(&mut self, before: &[u32], after: &[u32])
+    /// Lists the variables whose values differ. There are so many.
+    fn list_changed(&mut self, variables: u32, before: &[u32], after: &[u32])
         requires fit { length after.now ≡ length before.now }
-        requires few { length before.now < 2 ^ 32 }
+        requires all { variables ≡ length before.now }
         requires room { length before.now ≤ vec_capacity self.old.vars }
         requires empty { self.old.vars.items ≡ [] }
         ensures covers { ListsBelow before.now after.now (length before.now) self.new.vars.items }
         ensures room { vec_capacity self.old.vars ≤ vec_capacity self.new.vars }
         ensures rest { self.new ≡ record self.old { vars = self.new.vars } }
     {
-        let variables = before.len() as u32;
         let mut start = 0;
         while start < variables {
             let end = part_end(start, variables);
@@ -117,36 +117,4 @@ impl Listing {
             }
         }
     }
-}
-
-/// How many variables are compared at once.
-const PART: u32 = 64;
-
-/// Returns the end of the part that begins with the variable `start`.
-fn part_end(start: u32, variables: u32) -> u32
-    requires { start < variables }
-    ensures after { start < result }
-    ensures within { result ≤ variables }
-{
-    if variables - start > PART {
-        start + PART
-    } else {
-        variables
-    }
-}
-
-/// Returns whether the lists differ between these places.
-fn are_changed(former: &[u32], values: &[u32], start: usize, end: usize) -> bool
-    requires former { end ≤ length former.now }
-    requires values { end ≤ length values.now }
-    ensures { IsFalse result → (k : ℕ) → start ≤ k → k < end
-        → slice_index former.now k ≡ slice_index values.now k }
-{
-    let mut changed = false;
-    for place in start..end {
-        if former[place] != values[place] {
-            changed = true;
-        }
-    }
-    changed
 }

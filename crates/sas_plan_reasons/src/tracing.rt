@@ -1,31 +1,115 @@
 // The trace of a plan, which is written as its steps are made once more.
-ghost use Rattle.std.specs.Prelude.{◌≡◌, ◌<◌, [], length, slice_index, slice_set, IfOk};
+ghost use Rattle.std.specs.Prelude.{◌≡◌, ◌↔◌, ◌<◌, ◌∷◌, ◌++◌, ℕ, List, Option, Some, false, IfErr, IsErrAnd, IsTrue, [], length, slice_index, slice_set, IfOk};
 ghost use Rattle.std.specs.List.Sorted.{IsNonDecreasing};
 ghost use Rattle.sas_core.specs.Grounded.{operator_at};
 ghost use Rattle.sas_core.specs.Variables.{IsState};
 ghost use Rattle.sas_lines.specs.Lines.{text};
 ghost use Rattle.sas_meaning.specs.Steps.{Step};
 ghost use Rattle.sas_answers.specs.Facts.{initial_lines};
-ghost use Rattle.sas_answers.specs.Sink.{Pushes};
+ghost use Rattle.std.specs.Io.KnownBytes.{Appends};
+ghost use Rattle.sas_answers.specs.Ending.{EndsCounting, IsWrite};
+ghost use Rattle.sas_answers.specs.Sink.{Pushed, Pushes, empty_piece};
+ghost use Rattle.sas_plan_reasons.specs.Tracing.{sink_of};
 ghost use Rattle.sas_plan_reasons.specs.Noting.{CanList, ListCoversChanges};
 ghost use Rattle.sas_plan_reasons.specs.Retracing.{change_text};
-ghost use Rattle.sas_plan_reasons.specs.Trace.{change_lines};
+ghost use Rattle.sas_plan_reasons.specs.Trace.{change_lines, step_line};
 
 use crate::changes::copy_of;
 use crate::listing::Listing;
-use sas_answers::{NumberedLine, Sink, Word, Words, value_name};
+use sas_answers::{NumberedLine, Pieces, Sink, Status, ToolFault, Word, Words, value_name};
 use sas_core::{Fact, Grounded};
 use sas_flat::FlatTask;
+use sas_lines::Watched;
 use sas_meaning::{Layered, State};
 use sas_run::Observer;
 use std::alloc::{AllocError, Global};
 use std::io::Write;
 
-/// Adds the lines of each step to the text.
+/// A trace on its way to a device: the parts of a `Sink`, and what was printed. It has no `Sink`, since the prover follows only the references
+/// that are fields themselves.
 #[derive(Drop)]
 pub struct Tracer<'w, W> {
-    pub sink: Sink<'w, W>,
-    pub printed: Printed,
+    pub out: &'w mut Watched<W>,
+    pub pieces: &'w mut Pieces,
+    pub printed: &'w mut Printed,
+    pub short: usize,
+    pub status: Status,
+}
+
+impl<'w, W: Write> Tracer<'w, W> {
+    /// Opens the trace of a plan with a verdict of this status, as `Sink::new` does.
+    pub fn new(
+        status: Status,
+        printed: &'w mut Printed,
+        pieces: &'w mut Pieces,
+        out: &'w mut Watched<W>,
+    ) -> Tracer<'w, W>
+        requires failed { out.old.failed ≡ false }
+        requires empty { pieces.old ≡ empty_piece }
+        ensures same { result.out.ghost_name ≡ out.entry.ghost_name }
+        ensures status { result.status ≡ status }
+        ensures printed { result.printed.now ≡ printed.old }
+        ensures text { Pushed W.contents (W.contents out.old.device) (sink_of result) [] }
+    {
+        Tracer {
+            out,
+            pieces,
+            printed,
+            short: 0,
+            status,
+        }
+    }
+
+    /// Adds the lines of the initial state to the text.
+    pub fn push_initial(&mut self, task: &Layered<FlatTask>, state: &State)
+        requires { length state.now ≡ length task.now.variables }
+        ensures pushes { Pushes W.contents (sink_of self.old) (sink_of self.new)
+            (text (initial_lines task.now.variables state.now)) }
+        ensures printed { self.new.printed.now ≡ self.old.printed.now }
+    {
+        let mut sink = Sink {
+            out: self.out,
+            pieces: self.pieces,
+            short: self.short,
+            status: self.status,
+        };
+        push_initial_lines(&mut sink, task, state);
+        self.short = sink.short;
+    }
+
+    /// Adds these bytes to the text.
+    pub fn push(&mut self, bytes: &[u8])
+        ensures { Pushes W.contents (sink_of self.old) (sink_of self.new) bytes.now }
+    {
+        let mut sink = Sink {
+            out: self.out,
+            pieces: self.pieces,
+            short: self.short,
+            status: self.status,
+        };
+        sink.push(bytes);
+        self.short = sink.short;
+    }
+
+    /// Writes what is held back, and returns the answer's status, or that a write failed, as `Sink::finish` does.
+    pub fn finish(&mut self) -> Result<Status, ToolFault>
+        ensures same { self.new.out.ghost_name ≡ self.old.out.ghost_name }
+        ensures ends { (start : Option (List ℕ)) (text : List ℕ)
+            → Pushed W.contents start (sink_of self.old) text
+            → EndsCounting
+            (λ output. output ≡ Some (record { text = text; status = self.old.status }))
+            (Appends start (W.contents self.new.out.now.device)) result }
+        ensures note { IsErrAnd result IsWrite ↔ IsTrue self.new.out.now.failed }
+        ensures write { IfErr result IsWrite }
+    {
+        let sink = Sink {
+            out: self.out,
+            pieces: self.pieces,
+            short: self.short,
+            status: self.status,
+        };
+        sink.finish()
+    }
 }
 
 impl<'w, W: Write> Observer<FlatTask> for Tracer<'w, W> {
@@ -37,15 +121,15 @@ impl<'w, W: Write> Observer<FlatTask> for Tracer<'w, W> {
     ghost sees = { HasTraced W.contents };
 
     fn observe(&mut self, task: &Layered<FlatTask>, step: usize, operator: u32, state: &State) {
-        self.sink.push_numbered(NumberedLine {
-            word: b"step",
-            first: step as u64,
-            second: u64::from(operator),
-            third: u64::from(task.cost(operator)),
-            name: task.name(operator),
-        });
-        self.printed
-            .push_step(&mut self.sink, task, operator, state);
+        let mut sink = Sink {
+            out: self.out,
+            pieces: self.pieces,
+            short: self.short,
+            status: self.status,
+        };
+        push_step_line(&mut sink, task, step, operator);
+        self.printed.push_step(&mut sink, task, operator, state);
+        self.short = sink.short;
     }
 }
 
@@ -150,8 +234,27 @@ impl Printed {
     }
 }
 
+/// Adds the line of a step by this operator to the text.
+fn push_step_line<W: Write>(
+    sink: &mut Sink<'_, W>,
+    task: &Layered<FlatTask>,
+    step: usize,
+    operator: u32,
+)
+    requires { operator < length task.now.operators }
+    ensures { Pushes W.contents sink.old sink.new (step_line task.now step operator ++ 10 ∷ []) }
+{
+    sink.push_numbered(NumberedLine {
+        word: b"step",
+        first: step as u64,
+        second: u64::from(operator),
+        third: u64::from(task.cost(operator)),
+        name: task.name(operator),
+    });
+}
+
 /// Adds the lines of the initial state to the text.
-pub fn push_initial_lines<W: Write>(sink: &mut Sink<'_, W>, task: &Layered<FlatTask>, state: &State)
+fn push_initial_lines<W: Write>(sink: &mut Sink<'_, W>, task: &Layered<FlatTask>, state: &State)
     requires { length state.now ≡ length task.now.variables }
     ensures { Pushes W.contents sink.old sink.new
         (text (initial_lines task.now.variables state.now)) }

@@ -15,10 +15,9 @@ ghost use Rattle.sas_plan_reasons.specs.Verdict.{WhyVerdict, MakeAnswer};
 
 use crate::faults::{reasons, unknown};
 use crate::history::{Historian, PlanHistory};
-use crate::tracing::{Printed, Tracer, push_initial_lines};
+use crate::tracing::{Printed, Tracer};
 use sas_answers::{
-    Answer, Line, NameSource, Pieces, Sink, Status, ToolFault, accept_plan, answer_fault,
-    write_reasons,
+    Answer, Line, NameSource, Pieces, Status, ToolFault, accept_plan, answer_fault, write_reasons,
 };
 use sas_core::Stepwise;
 use sas_flat::{FlatPlan, FlatTask};
@@ -140,13 +139,14 @@ fn retrace<E: Settle<FlatTask> + Drop>(
         &mut last,
         &mut noted,
     );
+    let (since, other) = noted.into_parts();
     Ok(PlanHistory {
         fault,
         nameless: nameless(named.task, named.firsts),
         operators,
         last,
-        since: noted.changes.since,
-        other: noted.other,
+        since,
+        other,
     })
 }
 
@@ -215,21 +215,21 @@ pub fn write_trace<W: Write, E: Settle<FlatTask> + Drop>(
     let end = find_end(alloc, named.task, stepper, named)?;
     let verdict = verdict_on(alloc, named.plan, end.fault)?;
     let mut state = initial_of(alloc, named.task, stepper)?;
-    let printed = Printed::new(alloc, named.task, &state)?;
+    let mut printed = Printed::new(alloc, named.task, &state)?;
     let mut pieces = Pieces::new(alloc)?;
-    let mut sink = Sink::new(verdict.status, &mut pieces, out);
-    push_initial_lines(&mut sink, named.task, &state);
-    let mut tracer = Tracer { sink, printed };
-    replay(
-        named.task,
-        stepper,
-        end.operators.as_slice(),
-        &mut state,
-        &mut tracer,
-    );
-    let Tracer { mut sink, printed } = tracer;
-    sink.push(verdict.text.as_slice());
-    let ended = sink.finish();
+    let ended = {
+        let mut tracer = Tracer::new(verdict.status, &mut printed, &mut pieces, out);
+        tracer.push_initial(named.task, &state);
+        replay(
+            named.task,
+            stepper,
+            end.operators.as_slice(),
+            &mut state,
+            &mut tracer,
+        );
+        tracer.push(verdict.text.as_slice());
+        tracer.finish()
+    };
     drop(printed);
     drop(pieces);
     drop(verdict);

@@ -10,5 +10,5 @@ returns c =
       fault,
       c.requires.1.ends.0,
       record { verdict = verdict; reported = reported; reasons = c.in_ok-lines.lines.items; why = c.in_ok-lines.ensures; whole = refl },
-      (worded (fault_words c.args.plan.now.cost fault) invalid_line verdict reported).status,
+      (worded (fault_words c.args.named.now.plan.now.cost fault) invalid_line verdict reported).status,
     )

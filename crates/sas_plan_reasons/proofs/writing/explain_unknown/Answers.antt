@@ -8,8 +8,8 @@ unknown-requires-clause-step c = (let comes = c.requires.run.1.ends.0.2 in omega
 
 pub returns : goal.returns
 returns c =
-    let p = c.args.task.now in
-    let plan = c.args.plan.now in
+    let p = c.args.named.now.task.now in
+    let plan = c.args.named.now.plan.now in
     let step = c.args.step in
     let comes = c.requires.run in
     let verdict = output_of c.in_ok-verdict.verdict in

@@ -1,0 +1,16 @@
+-- The operators that were chosen are those with the numbers.
+use Rattle.sas_plan_reasons.proofs.Imports.{subst, IfOk-weaker, output_of, Answer, NumbersAnswer}
+use Rattle.std.specs.Prelude.{IfOk}
+use Rattle.sas_plan_reasons.proofs.VerdictAnswers.{numbers_answered, number_fault_answered}
+use Rattle.sas_plan_reasons.proofs.loaded_task.LoadedTask.verdict_by_numbers.Goals as goal
+use Rattle.sas_plan_reasons.proofs.loaded_task.LoadedTask.verdict_by_numbers.Goals.{in-Ok, in-Err}
+
+pub returns-clause-answer : goal.returns-clause-answer
+returns-clause-answer g c =
+    let p = c.self.inside.layered in
+    let plan = c.args.plan.now in
+    subst (λ q. IfOk c.match-check.result (λ (a : Answer). NumbersAnswer q plan.operators.now plan.cost (output_of a))) c.self.view_is
+    (elim c.match-check.branch [
+      | in-Ok w ↦ rw w.result-is (IfOk-weaker w.accept_plan.result _ _ (λ a is. numbers_answered p plan.operators.now plan.cost (output_of a) _ w.in-Ok.ensures.valid is) w.accept_plan.ensures)
+      | in-Err w ↦ rw w.result-is (IfOk-weaker w.answer_number_fault.result _ _ (λ a is. number_fault_answered p plan.operators.now plan.cost (output_of a) w.in-Err.fault w.in-Err.ensures.fault is) w.answer_number_fault.ensures)
+    ])
