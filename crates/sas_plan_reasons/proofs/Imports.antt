@@ -34,7 +34,7 @@ pub use Rattle.std.specs.declared.cmp.Reverse.{Reverse}
 pub use Rattle.sas_answers.proofs.InitialLines.{initial_texts, initial_all, initial_next}
 pub use Rattle.sas_answers.proofs.Pushed.{pushes_then, pushes_lost}
 pub use Rattle.sas_answers.proofs.RuleLines.{same_is, is_same}
-pub use Rattle.sas_answers.proofs.Sent.{writes_as, ends_counting_as}
+pub use Rattle.sas_answers.proofs.Sent.{writes_as, writes_by, writes_counting, ends_counting_as}
 pub use Rattle.sas_answers.proofs.Texts.{text_of_each}
 pub use Rattle.sas_answers.proofs.WordedLines.{worded}
 pub use Rattle.sas_answers.specs.Answers.{VerdictAnswer, valid_by, valid_answer, invalid_answer}

@@ -1,5 +1,5 @@
 -- The steps before the fault are those of a run, and are made once more.
-use Rattle.sas_plan_reasons.proofs.Imports.{◌≡◌, ℕ, ◌<◌, List, length, get_or, sym, ap, subst, ◌∙◌, arith, GoesThrough, leads_on_numbers, goes_one_way, leads_to_last, last_state, IsChain, HaveSince, IsOtherIfAny}
+use Rattle.sas_plan_reasons.proofs.Imports.{ℕ, ◌<◌, List, length, get_or, sym, ap, subst, ◌∙◌, arith, GoesThrough, leads_on_numbers, goes_one_way, leads_to_last, last_state, IsChain}
 use Rattle.sas_plan_reasons.proofs.StepChains.{operator_named, operator_chain}
 use Rattle.sas_plan_reasons.proofs.writing.retrace.Goals as goal
 

@@ -1,5 +1,5 @@
 -- What is pushed while the steps are made once more is the trace.
-use Rattle.sas_plan_reasons.proofs.Imports.{rules, ◌≡◌, ℕ, List, ◌++◌, length, refl, sym, ap, subst, ◌∙◌, arith, take_all, initial_lines, text, state_at, named_ending, IsState, Pushes, pushes_then, GoesThrough, goes_none, sink_of}
+use Rattle.sas_plan_reasons.proofs.Imports.{rules, ◌≡◌, ℕ, List, length, refl, sym, ap, subst, ◌∙◌, arith, take_all, initial_lines, text, named_ending, Pushes, pushes_then, goes_none, sink_of}
 use Rattle.sas_plan_reasons.proofs.Noted.{state_after}
 use Rattle.sas_plan_reasons.proofs.Standing.{run_text, steps_text, sends_trace}
 use Rattle.sas_plan_reasons.proofs.writing.write_trace.Goals as goal

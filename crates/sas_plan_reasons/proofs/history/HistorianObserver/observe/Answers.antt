@@ -1,6 +1,6 @@
 -- One more step is noted.
 use Rattle.sas_meaning.specs.Steps.{Step}
-use Rattle.sas_plan_reasons.proofs.Imports.{◌≡◌, ℕ, ◌<◌, List, length, refl, sym, ap, subst, ◌∙◌, arith, All, Contains, operator_at, Historian, Changes, Notes, goes_state}
+use Rattle.sas_plan_reasons.proofs.Imports.{◌≡◌, ℕ, ◌<◌, length, refl, sym, ap, subst, ◌∙◌, All, Contains, operator_at, Historian, Changes, Notes, goes_state}
 use Rattle.sas_plan_reasons.proofs.Looking.{notes_all}
 use Rattle.sas_plan_reasons.proofs.Noted.{step_there, noted_next}
 use Rattle.sas_plan_reasons.proofs.history.HistorianObserver.observe.Goals as goal

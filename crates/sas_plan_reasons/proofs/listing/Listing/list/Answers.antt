@@ -1,6 +1,6 @@
 -- What is listed covers what changed.
-use Rattle.sas_plan_reasons.proofs.Imports.{ℕ, ◌<◌, sym, subst, arith, All, operator_at}
-use Rattle.sas_plan_reasons.proofs.ListedChanges.{lists_effects, lists_all}
+use Rattle.sas_plan_reasons.proofs.Imports.{ℕ, ◌<◌, sym, subst, All, operator_at}
+use Rattle.sas_plan_reasons.proofs.ListedChanges.{lists_effects}
 use Rattle.sas_plan_reasons.proofs.listing.Listing.list.Goals as goal
 
 pub returns-then-effects-self-clause-covers : goal.returns-then-effects-self-clause-covers

@@ -1,5 +1,5 @@
 -- The next variable is listed if its values differ.
-use Rattle.sas_plan_reasons.proofs.Imports.{◌≡◌, ◌+◌, ◌<◌, ◌++◌, ◌∷◌, [], ℕ, get_or, ap, subst, sym, ◌∙◌, arith, rules, cases_eq, ListsBelow, Listing}
+use Rattle.sas_plan_reasons.proofs.Imports.{◌≡◌, ◌+◌, get_or, arith, rules}
 use Rattle.sas_plan_reasons.proofs.ListedChanges.{lists_same, lists_next}
 use Rattle.sas_plan_reasons.proofs.listing.Listing.list_part.Goals as goal
 use Rattle.sas_plan_reasons.proofs.listing.Listing.list_part.Goals.{then-before-var, else-before-var}

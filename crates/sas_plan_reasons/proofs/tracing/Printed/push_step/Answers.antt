@@ -1,5 +1,5 @@
 -- The variables that were listed, in order.
-use Rattle.sas_plan_reasons.proofs.Imports.{◌≤◌, IsNonDecreasingBy-from_sort}
+use Rattle.sas_plan_reasons.proofs.Imports.{IsNonDecreasingBy-from_sort}
 use Rattle.sas_plan_reasons.proofs.ListedChanges.{covers_permuted}
 use Rattle.sas_plan_reasons.proofs.tracing.Printed.push_step.Goals as goal
 
