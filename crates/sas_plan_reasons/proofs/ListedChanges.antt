@@ -1,6 +1,5 @@
 -- The variables that are listed are all that a step may have changed.
-use Rattle.std.proofs.lemmas.Grind.{common_steps}
-use Rattle.sas_plan_reasons.proofs.Imports.{◌≡◌, ◌≢◌, ◌⊎◌, ℕ, zero, suc, ◌+◌, ◌<◌, ◌≤◌, List, [], ◌∷◌, ◌++◌, length, get_or, refl, sym, ◌∙◌, ap, subst, inl, inr, arith, cases_eq, cases_lt, get_or_past, length-append, All, All-nil, All-cons, All-push, All-weaker, Contains, Contains-append_left, Contains-push, All-permutation, Contains-permutation, IsPermutation, Operator, Effect, Parts, operator_at, effect_at, IsBasic, ListCoversChanges, ListsBelow}
+use Rattle.sas_plan_reasons.proofs.Imports.{◌≡◌, ◌≢◌, ◌⊎◌, ℕ, zero, suc, ◌+◌, ◌<◌, ◌≤◌, List, [], ◌∷◌, ◌++◌, length, get_or, sym, ◌∙◌, subst, inl, inr, arith, cases_eq, cases_lt, get_or_past, length-append, All, All-nil, All-cons, All-push, All-weaker, Contains, Contains-append_left, Contains-push, All-permutation, Contains-permutation, IsPermutation, Operator, Effect, Parts, effect_at, IsBasic, ListCoversChanges, ListsBelow}
 use Rattle.sas_core.specs.Grounded.{no_effect}
 use Rattle.sas_meaning.specs.Steps.{Step}
 

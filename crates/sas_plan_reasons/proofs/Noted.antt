@@ -1,7 +1,6 @@
 -- What is noted of a run, step by step.
-use Rattle.std.proofs.lemmas.Grind.{common_steps}
 use Rattle.sas_meaning.specs.Steps.{Step}
-use Rattle.sas_plan_reasons.proofs.Imports.{◌≡◌, ℕ, ◌+◌, ◌<◌, ◌≤◌, List, [], ◌∷◌, ◌++◌, length, take, get_or, Option, Some, None, refl, sym, ◌∙◌, ap, subst, inl, inr, arith, cases_eq, same_lists, get_or_default, take_all, take-append_seam, get_or-append_seam, length-append, Parts, operator_at, IsState, IsLayered, IsInitial, IsLaterIfAny, Run, state_at, last_state, StepsSucceed, GoesThrough, MakesStep, run_goes, goes_one_way, goes_one_more, goes_on, goes_none, leads_on_numbers, IsSince, MayMean, Changes, Historian, OtherOperator, HavePlaces, AreFirstChanges, Notes, IsOtherIfAny, HaveSince, AddsOther, HasNoted, CanList, is_some, true, false, false≢true}
+use Rattle.sas_plan_reasons.proofs.Imports.{◌≡◌, ℕ, ◌+◌, ◌<◌, ◌≤◌, List, [], ◌∷◌, ◌++◌, length, take, get_or, Option, Some, None, refl, sym, ◌∙◌, ap, subst, inl, inr, arith, cases_eq, same_lists, get_or_default, take_all, take-append_seam, get_or-append_seam, length-append, Parts, operator_at, IsLayered, IsInitial, IsLaterIfAny, Run, state_at, last_state, StepsSucceed, GoesThrough, run_goes, goes_one_way, goes_one_more, goes_on, goes_none, leads_on_numbers, IsSince, MayMean, Changes, Historian, OtherOperator, AreFirstChanges, Notes, IsOtherIfAny, HaveSince, AddsOther, HasNoted, CanList, is_some, true, false, false≢true}
 use Rattle.sas_plan_reasons.proofs.LongerRuns.{first_steps, first_many, first_goes, first_last, first_more, first_all, none_since, one_more, since_changed, since_unchanged, may_mean_longer, still_none, may_mean_now}
 
 -- ---- which other operator is noted

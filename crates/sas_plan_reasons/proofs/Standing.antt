@@ -1,5 +1,5 @@
 -- What is written of the steps of a run, and of the whole run.
-use Rattle.sas_plan_reasons.proofs.Imports.{◌≡◌, ℕ, ◌+◌, ◌<◌, ◌≤◌, List, [], ◌∷◌, ◌++◌, flat_map, length, take, get_or, refl, sym, ◌∙◌, ap, subst, append_assoc, take_all, get_or-append_seam, get_or-take, take-append_seam, take-take, length-take, length-append, range_with_len, Parts, text, text_of_both, text_of_each, initial_lines, IsLayered, IsInitial, Run, StepsSucceed, state_at, GoesThrough, step_lines, run_lines, step_line, change_lines, PlanParts, Answer, Output, output_of, TraceVerdict, EndsWith, IsTraced, Option, Some, Status, ToolFault, Sink, Pushed, Pushes, pushes_then, EndsCounting, ends_counting_as, Tracer, HasTraced, sink_of, CanList}
+use Rattle.sas_plan_reasons.proofs.Imports.{◌≡◌, ℕ, ◌+◌, ◌≤◌, List, [], ◌∷◌, ◌++◌, flat_map, length, take, get_or, sym, ◌∙◌, ap, subst, get_or-append_seam, get_or-take, take-append_seam, take-take, length-take, length-append, range_with_len, Parts, text, text_of_both, text_of_each, initial_lines, IsLayered, Run, StepsSucceed, state_at, GoesThrough, step_lines, run_lines, step_line, change_lines, PlanParts, Answer, Output, output_of, TraceVerdict, EndsWith, IsTraced, Option, Some, Status, ToolFault, Sink, Pushed, Pushes, pushes_then, EndsCounting, ends_counting_as, Tracer, HasTraced, sink_of, CanList}
 use Rattle.sas_plan_reasons.proofs.Changing.{said, said_more}
 use Rattle.sas_plan_reasons.proofs.Noted.{state_after}
 use Rattle.std.proofs.lemmas.Grind.{common_steps}

@@ -1,5 +1,5 @@
 -- The operators of a run are those of the names of its steps.
-use Rattle.sas_plan_reasons.proofs.Imports.{◌≡◌, ℕ, ◌+◌, ◌<◌, List, [], length, take, get_or, Option, None, refl, sym, ◌∙◌, ap, subst, arith, common_steps, All, get_or-take, length-take, Parts, PlanParts, operator_at, IsLayered, IsNamed, IsNextNamed, IsLowestNamed, existing, IsChain, AreStepOperators, Run, StepsSucceed, IsRunOf, run_goes, HaveNoNamesakes}
+use Rattle.sas_plan_reasons.proofs.Imports.{◌≡◌, ℕ, ◌+◌, ◌<◌, List, [], length, get_or, Option, None, refl, sym, ◌∙◌, ap, subst, arith, All, get_or-take, length-take, Parts, PlanParts, operator_at, IsLayered, IsNamed, IsNextNamed, IsLowestNamed, existing, IsChain, AreStepOperators, Run, IsRunOf, run_goes, HaveNoNamesakes}
 
 -- if an operator has the name, the lowest one exists
 lowest_exists : (p : Parts) (name : List ℕ) (first operator : ℕ) → IsNextNamed p name 0 (existing p first) → IsNamed p name operator → IsLowestNamed p name 0 first

@@ -1,5 +1,5 @@
 -- The answers about plans that were checked.
-use Rattle.sas_plan_reasons.proofs.Imports.{◌≡◌, ℕ, List, length, Some, inl, inr, subst, none-some, Parts, PlanParts, PlanFault, Valid, Memory, Output, VerdictAnswer, valid_answer, invalid_answer, NumbersAnswer, valid_by, invalid_by_numbers, IsSolutionBy, IsFaultByOrMemory, by_number, IsChoice, Choice, get_or, [], named_valid, named_faulty, numbered_valid, numbered_faulty}
+use Rattle.sas_plan_reasons.proofs.Imports.{◌≡◌, ℕ, List, length, Some, inl, inr, subst, none-some, Parts, PlanParts, PlanFault, Valid, Output, VerdictAnswer, valid_answer, invalid_answer, NumbersAnswer, valid_by, invalid_by_numbers, IsSolutionBy, IsFaultByOrMemory, by_number, IsChoice, Choice, get_or, [], named_valid, named_faulty, numbered_valid, numbered_faulty}
 
 module _ (p : Parts) (plan : PlanParts) (a : Output) where
   abbrev by_name : ℕ → List ℕ → Choice → Type 0
