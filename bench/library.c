@@ -1,6 +1,6 @@
 /* library TASK PLAN COUNT ROUNDS: how long the library takes, in microseconds, for library.py: to read the task and hold it, for a
-   plan of the task that is held, for this plan by the numbers of its operators, and for both files by `sas_plan`. Of the rounds the best
-   counts; each asks about the plan COUNT times. The plan has to be valid. */
+   plan of the task that is held, for this plan without its last step, with reasons, for its trace, for it by the numbers of its operators,
+   and for both files by `sas_plan`. Of the rounds the best counts; each asks about the plan COUNT times. The plan has to be valid. */
 #include "sas.h"
 #include <stdio.h>
 #include <stdlib.h>
@@ -48,7 +48,9 @@ struct numbers {
     uint64_t cost;
 };
 
-static struct bytes task, plan;
+static struct bytes task, plan, shorter;
+/* Room for each answer. */
+static struct bytes answers;
 static struct numbers by;
 static long count;
 
@@ -76,8 +78,26 @@ static struct numbers read_numbers(void) {
     return it;
 }
 
+/* Returns the plan without the line of its last step. */
+static struct bytes without_last_step(void) {
+    struct bytes it = {malloc(plan.length + 1), 0};
+    size_t last = plan.length, next;
+    while (last > 0 && plan.at[last - 1] != '(') {
+        last--;
+    }
+    for (next = last; next < plan.length && plan.at[next] != '\n'; next++) {
+    }
+    it.length = last == 0 ? 0 : last - 1;
+    memcpy(it.at, plan.at, it.length);
+    if (next < plan.length) {
+        memcpy(it.at + it.length, plan.at + next + 1, plan.length - next - 1);
+        it.length += plan.length - next - 1;
+    }
+    return it;
+}
+
 /* The least times of all rounds. */
-static double read_time = 1e18, plan_time = 1e18, numbers_time = 1e18, both_time = 1e18;
+static double read_time = 1e18, plan_time = 1e18, why_time = 1e18, trace_time = 1e18, numbers_time = 1e18, both_time = 1e18;
 
 struct answer {
     enum sas_number number;
@@ -89,6 +109,22 @@ static void judge(sas_task *held, struct answer *it) {
     for (long place = 0; place < count; place++) {
         it->number = sas_task_plan(held, plan.at, plan.length, it->room, sizeof it->room, &it->size);
     }
+}
+
+/* A call about a plan of a task that is held. */
+typedef uint32_t about_plan(sas_task *, const uint8_t *, size_t, uint8_t *, size_t, size_t *);
+
+/* Returns how long a call takes. */
+static double ask(about_plan *call, sas_task *held, struct bytes about) {
+    size_t size;
+    while (call(held, about.at, about.length, answers.at, answers.length, &size) == SAS_ROOM_TOO_SHORT) {
+        answers.at = realloc(answers.at, answers.length = size);
+    }
+    double began = now();
+    for (long place = 0; place < count; place++) {
+        call(held, about.at, about.length, answers.at, answers.length, &size);
+    }
+    return (now() - began) / (double)count;
 }
 
 static void judge_by_numbers(sas_task *held, struct answer *it) {
@@ -112,6 +148,8 @@ static int measure(struct answer *answer) {
     began = now();
     judge(&held, answer);
     plan_time = least(plan_time, (now() - began) / (double)count);
+    why_time = least(why_time, ask(sas_task_plan_why, &held, shorter));
+    trace_time = least(trace_time, ask(sas_task_trace, &held, plan));
     began = now();
     judge_by_numbers(&held, &numbers);
     numbers_time = least(numbers_time, (now() - began) / (double)count);
@@ -128,12 +166,13 @@ int main(int words_given, char **words) {
     }
     struct answer answer = {SAS_NO_TASK, 0, {0}};
     task = read_file(words[1]), plan = read_file(words[2]), count = atol(words[3]);
-    by = read_numbers();
+    by = read_numbers(), shorter = without_last_step();
     for (long round = 0; round < atol(words[4]); round++) {
         if (!measure(&answer)) {
             return 1;
         }
     }
-    printf("%.3f %.3f %.3f %.3f %.*s", read_time, plan_time, numbers_time, both_time, (int)answer.size, (const char *)answer.room);
+    printf("%.3f %.3f %.3f %.3f %.3f %.3f ", read_time, plan_time, why_time, trace_time, numbers_time, both_time);
+    printf("%.*s", (int)answer.size, (const char *)answer.room);
     return 0;
 }

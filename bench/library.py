@@ -1,6 +1,6 @@
 #!/usr/bin/env python3
-"""Times a valid plan of a task that the library holds, as a file and by the numbers of its operators, beside reading the task, and beside
-`sas_plan`, which reads both.
+"""Times a valid plan of a task that the library holds: as a file, without its last step and with reasons, with a trace, and by the numbers
+of its operators; beside reading the task, and beside `sas_plan`, which reads both.
 
     bench/library.py TASK PLAN [--library FOLDER] [--count N] [--rounds R]
 
@@ -40,11 +40,11 @@ def main():
         ran = subprocess.run(command, stdout=subprocess.PIPE, check=False, encoding="utf-8")
     if ran.returncode:
         sys.exit("the plan isn't valid, or the answers differ")
-    read, held, by_numbers, both, said = ran.stdout.rstrip("\n").split(" ", 4)
+    read, held, why, trace, by_numbers, both, said = ran.stdout.rstrip("\n").split(" ", 6)
     for line in machine.header(os.path.join(given.library, "libsas.so"), None):
         print(line)
-    print(machine.table_head(["Task", "Plan", "Answer", "Read", "A plan of it", "By numbers", "`sas_plan`"]))
-    print(machine.row([os.path.basename(given.task), os.path.basename(given.plan), said, read, held, by_numbers, both]))
+    print(machine.table_head(["Task", "Plan", "Answer", "Read", "A plan of it", "Reasons", "Trace", "By numbers", "`sas_plan`"]))
+    print(machine.row([os.path.basename(given.task), os.path.basename(given.plan), said, read, held, why, trace, by_numbers, both]))
 
 
 main()

@@ -4,6 +4,7 @@ use Rattle.std.proofs.Common.{arith, ap, take}
 use Rattle.std.proofs.lemmas.List.{length-take, take_all}
 use Rattle.sas_requests.specs.Answering.{first_bytes}
 use Rattle.sas_requests.proofs.Imports.{◌≡◌, ◌≢◌, ℕ, ◌<◌, Bool, true, false, IsTrue, List, [], refl, sym, subst, ◌∙◌, inr, codes, Option, Some, None, Result, Ok, Err, nat_lt, IsErrOf, IsSomeAnd, ◌↔◌, Consumes, IsAtEnd, Parts, PlanParts, first_fault, LayerFault, layer_checks, Device, Fault, TooLong, Read, Memory, Excerpt, ReadsAll, ValueOf, Format, ReadsAs, Detail, Reasons, FileBy, TaskBy, PlanBy, UnlayeredBy, layers_by, refusal_by, task_refusal_lines, plan_refusal_lines, FaultReasons, reported, past_limit, FileReasons, AreTaskReasons, ArePlanReasons, IsFoundOf, most_bytes, ConcernsText, AboutLaws, ExplainsRefusal, ReadsOrExplains, known_answer, known_fault, known_explained, PlanRefusal, plan_format, fault_of, found_of, TellsLineEnd, EndsUnended, length, ReadsPlan, less, is_less, task_format, TaskRefusal, fault_in, found_in, HasReason, ReadsTask, FileLine, file_text, Status, ToolFault, Output, Ends, EndsCounting, IsDecided, Writes, Answers, ends_by, writes_as, writes_counting, writes_answers, answers_by, not_memory, refusal, IsAnswerOrRefusal, FileOut, EndsFile}
+use Rattle.sas_plan_file.specs.PlanRefusal.{ExplainsPlan}
 use Rattle.sas_requests.proofs.Outputs.{refused_kind, too_long_else, reading_of_refusal}
 use Rattle.sas_requests.proofs.PlanOutputs.{reported_fault}
 use Rattle.sas_meaning.specs.declared.layered.LayerFault.TheVariants as layer_fault
@@ -64,6 +65,44 @@ module _ {V I S : Type 0} (F : Format V I S) (Reports : Fault → List (List ℕ
       long_by : f.kind ≡ TooLong → FileBy F Reports name detail IsAnswer b None
       long_by long = reasoned_by detail (FileOut F name IsAnswer b) (FileReasons F Reports b) None None [] (Err f, reads, rw long refl) (Err f, reads, past_limit long refl) (reported_alone detail None)
 
+  -- what is read of bytes in memory is answered
+  module _ {W : Type 0} (contents : W → Option (List ℕ)) (out_old out_new : Device W) (detail : Detail) (IsAnswer : V → Output → Type 0) (b : List ℕ) where
+    some_value : (v : V) → ReadsAs F most_bytes b (Ok v) → (o : Option Output) → IsSomeAnd o (IsAnswer v) → FileBy F Reports name detail IsAnswer b o
+    some_value v reads h1 is = grind (arith, value_by)
+
+    pub bytes_value : (v : V) (r : Result Status ToolFault) → ReadsAs F most_bytes b (Ok v) → Writes contents (EndsCounting (λ o. IsSomeAnd o (IsAnswer v))) out_old out_new r
+        → Answers contents (EndsCounting (FileBy F Reports name detail IsAnswer b)) out_old out_new r
+    bytes_value v r reads = writes_answers contents out_old out_new r (EndsCounting (λ o. IsSomeAnd o (IsAnswer v))) (EndsCounting (FileBy F Reports name detail IsAnswer b))
+        (λ Sent never ends. ends_by Sent (λ o. IsSomeAnd o (IsAnswer v)) (FileBy F Reports name detail IsAnswer b) r (some_value v reads) ends)
+
+  -- a refusal, with the reasons for it
+  module _ {R : Type 0} (unended : Unended F) (fault : R → Fault) (found : R → Excerpt) (Answer : List (List ℕ) → List ℕ → R → Type 0)
+      (r : R) (reasons : List FileLine) (lacks : Bool) (tells : (accepted : List (List ℕ)) (text : List ℕ) → Answer accepted text r → IsTrue lacks ↔ EndsUnended F (fault r).kind accepted text)
+      (reports : (accepted : List (List ℕ)) (text : List ℕ) → IsFoundOf text (found r) → Answer accepted text r → Reports (fault r) accepted text lacks reasons) where
+    pub reasons_of : (b : List ℕ) → ConcernsText (fault r).kind → ExplainsRefusal F fault found Answer b r → FaultReasons F Reports b (fault r) reasons
+    reasons_of b kind e =
+        let same = unended b (fault r) e.accepted e.text kind.1 e.about in
+        let t = tells e.accepted e.text e.why in
+        reported e.accepted e.text lacks e.about ((λ l. same.1 (t.0 l)), λ l. t.1 (same.0 l)) (reports e.accepted e.text e.kept e.why)
+
+    pub long_memory : (fault r).kind ≡ TooLong → (fault r).kind ≢ Memory
+    long_memory long = too_long_else (fault r).kind Memory long (λ e. absurd cc)
+
+    pub long_read : (fault r).kind ≡ TooLong → (fault r).kind ≢ Read
+    long_read long = too_long_else (fault r).kind Read long (λ e. absurd cc)
+
+    module _ (detail : Detail) (IsAnswer : V → Output → Type 0) (b : List ℕ) (reads : (fault r).kind ≢ Memory → (fault r).kind ≢ Read → ReadsAs F most_bytes b (Err (fault r)))
+        (explained : ConcernsText (fault r).kind → ExplainsRefusal F fault found Answer b r) where
+      some_out : (o : Output) → Some o ≡ refusal_by detail name (fault r) reasons → FileBy F Reports name detail IsAnswer b (Some o)
+      some_out o is = (let kind = reported_kind (fault r) reasons detail o is in refused_by (fault r) reasons detail IsAnswer b (reads kind.2 kind.0) o is (reasons_of b kind (explained kind)))
+
+      none_out : (fault r).kind ≡ TooLong → FileBy F Reports name detail IsAnswer b None
+      none_out long = long_by (fault r) reasons detail IsAnswer b (reads (long_memory long) (long_read long)) long
+
+      pub refusal_ends : (Sent : List ℕ → Type 0) (result : Result Status ToolFault) → Ends (λ o. o ≡ refusal_by detail name (fault r) reasons) Sent result
+          → (IsErrOf result tool_fault.TooLong → (fault r).kind ≡ TooLong) → EndsCounting (FileBy F Reports name detail IsAnswer b) Sent result
+      refusal_ends h1 h2 h3 long = grind (arith, some_out, less, none_out)
+
 -- ---- how it goes out
 
 module _ {D V I S A W : Type 0} (left : D → Option (List ℕ)) (F : Format V I S) (Reports : Fault → List (List ℕ) → List ℕ → Bool → List FileLine → Type 0) (Gives : List ℕ → A → Type 0) (name : List ℕ)
@@ -103,43 +142,24 @@ module _ {D V I S A W : Type 0} (left : D → Option (List ℕ)) (F : Format V I
     plain : ReadsAll left F Gives old new (Err (fault r))
     plain = h.plain
 
-    reasons_of : (b : List ℕ) → ConcernsText (fault r).kind → ExplainsRefusal F fault found Answer b r → FaultReasons F Reports b (fault r) reasons
-    reasons_of b kind e =
-        let same = unended b (fault r) e.accepted e.text kind.1 e.about in
-        let t = tells e.accepted e.text e.why in
-        reported e.accepted e.text lacks e.about ((λ l. same.1 (t.0 l)), λ l. t.1 (same.0 l)) (reports e.accepted e.text e.kept e.why)
-
-    known_out : (b : List ℕ) → left old.device ≡ Some b → (o : Output) → Some o ≡ refusal_by detail name (fault r) reasons → FileOutput b (Some o)
-    known_out b known o is =
-        let kind = reported_kind F Reports name (fault r) reasons detail o is in
-        refused_by F Reports name (fault r) reasons detail IsAnswer b (known_fault left F Gives old new (fault r) b plain known kind.2 kind.0) o is
-        (reasons_of b kind (known_explained left F fault found Answer Gives old new r b reporting h known kind))
-
     taken_out : (o : Output) → Some o ≡ refusal_by detail name (fault r) reasons → (b : List ℕ) × Consumes (left old.device) (left new.device) b × FileOutput b (Some o)
     taken_out o is =
         let kind = reported_kind F Reports name (fault r) reasons detail o is in
         let x = h.explained kind in
-        (x.0, x.1, refused_by F Reports name (fault r) reasons detail IsAnswer x.0 (reading_of_refusal F x.0 (IsAtEnd (left new.device)) (fault r) x.2 kind.0) o is (reasons_of x.0 kind x.3))
-
-    long_memory : (fault r).kind ≡ TooLong → (fault r).kind ≢ Memory
-    long_memory long = too_long_else (fault r).kind Memory long (λ e. absurd cc)
-
-    long_read : (fault r).kind ≡ TooLong → (fault r).kind ≢ Read
-    long_read long = too_long_else (fault r).kind Read long (λ e. absurd cc)
-
-    known_long : (b : List ℕ) → left old.device ≡ Some b → (fault r).kind ≡ TooLong → FileOutput b None
-    known_long b known long = long_by F Reports name (fault r) reasons detail IsAnswer b (known_fault left F Gives old new (fault r) b plain known (long_memory long) (long_read long)) long
+        (x.0, x.1, refused_by F Reports name (fault r) reasons detail IsAnswer x.0 (reading_of_refusal F x.0 (IsAtEnd (left new.device)) (fault r) x.2 kind.0) o is (reasons_of F Reports name unended fault found Answer r reasons lacks tells reports x.0 kind x.3))
 
     taken_long : (fault r).kind ≡ TooLong → (b : List ℕ) × Consumes (left old.device) (left new.device) b × FileOutput b None
     taken_long long =
-        let x = plain.fault (long_memory long) in
-        (x.0, x.1, long_by F Reports name (fault r) reasons detail IsAnswer x.0 (reading_of_refusal F x.0 (IsAtEnd (left new.device)) (fault r) x.2 (long_read long)) long)
+        let x = plain.fault (too_long_else (fault r).kind Memory long (λ e. absurd cc)) in
+        (x.0, x.1, long_by F Reports name (fault r) reasons detail IsAnswer x.0 (reading_of_refusal F x.0 (IsAtEnd (left new.device)) (fault r) x.2 (too_long_else (fault r).kind Read long (λ e. absurd cc))) long)
 
     abbrev ReportsFault : (List ℕ → Type 0) → Result Status ToolFault → Type 0
     ReportsFault = Ends (λ o. o ≡ refusal_by detail name (fault r) reasons)
 
     known_ends : (Sent : List ℕ → Type 0) (result : Result Status ToolFault) → ReportsFault Sent result → (IsErrOf result tool_fault.TooLong → (fault r).kind ≡ TooLong) → (b : List ℕ) → left old.device ≡ Some b → EndsCounting (FileOutput b) Sent result
-    known_ends h1 h2 h3 long b known = grind (arith, known_out, less, known_long)
+    known_ends Sent result ends long b known =
+        refusal_ends F Reports name unended fault found Answer r reasons lacks tells reports detail IsAnswer b (λ memory read. known_fault left F Gives old new (fault r) b plain known memory read)
+        (λ kind. known_explained left F fault found Answer Gives old new r b reporting h known kind) Sent result ends long
 
     taken_ends : (Sent : List ℕ → Type 0) (result : Result Status ToolFault) → ReportsFault Sent result → (IsErrOf result tool_fault.TooLong → (fault r).kind ≡ TooLong) → IsDecided result
         → (b : List ℕ) × Consumes (left old.device) (left new.device) b × EndsCounting (FileOutput b) Sent result
@@ -191,6 +211,16 @@ module _ {D A W : Type 0} (left : D → Option (List ℕ)) (Gives : List ℕ →
       → Answers contents (EndsFile left (PlanBy detail IsAnswer) old new) out_old out_new result
   plan_refused IsAnswer r result h refused long reads =
       answers_refused left plan_format ArePlanReasons Gives (codes "plan") detail IsAnswer old new contents out_old out_new plan_reporting plan_unended fault_of found_of TellsLineEnd r (plan_refusal_lines r) r.lacks_line_end (λ accepted text why. why) (λ accepted text is why. plan_refusal_shows r accepted text is) h result long.0 reads refused
+
+-- a plan in memory is refused
+pub plan_bytes_refused : {W : Type 0} (contents : W → Option (List ℕ)) (out_old out_new : Device W) (detail : Detail) (IsAnswer : PlanParts → Output → Type 0) (b : List ℕ) (r : PlanRefusal) (result : Result Status ToolFault)
+    → ((r.fault).kind ≢ Memory → ReadsAs plan_format most_bytes b (Err r.fault)) → (ConcernsText (r.fault).kind → ExplainsPlan b r)
+    → Answers contents (Ends (λ o. o ≡ refusal_by detail (codes "plan") r.fault (plan_refusal_lines r))) out_old out_new result → IsErrOf result tool_fault.TooLong ↔ ((r.fault).kind ≡ TooLong)
+    → Answers contents (EndsCounting (PlanBy detail IsAnswer b)) out_old out_new result
+plan_bytes_refused contents out_old out_new detail IsAnswer b r result reads explained refused long =
+    answers_by contents out_old out_new result (Ends (λ o. o ≡ refusal_by detail (codes "plan") r.fault (plan_refusal_lines r))) (EndsCounting (PlanBy detail IsAnswer b))
+    (λ Sent ends. refusal_ends plan_format ArePlanReasons (codes "plan") plan_unended fault_of found_of TellsLineEnd r (plan_refusal_lines r) r.lacks_line_end (λ accepted text why. why)
+    (λ accepted text is why. plan_refusal_shows r accepted text is) detail IsAnswer b (λ memory read. reads memory) explained Sent result ends long.0) refused
 
 -- a task that isn't layered is refused for its first fault
 not_memory_by : (detail : Detail) (p : Parts) (fault : LayerFault) (o : Output) → layers_by detail p fault ≡ Some o → fault ≢ layer_fault.Memory

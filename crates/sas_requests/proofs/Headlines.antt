@@ -1,6 +1,6 @@
 -- A plan is reported as valid exactly if it is.
 use Rattle.std.proofs.lemmas.Grind.{common_steps}
-use Rattle.sas_requests.proofs.Imports.{◌≡◌, ◌≢◌, ℕ, ◌<◌, ◌⊎◌, List, [], ◌∷◌, ◌++◌, length, codes, get_or, arith, refl, sym, ap, subst, ◌∙◌, inl, inr, Option, Some, Result, Ok, Err, option_map, Appends, none-some, append_cancel_left, Parts, PlanParts, LayerFault, IsLayered, Fault, TooLong, most_bytes, Reads, Format, ReadsAs, Laws, plan_texts, plan_format, plan_laws_hold, task_texts, Solves, Headline, word_of, refusal, refusal_line, IsAnswerOrRefusal, UnlayeredAnswer, VerdictOut, PlanOutBy, task_format, task_laws_hold, Status, Yes, No, IsValid, layer_words, layers_line, valid_answer, VerdictAnswer, Output, valid_line, fault_words, invalid_line, one_verdict_answer, worded}
+use Rattle.sas_requests.proofs.Imports.{◌≡◌, ◌≢◌, ℕ, ◌<◌, ◌⊎◌, List, [], ◌++◌, length, codes, get_or, arith, refl, sym, ap, subst, ◌∙◌, inl, inr, Option, Some, Result, Ok, Err, option_map, Appends, none-some, append_cancel_left, Parts, PlanParts, LayerFault, IsLayered, Fault, TooLong, most_bytes, Reads, Format, ReadsAs, Laws, plan_texts, plan_format, plan_laws_hold, task_texts, Solves, Headline, word_of, refusal, refusal_line, IsAnswerOrRefusal, UnlayeredAnswer, VerdictOut, PlanOutBy, task_format, task_laws_hold, Status, Yes, No, IsValid, layer_words, layers_line, valid_answer, VerdictAnswer, Output, valid_line, fault_words, invalid_line, one_verdict_answer, worded}
 use Rattle.std.proofs.lemmas.List.{append-nil}
 use Rattle.sas_requests.proofs.Outputs.{refused_kind}
 use Rattle.sas_requests.proofs.PlanOutputs.{IsRefusal, Refuses, not_refused}

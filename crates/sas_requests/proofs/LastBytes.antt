@@ -1,5 +1,5 @@
 -- The last byte of a line: a number ends in a digit, and a refusal in a letter.
-use Rattle.sas_requests.proofs.Imports.{◌≡◌, ℕ, zero, suc, ◌+◌, ◌<◌, ◌≤◌, Bool, true, false, cond, eqb, List, [], ◌∷◌, ◌++◌, codes, refl, sym, subst, arith, Some, ◌/◌, ◌%◌, nat_lt, digits, digits_onto, digit_glyph, lt-ltb, none-some, LayerFault, Kind, layer_words, words_at_part, word_of}
+use Rattle.sas_requests.proofs.Imports.{◌≡◌, ℕ, zero, suc, ◌<◌, ◌≤◌, Bool, true, false, cond, eqb, List, [], ◌∷◌, ◌++◌, codes, refl, sym, subst, arith, Some, ◌/◌, ◌%◌, nat_lt, digits, digits_onto, digit_glyph, lt-ltb, none-some, LayerFault, Kind, layer_words, words_at_part, word_of}
 use Rattle.std.proofs.lemmas.Grind.{common_steps}
 use Rattle.std.specs.Fmt.{decimal}
 use Rattle.sas_meaning.specs.declared.layered.LayerFault.TheVariants as layer_fault

@@ -1,6 +1,6 @@
 -- Outputs about one file.
 use Rattle.std.proofs.lemmas.Grind.{common_steps}
-use Rattle.sas_requests.proofs.Imports.{◌≡◌, ◌≢◌, ℕ, ◌+◌, ◌<◌, List, ◌∷◌, codes, length, length-append, arith, refl, sym, ◌∙◌, Option, Some, None, Result, Ok, Err, option_map, none-some, Parts, PlanParts, Fault, Kind, TooLong, Read, Memory, most_bytes, Format, FaultOf, KindAt, ReadsAs, Laws, plan_format, PlanKind, word_of, refusal, IsAnswerOrRefusal, FileOut, TaskOut, HasOneOutput, task_format, TaskSlot, NumbersKind, plan_laws_hold, task_laws_hold, Refuses, Output, OneAnswer, SomeAnswer}
+use Rattle.sas_requests.proofs.Imports.{◌≡◌, ◌≢◌, ℕ, ◌+◌, ◌<◌, List, codes, length, length-append, arith, refl, sym, ◌∙◌, Option, Some, None, Result, Ok, Err, option_map, none-some, Parts, PlanParts, Fault, Kind, TooLong, Read, Memory, most_bytes, Format, FaultOf, KindAt, ReadsAs, Laws, plan_format, PlanKind, word_of, refusal, IsAnswerOrRefusal, FileOut, TaskOut, HasOneOutput, task_format, TaskSlot, NumbersKind, plan_laws_hold, task_laws_hold, Refuses, Output, OneAnswer, SomeAnswer}
 
 -- outputs are equal if their texts and statuses are
 pub same_output : (o q : Output) → o.text ≡ q.text → o.status ≡ q.status → o ≡ q

@@ -1,6 +1,5 @@
 -- The verdict on one plan, by what was read of it.
-use Rattle.std.proofs.lemmas.Grind.{common_steps}
-use Rattle.sas_requests.proofs.Imports.{arith, ◌≡◌, ◌≢◌, ◌⊎◌, ℕ, List, codes, refl, ◌∙◌, Option, Some, None, Result, Ok, Err, IfOk, IfErr, IsErrOf, IsAtEnd, Parts, PlanParts, Device, Fault, Kind, ValueOf, ReadsAll, ReadsAs, KindAt, most_bytes, known_answer, known_fault, plan_format, PlanKind, Status, No, ToolFault, Answer, output_of, IsWrite, VerdictAnswer, refusal, refusal_line, word_of, PlanReport, HasCost, HoldsOf, WasRead, IsJudged, VerdictOut, cost_if, judged_of, Judges, worded}
+use Rattle.sas_requests.proofs.Imports.{arith, ◌≡◌, ◌≢◌, ℕ, List, codes, refl, Option, Some, None, Result, Ok, Err, IfOk, IfErr, IsErrOf, IsAtEnd, Parts, PlanParts, Device, Fault, ValueOf, ReadsAll, ReadsAs, most_bytes, known_answer, known_fault, plan_format, Status, No, ToolFault, output_of, IsWrite, VerdictAnswer, refusal, refusal_line, word_of, PlanReport, HasCost, HoldsOf, WasRead, IsJudged, VerdictOut, cost_if, judged_of, Judges, worded}
 use Rattle.sas_requests.proofs.Outputs.{IsFaultOf, refused_kind, too_long_else, reading_of_refusal, file_refused, file_too_long}
 use Rattle.sas_reader.specs.declared.fault.Kind.TheVariants as kinds
 use Rattle.sas_answers.specs.declared.ending.ToolFault.TheVariants as tool_fault
@@ -23,33 +22,6 @@ refused_verdict p c f v is none fault = (
   file_refused plan_format (codes "plan") (VerdictAnswer p) c f (output_of v.answer) is fault,
   no_cost c v.answer.status v.cost (worded (word_of f.kind) (refusal_line (codes "plan") f.line) (output_of v.answer) is).status none,
 )
-
--- a plan in memory never has the fault of a failed read
-
-plan_kind_apart : (line : List ℕ) (k : Kind) → PlanKind line k → k ≢ kinds.Read
-plan_kind_apart line k h e = grind (arith, common_steps)
-
-byte_apart : (bytes : List ℕ) (byte : ℕ) (k : Kind) → KindAt plan_format most_bytes bytes byte k → k ≢ kinds.Read
-byte_apart bytes byte k h e = grind (arith, common_steps, plan_kind_apart)
-
-never_unread : (bytes : List ℕ) (f : Fault) → ReadsAs plan_format most_bytes bytes (Err f) → f.kind ≢ kinds.Read
-never_unread bytes f h1 = grind (arith, byte_apart)
-
--- of bytes in memory
-module _ (b : List ℕ) (p : Parts) (f : Fault) (fault : f.kind ≢ kinds.Memory → ReadsAs plan_format most_bytes b (Err f)) where
-  pub judged_refused : (r : Result Answer ToolFault) → IfOk r (λ reported. refusal (codes "plan") f ≡ Some (output_of reported)) → IfOk r (λ reported. VerdictOut VerdictAnswer p b (Some (output_of reported)))
-  judged_refused (Ok reported) is = file_refused plan_format (codes "plan") (VerdictAnswer p) b f (output_of reported) is (λ memory read. fault memory)
-  judged_refused (Err why) is = tt
-
-  pub judged_long : f.kind ≡ kinds.TooLong → VerdictOut VerdictAnswer p b None
-  judged_long long = file_too_long plan_format (codes "plan") (VerdictAnswer p) b f long (λ memory read. fault memory)
-
-  judged_err_of : (why : ToolFault) → (IsErrOf {T = Answer} (Err why) tool_fault.Read → f.kind ≡ kinds.Read) → (IsWrite why → ⊥) → (why ≡ tool_fault.Memory) ⊎ (why ≡ tool_fault.TooLong)
-  judged_err_of h1 read writes = grind (arith, never_unread)
-
-  -- so there is no answer only if memory is refused, or the plan is too long
-  pub judged_err : (r : Result Answer ToolFault) → (IsErrOf r tool_fault.Read → f.kind ≡ kinds.Read) → IfErr r (λ e. IsWrite e → ⊥) → IfErr r (λ e. (e ≡ tool_fault.Memory) ⊎ (e ≡ tool_fault.TooLong))
-  judged_err h1 read writes = grind (arith, judged_err_of)
 
 -- ---- as it is read from a device
 

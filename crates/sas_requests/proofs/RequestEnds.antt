@@ -1,5 +1,5 @@
 -- How the output of a request goes out.
-use Rattle.sas_requests.proofs.Imports.{arith, ◌≡◌, ℕ, false, true, List, [], codes, inl, inr, refl, sym, subst, ◌∙◌, Option, Some, Result, Ok, Err, IsTrue, IfOk, IsSomeAnd, Appends, Parts, PlanParts, IsLayered, Device, ValueOf, ReadsAll, ReadsAs, most_bytes, known_answer, plan_format, task_format, Status, Yes, ToolFault, Output, EndsCounting, Answers, ends_by, answers_by, layers_verdict, Consumes-nil, Detail, detail_of, CheckBy, MutexBy, VerdictBy, UnlayeredBy, layers_by, TaskBy, PlanBy, OutBy, EndsRequest, TaskFileReasons, RefusalReasons, layered_answer, check_layered, check_refused, groups_refused, IsTraced, TraceVerdict, Request, Headline, Invariants, TaskOut, PlanOutBy, PrintAnswer, AreInputs, reads_task, EndsFile}
+use Rattle.sas_requests.proofs.Imports.{arith, ◌≡◌, ℕ, false, true, List, [], codes, inl, inr, refl, sym, subst, ◌∙◌, Option, Some, Result, Ok, Err, IsTrue, IfOk, IsSomeAnd, Appends, Parts, IsLayered, Device, ValueOf, ReadsAll, ReadsAs, most_bytes, known_answer, plan_format, task_format, Status, Yes, ToolFault, Output, EndsCounting, Answers, ends_by, answers_by, layers_verdict, Consumes-nil, Detail, detail_of, CheckBy, MutexBy, VerdictBy, UnlayeredBy, layers_by, TaskBy, PlanBy, OutBy, EndsRequest, TaskFileReasons, RefusalReasons, layered_answer, check_layered, check_refused, groups_refused, Request, Headline, Invariants, TaskOut, PlanOutBy, PrintAnswer, AreInputs, reads_task, EndsFile}
 use Rattle.sas_requests.proofs.PlanOutputs.{first_alone, second_alone, not_refused}
 use Rattle.sas_requests.specs.declared.Request.TheVariants as request
 use Rattle.sas_requests.proofs.RefusalReasons.{more_reasoned}
@@ -18,10 +18,6 @@ some_as h1 h2 to h3 holds = grind arith
 
 pub mutex_no : (detail : Detail) (p : Parts) (o : Output) → UnlayeredBy detail p o → MutexBy detail p o
 mutex_no h1 p o h2 = grind (arith, groups_refused)
-
--- about a plan, by its trace
-pub trace_answers : (p : Parts) (plan : PlanParts) (o : Option Output) → IsTraced p plan o → IsSomeAnd o (TraceVerdict p plan)
-trace_answers p plan h1 traced = grind arith
 
 -- ---- the output of `plan`
 

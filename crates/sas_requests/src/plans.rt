@@ -70,10 +70,7 @@ fn answer_plan_file<P: Read, W: Write>(
 }
 
 /// Loads the task for many plans, with an evaluator that counts open conditions. If memory is refused, the task is dropped.
-pub fn load(
-    alloc: Global,
-    layered: Layered<FlatTask>,
-) -> Result<LoadedTask<Worklist>, AllocError>
+pub fn load(alloc: Global, layered: Layered<FlatTask>) -> Result<LoadedTask<Worklist>, AllocError>
     ensures { IfOk result (λ h. h ≡ layered) }
 {
     let worklist = Worklist::new(alloc, &layered)?;

@@ -1,31 +1,31 @@
-use Rattle.sas_requests.proofs.Imports.{refl, sym, ◌∙◌, Show, Print, Check, Mutex, Steps, detail_of, task_format, ShowAnswer, PrintAnswer, TaskBy, CheckBy, MutexBy}
+use Rattle.sas_requests.proofs.Imports.{refl, sym, ◌∙◌, Show, Print, Check, Mutex, detail_of, task_format, ShowAnswer, PrintAnswer, TaskBy, CheckBy, MutexBy}
 use Rattle.sas_requests.proofs.RequestEnds.{of_task, of_steps}
 use Rattle.sas_requests.proofs.answers.answer.Goals as goal
 
 pub returns-in-Show : goal.returns-in-Show
 returns-in-Show g c =
     let detail = detail_of c.args.question in
-    rw (sym c.request.ensures ∙ c.in-Show.is) (of_task _ _ _ _ _ detail Show refl (TaskBy detail ShowAnswer) (λ b c o out. out) _ _ _ c.answer_show.result c.requires.plan (rw (c.detail.ensures) at c.answer_show.ensures))
+    rw (sym c.request.ensures ∙ c.in-Show.is) (of_task _ _ _ _ _ detail Show refl (TaskBy detail ShowAnswer) (λ b c o out. out) _ _ _ c.answer_show.result c.requires.plan (rw (c.detail-detail.ensures) at c.answer_show.ensures))
 
 pub returns-in-Print : goal.returns-in-Print
 returns-in-Print g c =
     let detail = detail_of c.args.question in
-    rw (sym c.request.ensures ∙ c.in-Print.is) (of_task _ _ _ _ _ detail Print refl (TaskBy detail (PrintAnswer task_format)) (λ b c o out. out) _ _ _ c.answer_print.result c.requires.plan (rw (c.detail.ensures) at c.answer_print.ensures))
+    rw (sym c.request.ensures ∙ c.in-Print.is) (of_task _ _ _ _ _ detail Print refl (TaskBy detail (PrintAnswer task_format)) (λ b c o out. out) _ _ _ c.answer_print.result c.requires.plan (rw (c.detail-detail.ensures) at c.answer_print.ensures))
 
 pub returns-in-Check : goal.returns-in-Check
 returns-in-Check g c =
     let detail = detail_of c.args.question in
-    rw (sym c.request.ensures ∙ c.in-Check.is) (of_task _ _ _ _ _ detail Check refl (TaskBy detail (CheckBy detail)) (λ b c o out. out) _ _ _ c.answer_check.result c.requires.plan (rw (c.detail.ensures) at c.answer_check.ensures))
+    rw (sym c.request.ensures ∙ c.in-Check.is) (of_task _ _ _ _ _ detail Check refl (TaskBy detail (CheckBy detail)) (λ b c o out. out) _ _ _ c.answer_check.result c.requires.plan (rw (c.detail-detail.ensures) at c.answer_check.ensures))
 
 pub returns-in-Mutex : goal.returns-in-Mutex
 returns-in-Mutex g c =
     let detail = detail_of c.args.question in
-    rw (sym c.request.ensures ∙ c.in-Mutex.is) (of_task _ _ _ _ _ detail Mutex refl (TaskBy detail (MutexBy detail)) (λ b c o out. out) _ _ _ c.answer_mutex.result c.requires.plan (rw (c.detail.ensures) at c.answer_mutex.ensures))
+    rw (sym c.request.ensures ∙ c.in-Mutex.is) (of_task _ _ _ _ _ detail Mutex refl (TaskBy detail (MutexBy detail)) (λ b c o out. out) _ _ _ c.answer_mutex.result c.requires.plan (rw (c.detail-detail.ensures) at c.answer_mutex.ensures))
 
 pub returns-in-Steps : goal.returns-in-Steps
 returns-in-Steps g c =
-    rw (sym c.request.ensures ∙ c.in-Steps.is) (of_steps _ _ _ _ _ (detail_of c.args.question) _ _ _ c.answer_steps.result c.requires.task (rw (c.detail.ensures) at c.answer_steps.ensures))
+    rw (sym c.request.ensures ∙ c.in-Steps.is) (of_steps _ _ _ _ _ (detail_of c.args.question) _ _ _ c.answer_steps.result c.requires.task (rw (c.detail-detail.ensures) at c.answer_steps.ensures))
 
 pub returns-in-Plan : goal.returns-in-Plan
 returns-in-Plan g c =
-    rw (sym c.request.ensures ∙ c.in-Plan.is) (rw c.detail.ensures at c.answer_plan_files.ensures)
+    rw (sym c.request.ensures ∙ c.in-Plan.is) (rw c.detail-detail.ensures at c.answer_plan_files.ensures)

@@ -9,4 +9,4 @@ pub returns-in-Reasons : goal.returns-in-Reasons
 returns-in-Reasons g c =
     let p = c.args.layered.now in
     let why = some_as (WhyGroupsAnswer p) (WhyMutexAnswer p) (λ (o : Output). groups_layered p o c.requires.layered) in
-    rw c.in-Reasons.is (writes_by g.W.Write.contents _ _ c.write_groups-in-Reasons.result _ _ why c.write_groups-in-Reasons.ensures)
+    rw c.in-Reasons.is (writes_by g.W.Write.contents _ _ c.write_groups.result _ _ why c.write_groups.ensures)

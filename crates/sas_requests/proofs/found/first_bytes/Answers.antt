@@ -1,5 +1,5 @@
 use Rattle.sas_requests.proofs.Imports.{arith}
-use Rattle.std.proofs.Common.{ℕ, take, length, ◌∙◌}
+use Rattle.std.proofs.Common.{take, length}
 use Rattle.std.proofs.Math.Nat.{min_comm}
 use Rattle.std.proofs.lemmas.List.{take_min}
 use Rattle.sas_requests.proofs.found.first_bytes.Goals as goal
