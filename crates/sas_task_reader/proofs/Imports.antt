@@ -4,10 +4,10 @@ pub use Rattle.std.proofs.Math.Logic.{∥∥₁_elim, ∥∥₁_map}
 pub use Rattle.std.proofs.Props.{props}
 pub use Rattle.std.proofs.lemmas.Fmt.{decimal_digit}
 pub use Rattle.std.proofs.lemmas.Bool.{eqb-true, and_from, and_parts, eq-eqb, ne_eqb}
-pub use Rattle.std.proofs.lemmas.List.{append-nil, take_at, take_all, length-take, length-map}
+pub use Rattle.std.proofs.lemmas.List.{take_at, take_all, length-take, length-map}
 pub use Rattle.std.proofs.lemmas.List.Elements.{filter-append}
 pub use Rattle.std.proofs.lemmas.Option.{none-some}
-pub use Rattle.std.proofs.lemmas.Result.{on_ok_weaker, IfOk-weaker}
+pub use Rattle.std.proofs.lemmas.Result.{on_ok_weaker}
 pub use Rattle.std.specs.List.{AllByRecursion, flat_map, list_all}
 pub use Rattle.std.specs.Result.{result_err}
 pub use Rattle.sas_core.proofs.ChecksAreRules.{checks_are_the_rules}
@@ -94,14 +94,16 @@ pub use Rattle.sas_task_file.specs.declared.so_far.SoFar.{SoFar}
 pub use Rattle.sas_task_file.specs.declared.task_events.LineValues.{LineValues}
 pub use Rattle.sas_task_file.specs.declared.tracker.Tracker.{Tracker}
 pub use Rattle.sas_task_reader.specs.Marks.{due_slot, mark_of, WrongWordIn, count_of, IsLastLine}
-pub use Rattle.sas_task_reader.specs.Sections.{KeepsGroup, KeepsOperator, KeepsRule, KeepsAhead}
-pub use Rattle.sas_task_reader.specs.TaskJudge.{state_of, row_of, HasEnded, SectionDue, past_section, past_variable, RejectsLine, JudgesLine, MovesAhead, HasRow, NotesLine}
+pub use Rattle.sas_task_reader.specs.Sections.{ContentOf, section_lines, behind_section, SectionAhead, KeepsSection, AddsSection}
+pub use Rattle.sas_task_reader.specs.TaskJudge.{state_of, row_of, HasEnded, SectionDue, past_section, RejectsLine, JudgesLine, MovesAhead, HasRow, NotesLine}
 pub use Rattle.sas_task_reader.specs.TaskMachine.{LedBy, MachineStopped, task_behavior, reader_behavior, counts_behind, HasNoted}
 pub use Rattle.sas_task_reader.specs.TaskOutline.{outline_in, kept_of}
 pub use Rattle.sas_task_reader.specs.TaskReader.{task_view}
 pub use Rattle.sas_task_reader.specs.TaskRefusal.{fault_in, found_in, HasReason}
 pub use Rattle.sas_task_file.specs.TaskStates.{TaskState, table_start, numbers_of, state_after, node_of_due, table_node}
 pub use Rattle.sas_task_reader.specs.contracts.flat_so_far.FlatSoFar.{the_view}
+pub use Rattle.sas_task_reader.specs.declared.keeper.ParsedSection.{ParsedSection}
+pub use Rattle.sas_task_reader.specs.declared.task_judge.sections.Section.{Section}
 pub use Rattle.sas_task_reader.specs.declared.task_judge.TaskJudge.{TaskJudge}
 pub use Rattle.sas_task_reader.specs.declared.task_machine.TaskMachine.{TaskMachine}
 pub use Rattle.sas_task_reader.specs.declared.task_outline.OutlineSoFar.{OutlineSoFar}

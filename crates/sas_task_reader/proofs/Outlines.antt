@@ -1,5 +1,6 @@
 -- What is stored for an outline, after a line and after a variable.
-use Rattle.sas_task_reader.proofs.Imports.{◌≡◌, ◌-◌, ◌^◌, ℕ, List, length, refl, ap, ◌∙◌, arith, min, IsNumber, WellRanged, outline_of, Variable, Event, LineValues, SoFar, after, behind_variable, OutlineSoFar, outline_in, kept_of}
+use Rattle.sas_task_reader.proofs.Imports.{◌≡◌, ◌-◌, ◌^◌, ℕ, List, length, refl, ap, ◌∙◌, arith, min, IsNumber, WellRanged, outline_of, Event, LineValues, SoFar, after, behind_variable, OutlineSoFar, outline_in, kept_of, Option, Some, None, Result, Ok, Err, Kind, ParsedSection, AddsSection, KeepsSection}
+use Rattle.sas_task_reader.specs.declared.task_judge.sections.Section.TheVariants as sections
 use Rattle.sas_task_file.specs.declared.places.Event.TheVariants as event
 
 -- a line that is not of a group, an operator or a rule changes only the rest
@@ -38,8 +39,24 @@ module _ (kept : OutlineSoFar) (new s : SoFar) (is : kept ≡ kept_of s) where
   pub seen_after : (e : Event) (said : LineValues) (line : List ℕ) → IsOfRest e → new ≡ after (kept_of s).rest e said line → record kept { rest = new } ≡ kept_of (after s e said line)
   seen_after e said line of then = rest_changed (after (kept_of s).rest e said line) then ∙ rest_after s e said line of
 
-  pub seen_variable : (v : Variable) → new ≡ behind_variable (kept_of s).rest v → record kept { rest = new } ≡ kept_of (behind_variable s v)
-  seen_variable v then = rest_changed (behind_variable (kept_of s).rest v) then
+-- a variable is stored in the rest
+pub seen_variable : (kept old : OutlineSoFar) (new : SoFar) (ranges bytes : List ℕ) (r : Result (Option ParsedSection) Kind) → kept ≡ old → AddsSection sections.Variable ranges bytes kept.rest new r
+    → KeepsSection (λ lines s seen. seen ≡ kept_of s) sections.Variable ranges bytes old (record kept { rest = new }) r
+seen_variable kept old new ranges bytes (Ok (Some parsed)) view h =
+    let (v, ahead, keeps) = h.took in
+    record {
+      took = (
+        v,
+        ahead,
+        λ lines s is.
+            let seen = view ∙ is in
+            rest_changed kept new s seen (behind_variable (kept_of s).rest v) (keeps lines (kept_of s).rest (ap (λ (k : OutlineSoFar). k.rest) seen)),
+      );
+      none = tt;
+      memory = tt;
+    }
+seen_variable kept old new ranges bytes (Ok None) view h = record { took = tt; none = ap (λ (r : SoFar). record kept { rest = r }) h.none ∙ view; memory = tt }
+seen_variable kept old new ranges bytes (Err k) view h = record { took = tt; none = tt; memory = h.memory }
 
 -- a count below the bound is exact
 counted_number : (n : ℕ) → IsNumber n → min n (2 ^ 32 - 1) ≡ n

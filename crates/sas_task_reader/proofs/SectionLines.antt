@@ -1,5 +1,5 @@
 -- The lines of a variable, a mutex group, an operator or a rule lead through this part of a task.
-use Rattle.sas_task_reader.proofs.Imports.{◌≡◌, ℕ, zero, suc, ◌<◌, ◌-◌, Bool, List, [], ◌∷◌, ◌++◌, length, refl, sym, ap, subst, ◌∙◌, append_assoc, arith, IsTrue, codes, AllByRecursion, flat_map, list_all, and_parts, IsName, Fact, Variable, Operator, Effect, TaskLine, word, name, number, fact, effect, head, single_line, variable_lines, group_lines, operator_lines, rule_lines, TaskLineFits, Due, Place, Tracker, SoFar, TaskState, HasNames, OperatorInRanges, fact_in_ranges, effect_in_ranges, change_in_ranges, behind_variable, behind_group, behind_operator, behind_rule, past_section, past_variable}
+use Rattle.sas_task_reader.proofs.Imports.{◌≡◌, ℕ, zero, suc, ◌<◌, ◌-◌, Bool, List, [], ◌∷◌, ◌++◌, length, refl, sym, ap, subst, ◌∙◌, append_assoc, arith, IsTrue, codes, AllByRecursion, flat_map, list_all, and_parts, IsName, Fact, Variable, Operator, Effect, TaskLine, word, name, number, fact, effect, head, single_line, variable_lines, group_lines, operator_lines, rule_lines, TaskLineFits, Due, Place, Tracker, SoFar, TaskState, HasNames, OperatorInRanges, fact_in_ranges, effect_in_ranges, change_in_ranges, behind_variable, behind_group, behind_operator, behind_rule, past_section, Some, None}
 use Rattle.sas_task_file.specs.declared.places.Place.TheVariants as at
 use Rattle.sas_task_file.specs.declared.marks.Due.TheVariants as due
 use Rattle.sas_task_file.proofs.Stretches.{LeadsOn, Allowed, one_less}
@@ -40,23 +40,22 @@ next_of (suc n) h = omega arith
 -- the lines of a block lead past it, if they do so at its place
 from_place : (t : Tracker) (s behind : SoFar) (place : Place) (ranges : List ℕ) (items : List TaskLine) → t.place ≡ place → 0 < t.left
     → LeadsOn (state_at place (suc (t.left - 1)) t.more t s) items (state_at place (suc (t.left - 1) - 1) 0 (record t { ranges = ranges }) behind)
-    → LeadsOn (record { tracker = t; so_far = s }) items (record { tracker = record (past_section t) { ranges = ranges }; so_far = behind })
+    → LeadsOn (record { tracker = t; so_far = s }) items (record { tracker = record (past_section None t) { ranges = ranges }; so_far = behind })
 from_place t s behind place ranges items here left on =
     let begins : state_at place (suc (t.left - 1)) t.more t s ≡ record { tracker = t; so_far = s } = ap (λ (n : ℕ). state_at place n t.more t s) (sym (next_of t.left left)) ∙ ap (λ (p : Place). state_at p t.left t.more t s) (sym here) in
-    let ends : state_at place (suc (t.left - 1) - 1) 0 (record t { ranges = ranges }) behind ≡ record { tracker = record (past_section t) { ranges = ranges }; so_far = behind } = ap (λ (n : ℕ). state_at place n 0 (record t { ranges = ranges }) behind) (one_less (t.left - 1)) ∙ ap (λ (p : Place). state_at p (t.left - 1) 0 (record t { ranges = ranges }) behind) (sym here) in
-    subst (λ (x : TaskState). LeadsOn x items (record { tracker = record (past_section t) { ranges = ranges }; so_far = behind })) begins (subst (LeadsOn (state_at place (suc (t.left - 1)) t.more t s) items) ends on)
+    let ends : state_at place (suc (t.left - 1) - 1) 0 (record t { ranges = ranges }) behind ≡ record { tracker = record (past_section None t) { ranges = ranges }; so_far = behind } = ap (λ (n : ℕ). state_at place n 0 (record t { ranges = ranges }) behind) (one_less (t.left - 1)) ∙ ap (λ (p : Place). state_at p (t.left - 1) 0 (record t { ranges = ranges }) behind) (sym here) in
+    subst (λ (x : TaskState). LeadsOn x items (record { tracker = record (past_section None t) { ranges = ranges }; so_far = behind })) begins (subst (LeadsOn (state_at place (suc (t.left - 1)) t.more t s) items) ends on)
 
-pub variable_on : (t : Tracker) (s : SoFar) (v : Variable) (range : ℕ) → t.place ≡ at.Variables → 0 < t.left → HasNames v → range ≡ length v.values → AllFit (variable_lines v)
-    → LeadsOn (record { tracker = t; so_far = s }) (variable_lines v) (record { tracker = past_variable range t; so_far = behind_variable s v })
-variable_on t s v range here left good many fits =
+pub variable_on : (t : Tracker) (s : SoFar) (v : Variable) → t.place ≡ at.Variables → 0 < t.left → HasNames v → AllFit (variable_lines v)
+    → LeadsOn (record { tracker = t; so_far = s }) (variable_lines v) (record { tracker = past_section (Some (length v.values)) t; so_far = behind_variable s v })
+variable_on t s v here left good fits =
     let layer = fits.1.1 in
     let names = all_map IsName (λ w. Allowed t.ranges due.Name (name w)) (named t.ranges) v.values good.values in
     let allowed : VariableAllowed t.ranges v = (named t.ranges v.name good.name, (record { slot = refl; fits = layer.0; good = refl }, (positive_allowed t.ranges (length v.values) good.some layer.1.0, names))) in
-    subst (λ (n : ℕ). LeadsOn (record { tracker = t; so_far = s }) (variable_lines v) (record { tracker = past_variable n t; so_far = behind_variable s v })) (sym many)
-    (from_place t s (behind_variable s v) at.Variables (t.ranges ++ length v.values ∷ []) (variable_lines v) here left ((variable_block (t.left - 1) t.more t s).complete v allowed))
+    from_place t s (behind_variable s v) at.Variables (t.ranges ++ length v.values ∷ []) (variable_lines v) here left ((variable_block (t.left - 1) t.more t s).complete v allowed)
 
 pub group_on : (t : Tracker) (s : SoFar) (facts : List Fact) → t.place ≡ at.Groups → 0 < t.left → IsTrue (list_all (fact_in_ranges t.ranges) facts) → AllFit (group_lines facts)
-    → LeadsOn (record { tracker = t; so_far = s }) (group_lines facts) (record { tracker = past_section t; so_far = behind_group s facts })
+    → LeadsOn (record { tracker = t; so_far = s }) (group_lines facts) (record { tracker = past_section None t; so_far = behind_group s facts })
 group_on t s facts here left good fits =
     from_place t s (behind_group s facts) at.Groups t.ranges (group_lines facts) here left ((group_block (t.left - 1) t.more t s).complete facts (facts_tested t.ranges facts (word (codes "end_mutex_group") ∷ []) fits.1 good).0)
 
@@ -72,7 +71,7 @@ operator_lines_are o =
     (append_assoc (facts ++ effects) (number o.cost ∷ []) (last ∷ []) ∙ append_assoc facts effects (number o.cost ∷ last ∷ []))
 
 pub operator_on : (t : Tracker) (s : SoFar) (o : Operator) → t.place ≡ at.Operators → 0 < t.left → OperatorInRanges t.ranges o → AllFit (operator_lines o)
-    → LeadsOn (record { tracker = t; so_far = s }) (operator_lines o) (record { tracker = past_section t; so_far = behind_operator s o })
+    → LeadsOn (record { tracker = t; so_far = s }) (operator_lines o) (record { tracker = past_section None t; so_far = behind_operator s o })
 operator_on t s o here left good fits =
     let all = subst AllFit (operator_lines_are o) fits in
     let facts = facts_tested t.ranges o.prevail _ all.1.1 good.prevail in
@@ -87,7 +86,7 @@ rule_lines_are r =
     (append_assoc (flat_map (single_line fact) r.conditions) (head r.var r.old r.new ∷ []) (word (codes "end_rule") ∷ []))
 
 pub rule_on : (t : Tracker) (s : SoFar) (r : Effect) → t.place ≡ at.Rules → 0 < t.left → IsTrue (effect_in_ranges t.ranges r) → AllFit (rule_lines r)
-    → LeadsOn (record { tracker = t; so_far = s }) (rule_lines r) (record { tracker = past_section t; so_far = behind_rule s r })
+    → LeadsOn (record { tracker = t; so_far = s }) (rule_lines r) (record { tracker = past_section None t; so_far = behind_rule s r })
 rule_on t s r here left good fits =
     let parts = and_parts (list_all (fact_in_ranges t.ranges) r.conditions) (change_in_ranges t.ranges r.var r.old r.new) good in
     let all = subst AllFit (rule_lines_are r) fits in

@@ -1,5 +1,6 @@
 -- The text of lines that are stored at once.
-use Rattle.sas_task_reader.proofs.Imports.{◌≡◌, ℕ, List, [], ◌∷◌, ◌++◌, take, refl, sym, ap, ap₂, subst, ◌∙◌, inl, inr, append_assoc, append-nil, Ok, not, ◌==◌, filter-append, AllByRecursion, IsPlain, plain_parts, lines, text, text_of_both, EndedLines, ended_lines, lines-none, without_returns, returns_gone, Without, Front, TaskLine, spelled, LinesAhead, KeepsAhead, SoFar}
+use Rattle.sas_task_reader.proofs.Imports.{◌≡◌, ℕ, List, [], ◌∷◌, ◌++◌, take, refl, sym, ap, ap₂, subst, ◌∙◌, inl, inr, append_assoc, Ok, Some, not, ◌==◌, filter-append, AllByRecursion, IsPlain, plain_parts, lines, text, text_of_both, EndedLines, ended_lines, without_returns, returns_gone, Without, Front, TaskLine, spelled, LinesAhead, Section, ContentOf, section_lines, SectionAhead, KeepsSection, ParsedSection, SoFar}
+use Rattle.sas_task_reader.specs.declared.task_judge.sections.Section.TheVariants as sections
 
 no_return_in : (line : List ℕ) → IsPlain line → Without 13 line
 no_return_in [] h = tt
@@ -37,27 +38,28 @@ of_both a b = filter-append (λ b. not (b == 13)) a b
 abbrev pub Stores : List (List ℕ) → SoFar → List ℕ → Type 0
 Stores lines s kept = without_returns kept ≡ without_returns (text lines)
 
+lines_stand : (section : Section) (ranges bytes : List ℕ) (a : ContentOf section) (parsed : ParsedSection) → SectionAhead section ranges bytes a parsed → LinesAhead (section_lines section a) bytes parsed.front
+lines_stand sections.Variable ranges bytes v parsed h = h.0.1
+lines_stand sections.Group ranges bytes facts parsed h = h.0.1
+lines_stand sections.Operator ranges bytes o parsed h = h.0.1
+lines_stand sections.Rule ranges bytes r parsed h = h.0.1
+
 -- a section is stored as its text
-pub keeps_text : {A R : Type 0} (front_in : R → Front) (Ahead : A → R → Type 0) (lines_of : A → List TaskLine) (behind : SoFar → A → SoFar) (old new bytes : List ℕ) (r : R) (a : A) → Ahead a r → LinesAhead (lines_of a) bytes (front_in r)
-    → new ≡ old ++ take (front_in r).bytes bytes → KeepsAhead Stores front_in Ahead lines_of behind old new (Ok r)
-keeps_text front_in Ahead lines_of behind old new bytes r a ahead section is =
-    let taken = take (front_in r).bytes bytes in
-    let section_lines = spelled (lines_of a) in
-    let same : without_returns taken ≡ without_returns (text section_lines) = stored_text (lines_of a) bytes (front_in r) section ∙ sym (text_plain section_lines section.plain) in
+pub keeps_text : (section : Section) (ranges bytes old new : List ℕ) (a : ContentOf section) (parsed : ParsedSection) → SectionAhead section ranges bytes a parsed → new ≡ old ++ take parsed.front.bytes bytes
+    → KeepsSection Stores section ranges bytes old new (Ok (Some parsed))
+keeps_text section ranges bytes old new a parsed ahead is =
+    let taken = take parsed.front.bytes bytes in
+    let spelt = spelled (section_lines section a) in
+    let stands = lines_stand section ranges bytes a parsed ahead in
+    let same : without_returns taken ≡ without_returns (text spelt) = stored_text (section_lines section a) bytes parsed.front stands ∙ sym (text_plain spelt stands.plain) in
     record {
-      took = λ some. (
+      took = (
         a,
         ahead,
         λ ls s kept.
             ap without_returns is ∙ of_both old taken ∙ ap₂ (λ (x y : List ℕ). x ++ y) kept same
-            ∙ sym (ap without_returns (text_of_both ls section_lines) ∙ of_both (text ls) (text section_lines)),
+            ∙ sym (ap without_returns (text_of_both ls spelt) ∙ of_both (text ls) (text spelt)),
       );
-      none = λ zero. is ∙ ap (λ (n : ℕ). old ++ take n bytes) zero ∙ append-nil old;
+      none = tt;
       memory = tt;
     }
-
--- lines that are stored at once have at least one byte
-pub some_bytes : (i : TaskLine) (items : List TaskLine) (bytes : List ℕ) (front : Front) → LinesAhead (i ∷ items) bytes front → front.bytes ≡ 0 → ⊥
-some_bytes i items bytes front h zero =
-    let none : [] ≡ spelled (i ∷ items) = sym lines-none ∙ ap (λ (n : ℕ). lines (take n bytes)) (sym zero) ∙ h.stands.stand.lines in
-    absurd cc

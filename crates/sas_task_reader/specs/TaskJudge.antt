@@ -1,5 +1,5 @@
 -- What the judge of the lines of a task file represents: what may still follow the content so far.
-use Rattle.std.specs.Prelude.{◌≡◌, ◌≢◌, ◌⊎◌, ◌<◌, ℕ, ◌-◌, List, [], ◌∷◌, ◌++◌, Result, Ok, Err}
+use Rattle.std.specs.Prelude.{◌≡◌, ◌≢◌, ◌⊎◌, ◌<◌, ℕ, ◌-◌, List, [], ◌∷◌, ◌++◌, Option, Some, None, Result, Ok, Err}
 use Rattle.sas_core.specs.Plain.{IsPlain}
 use Rattle.sas_lines.specs.FirstLines.{EndedLines}
 use Rattle.sas_reader.specs.declared.fault.Kind.{Kind}
@@ -52,12 +52,11 @@ SectionDue j section.Group = (j.tracker.place ≡ at.Groups) × (0 < j.tracker.l
 SectionDue j section.Operator = (j.tracker.place ≡ at.Operators) × (0 < j.tracker.left)
 SectionDue j section.Rule = (j.tracker.place ≡ at.Rules) × (0 < j.tracker.left)
 
--- the tracker past this section, and past the variable, which has this many values
-abbrev pub past_section : Tracker → Tracker
-past_section t = record t { left = t.left - 1; more = 0 }
-
-abbrev pub past_variable : ℕ → Tracker → Tracker
-past_variable range t = record (past_section t) { ranges = t.ranges ++ range ∷ [] }
+-- the tracker past this section; a variable has this many values
+abbrev pub past_section : Option ℕ → Tracker → Tracker
+past_section None t = record t { left = t.left - 1; more = 0 }
+past_section (Some range) t =
+    record t { ranges = t.ranges ++ range ∷ []; left = t.left - 1; more = 0 }
 
 -- ---- one line
 

@@ -1,26 +1,19 @@
 // Stores the content of a task file in a few blocks of memory while it is read.
-ghost use Rattle.std.specs.Prelude.{◌≡◌, ◌<◌, List, [], OnOk, IfOk};
-ghost use Rattle.sas_core.specs.declared.parts.Fact.{Fact};
-ghost use Rattle.sas_core.specs.declared.parts.Variable.{Variable};
-ghost use Rattle.sas_core.specs.declared.parts.Operator.{Operator};
-ghost use Rattle.sas_core.specs.declared.parts.Effect.{Effect};
+ghost use Rattle.std.specs.Prelude.{◌≡◌, ℕ, List, [], OnOk};
 ghost use Rattle.sas_core.specs.WellRanged.{WellRanged};
 ghost use Rattle.sas_task_file.specs.declared.places.Event.TheVariants as event;
 ghost use Rattle.sas_task_file.specs.declared.task_events.LineValues.{LineValues};
-ghost use Rattle.sas_task_file.specs.Sections.{GroupAhead, OperatorAhead, RuleAhead};
 ghost use Rattle.sas_task_file.specs.TaskEvents.{nothing_yet, after};
-ghost use Rattle.sas_task_file.specs.TaskEvents.{behind_variable, behind_group, behind_operator, behind_rule};
-ghost use Rattle.sas_task_reader.specs.Sections.{VariableWithRange};
+ghost use Rattle.sas_task_reader.specs.Sections.{AddsSection};
 ghost use Rattle.sas_task_reader.specs.TaskOutline.{outline_with};
 
-use crate::fronts::NO_VARIABLE;
-use crate::{Keeper, KeptVariable};
+use crate::{Keeper, ParsedSection, Section};
 use sas_core::{Change, Fact, Items};
 use sas_flat::{
     Effects, FlatTask, ListColumns, Lists, OperatorColumns, Operators, Outline, TaskColumns,
     VariableColumns, Variables,
 };
-use sas_reader::{Front, Kind, LineEnd};
+use sas_reader::{Kind, LineEnd};
 use sas_task_file::{Event, LineValues, read_group, read_operator, read_rule, read_variable};
 use std::alloc::{AllocError, Global};
 use std::marker::Model;
@@ -261,74 +254,66 @@ impl FlatSoFar {
         Ok(())
     }
 
-    /// Stores a whole variable at the beginning of the bytes, if `read_variable` finds one. Returns the extent of its lines and the number
-    /// of its values. After an `Err` the content is unspecified.
+    /// Stores a whole variable at the beginning of the bytes, if `read_variable` finds one. After an `Err` the content is
+    /// unspecified.
     #[inline(always)]
-    fn variable_ahead<E: LineEnd>(&mut self, bytes: &[u8]) -> Result<KeptVariable, AllocError>
-        ensures took { IfOk result (λ kept. 0 < kept.front.bytes
-            → (v : Variable) × VariableWithRange bytes.now v kept
-            × (self.new ≡ behind_variable self.old v)) }
-        ensures none { IfOk result (λ kept. kept.front.bytes ≡ 0 → self.new ≡ self.old) }
+    fn variable_ahead<E: LineEnd>(&mut self, bytes: &[u8]) -> Result<Option<ParsedSection>, Kind>
+        ensures { (ranges : List ℕ)
+            → AddsSection Section.Variable ranges bytes.now self.old self.new result }
     {
         match read_variable::<E>(bytes, &mut self.variables.values) {
             Ok(Some(found)) => {
                 if let Err(error) = self.variables.push(found.name, found.layer) {
                     self.variables.cut();
-                    return Err(error);
+                    return Err(error.into());
                 }
                 self.begun.name.clear();
                 self.begun.layer = found.layer;
                 self.begun.values.clear();
-                Ok(KeptVariable {
+                Ok(Some(ParsedSection {
                     front: found.front,
-                    range: found.range,
-                })
+                    range: Some(found.range),
+                }))
             }
             missed => {
                 self.variables.cut();
                 missed?;
-                Ok(NO_VARIABLE)
+                Ok(None)
             }
         }
     }
 
-    /// Stores a whole mutex group at the beginning of the bytes, if `read_group` finds one. Returns the extent of its lines. After an
-    /// `Err` the content is unspecified.
+    /// Stores a whole mutex group at the beginning of the bytes, if `read_group` finds one. After an `Err` the content is
+    /// unspecified.
     fn group_ahead<E: LineEnd>(
         &mut self,
         ranges: &Items<u32>,
         bytes: &[u8],
-    ) -> Result<Front, AllocError>
-        ensures took { IfOk result (λ front. 0 < front.bytes
-            → (facts : List Fact) × GroupAhead ranges.now bytes.now facts front
-            × (self.new ≡ behind_group self.old facts)) }
-        ensures none { IfOk result (λ front. front.bytes ≡ 0 → self.new ≡ self.old) }
+    ) -> Result<Option<ParsedSection>, Kind>
+        ensures { AddsSection Section.Group ranges.now bytes.now self.old self.new result }
     {
         match read_group::<E>(ranges, bytes, &mut self.groups.items) {
             Ok(Some(front)) => {
                 self.groups.close()?;
                 self.begun.facts.clear();
-                Ok(front)
+                Ok(Some(ParsedSection::of(front)))
             }
             missed => {
                 self.groups.cut();
                 missed?;
-                Ok(Front::EMPTY)
+                Ok(None)
             }
         }
     }
 
-    /// Stores a whole operator at the beginning of the bytes, if `read_operator` finds one. Returns the extent of its lines. After an
-    /// `Err` the content is unspecified.
+    /// Stores a whole operator at the beginning of the bytes, if `read_operator` finds one. After an `Err` the content is
+    /// unspecified.
     fn operator_ahead<E: LineEnd>(
         &mut self,
         ranges: &Items<u32>,
         bytes: &[u8],
-    ) -> Result<Front, AllocError>
-        ensures took { IfOk result (λ front. 0 < front.bytes
-            → (o : Operator) × OperatorAhead ranges.now bytes.now o front
-            × (self.new ≡ behind_operator self.old o)) }
-        ensures none { IfOk result (λ front. front.bytes ≡ 0 → self.new ≡ self.old) }
+    ) -> Result<Option<ParsedSection>, Kind>
+        ensures { AddsSection Section.Operator ranges.now bytes.now self.old self.new result }
     {
         match read_operator::<E>(
             ranges,
@@ -340,45 +325,43 @@ impl FlatSoFar {
             Ok(Some(found)) => {
                 if let Err(error) = self.operators.push(found.name, found.cost) {
                     self.operators.cut();
-                    return Err(error);
+                    return Err(error.into());
                 }
                 self.begun.name.clear();
                 self.begun.facts.clear();
                 self.begun.effects.clear();
-                Ok(found.front)
+                Ok(Some(ParsedSection::of(found.front)))
             }
             missed => {
                 self.operators.cut();
                 missed?;
-                Ok(Front::EMPTY)
+                Ok(None)
             }
         }
     }
 
-    /// Stores a whole rule at the beginning of the bytes, if `read_rule` finds one. Returns the extent of its lines. After an `Err` the
-    /// content is unspecified.
+    /// Stores a whole rule at the beginning of the bytes, if `read_rule` finds one. After an `Err` the content is unspecified.
     fn rule_ahead<E: LineEnd>(
         &mut self,
         ranges: &Items<u32>,
         bytes: &[u8],
-    ) -> Result<Front, AllocError>
-        ensures took { IfOk result (λ front. 0 < front.bytes
-            → (r : Effect) × RuleAhead ranges.now bytes.now r front
-            × (self.new ≡ behind_rule self.old r)) }
-        ensures none { IfOk result (λ front. front.bytes ≡ 0 → self.new ≡ self.old) }
+    ) -> Result<Option<ParsedSection>, Kind>
+        ensures { AddsSection Section.Rule ranges.now bytes.now self.old self.new result }
     {
         self.heads.reserve(1)?;
         match read_rule::<E>(ranges, bytes, &mut self.conditions.items) {
             Ok(Some(found)) => {
                 self.conditions.close()?;
-                self.heads.push(found.head)?;
+                if let Err(_) = self.heads.push(found.head) {
+                    return Err(Kind::Memory);
+                }
                 self.begun.facts.clear();
-                Ok(found.front)
+                Ok(Some(ParsedSection::of(found.front)))
             }
             missed => {
                 self.conditions.cut();
                 missed?;
-                Ok(Front::EMPTY)
+                Ok(None)
             }
         }
     }
@@ -420,23 +403,17 @@ impl Keeper for FlatSoFar {
     }
 
     #[inline(always)]
-    fn keep_variable<E: LineEnd>(&mut self, bytes: &[u8]) -> Result<KeptVariable, Kind> {
-        Ok(self.variable_ahead::<E>(bytes)?)
-    }
-
-    fn keep_group<E: LineEnd>(&mut self, ranges: &Items<u32>, bytes: &[u8]) -> Result<Front, Kind> {
-        Ok(self.group_ahead::<E>(ranges, bytes)?)
-    }
-
-    fn keep_operator<E: LineEnd>(
+    fn keep_section<E: LineEnd>(
         &mut self,
+        section: Section,
         ranges: &Items<u32>,
         bytes: &[u8],
-    ) -> Result<Front, Kind> {
-        Ok(self.operator_ahead::<E>(ranges, bytes)?)
-    }
-
-    fn keep_rule<E: LineEnd>(&mut self, ranges: &Items<u32>, bytes: &[u8]) -> Result<Front, Kind> {
-        Ok(self.rule_ahead::<E>(ranges, bytes)?)
+    ) -> Result<Option<ParsedSection>, Kind> {
+        match section {
+            Section::Variable => self.variable_ahead::<E>(bytes),
+            Section::Group => self.group_ahead::<E>(ranges, bytes),
+            Section::Operator => self.operator_ahead::<E>(ranges, bytes),
+            Section::Rule => self.rule_ahead::<E>(ranges, bytes),
+        }
     }
 }

@@ -1,22 +1,32 @@
 // Stores the content of the lines of a task file, as far as it is needed.
-ghost use Rattle.std.specs.Prelude.{◌≡◌, ◌++◌, ◌∷◌, [], List, ℕ, OnOk, IfErr};
+ghost use Rattle.std.specs.Prelude.{◌≡◌, ◌++◌, ◌∷◌, [], List, ℕ, None, OnOk, IfErr};
 
+use crate::task_judge::Section;
 use sas_core::Items;
 use sas_reader::{Front, Kind, LineEnd};
 use sas_task_file::{Event, LineValues, SoFar};
 
-/// A variable that a keeper has stored: the number of its lines and bytes, and the number of its values.
+/// A whole section at the beginning of some bytes: its extent, and the number of its values if it is a variable.
 #[derive(Clone, Copy)]
-pub struct KeptVariable {
+pub struct ParsedSection {
     pub front: Front,
-    pub range: u32,
+    pub range: Option<u32>,
+}
+
+impl ParsedSection {
+    /// Returns a section with this extent that isn't a variable.
+    pub(crate) fn of(front: Front) -> Self
+        ensures { result ≡ record { front = front; range = None } }
+    {
+        ParsedSection { front, range: None }
+    }
 }
 
 /// Stores parts of a task while its lines are read.
 pub trait Keeper: Drop {
     ghost use Rattle.sas_task_file.specs.declared.so_far.SoFar.{SoFar};
     ghost use Rattle.sas_task_file.specs.TaskEvents.{after};
-    ghost use Rattle.sas_task_reader.specs.Sections.{KeepsVariable, KeepsGroup, KeepsOperator, KeepsRule};
+    ghost use Rattle.sas_task_reader.specs.Sections.{KeepsSection};
 
     /// The keeper has stored what it needs of these lines, whose content is `SoFar`.
     ghost keeps: { List (List ℕ) → SoFar → Self → Type 0 };
@@ -28,43 +38,17 @@ pub trait Keeper: Drop {
             → keeps (lines ++ line.now ∷ []) (after s event said.old line.now) self.new) }
         ensures err { IfErr result (λ k. k ≡ Kind.Memory) };
 
-    /// Stores a whole variable at the beginning of the bytes. Returns the extent of its lines and the number of its values. It may also
-    /// store nothing and return `Front::EMPTY`, as the default does; then the variable is read line by line.
-    fn keep_variable<E: LineEnd>(&mut self, bytes: &[u8]) -> Result<KeptVariable, Kind>
-        ensures { KeepsVariable keeps bytes.now self.old self.new result }
-    {
-        Ok(KeptVariable {
-            front: Front::EMPTY,
-            range: 0,
-        })
-    }
-
-    /// Stores a whole mutex group at the beginning of the bytes. Its facts must exist for variables with these ranges. Returns the extent
-    /// of its lines, or `Front::EMPTY` if it stored nothing.
-    fn keep_group<E: LineEnd>(&mut self, ranges: &Items<u32>, bytes: &[u8]) -> Result<Front, Kind>
-        ensures { KeepsGroup keeps ranges.now bytes.now self.old self.new result }
-    {
-        Ok(Front::EMPTY)
-    }
-
-    /// Stores a whole operator at the beginning of the bytes. Its facts must exist for variables with these ranges. Returns the extent of
-    /// its lines, or `Front::EMPTY` if it stored nothing.
-    fn keep_operator<E: LineEnd>(
+    /// Stores a whole section at the beginning of the bytes. Its facts must exist for variables with these ranges. It may also store nothing
+    /// and return `None`, as the default does; then the section is read line by line. Returns `Memory` if out of memory.
+    fn keep_section<E: LineEnd>(
         &mut self,
+        section: Section,
         ranges: &Items<u32>,
         bytes: &[u8],
-    ) -> Result<Front, Kind>
-        ensures { KeepsOperator keeps ranges.now bytes.now self.old self.new result }
+    ) -> Result<Option<ParsedSection>, Kind>
+        ensures { KeepsSection keeps section ranges.now bytes.now self.old self.new result }
     {
-        Ok(Front::EMPTY)
-    }
-
-    /// Stores a whole rule at the beginning of the bytes. Its facts must exist for variables with these ranges. Returns the extent of its
-    /// lines, or `Front::EMPTY` if it stored nothing.
-    fn keep_rule<E: LineEnd>(&mut self, ranges: &Items<u32>, bytes: &[u8]) -> Result<Front, Kind>
-        ensures { KeepsRule keeps ranges.now bytes.now self.old self.new result }
-    {
-        Ok(Front::EMPTY)
+        Ok(None)
     }
 }
 

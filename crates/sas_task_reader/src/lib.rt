@@ -13,7 +13,7 @@ mod task_reader;
 mod task_refusal;
 mod task_text;
 
-pub use keeper::{Keeper, KeptVariable};
+pub use keeper::{Keeper, ParsedSection};
 pub use sas_task_file::Place;
 pub use task::{read_flat_task, read_outline, read_task, read_task_text};
 pub use task_judge::{Section, TaskJudge};

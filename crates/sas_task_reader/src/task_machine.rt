@@ -1,8 +1,8 @@
 // Accepts the lines of a task file: judges each line, and passes its content to a keeper.
-ghost use Rattle.std.specs.Prelude.{◌≡◌, ◌≢◌};
+ghost use Rattle.std.specs.Prelude.{◌≡◌, ◌≢◌, Ok, IfOk, IfErr, IfSome, IfNone};
 
 use crate::keeper::Keeper;
-use crate::task_judge::{Section, TaskJudge};
+use crate::task_judge::TaskJudge;
 use sas_lines::without_return;
 use sas_reader::{Front, Kind, LineEnd, Machine};
 use sas_task_file::WrongWord;
@@ -20,7 +20,6 @@ pub struct TaskMachine<K> {
 impl<K: Keeper> TaskMachine<K> {
     ghost use Rattle.std.specs.Prelude.{[]};
     ghost use Rattle.sas_reader.specs.Machine.{AcceptsAhead};
-    ghost use Rattle.sas_task_reader.specs.TaskJudge.{SectionDue};
     ghost use Rattle.sas_task_reader.specs.TaskMachine.{LedBy, IsFresh, MachineStopped};
 
     /// Returns a machine that has accepted no line, with this keeper.
@@ -60,37 +59,22 @@ impl<K: Keeper> TaskMachine<K> {
         kind
     }
 
-    /// If a whole variable starts here, stores it and moves past it.
-    fn variable_ahead<E: LineEnd>(&mut self, bytes: &[u8]) -> Result<Front, Kind>
-        requires { SectionDue self.old.judge Section.Variable }
-        ensures { AcceptsAhead (LedBy K.keeps) self.old bytes.now self.new result }
-    {
-        let kept = self.kept.keep_variable::<E>(bytes)?;
-        if kept.front.bytes == 0 {
-            return Ok(kept.front);
-        }
-        self.judge.pass_variable(kept.range)?;
-        Ok(kept.front)
-    }
-
-    /// If a whole section starts here and the keeper stores it at once, moves past it. Otherwise returns `Front::EMPTY`.
-    fn section_ahead<E: LineEnd>(&mut self, bytes: &[u8]) -> Result<Front, Kind>
-        ensures { AcceptsAhead (LedBy K.keeps) self.old bytes.now self.new result }
+    /// If a whole section starts here and the keeper stores it at once, moves past it. Otherwise returns `None`.
+    fn section_ahead<E: LineEnd>(&mut self, bytes: &[u8]) -> Result<Option<Front>, Kind>
+        ensures took { IfOk result (λ found. IfSome found (λ front.
+            AcceptsAhead (LedBy K.keeps) self.old bytes.now self.new (Ok front))) }
+        ensures none { IfOk result (λ found. IfNone found (self.new ≡ self.old)) }
+        ensures memory { IfErr result (λ k. k ≡ Kind.Memory) }
     {
         let Some(section) = self.judge.section_due() else {
-            return Ok(Front::EMPTY);
+            return Ok(None);
         };
         let ranges = self.judge.ranges();
-        let front = match section {
-            Section::Variable => return self.variable_ahead::<E>(bytes),
-            Section::Group => self.kept.keep_group::<E>(ranges, bytes)?,
-            Section::Operator => self.kept.keep_operator::<E>(ranges, bytes)?,
-            Section::Rule => self.kept.keep_rule::<E>(ranges, bytes)?,
+        let Some(kept) = self.kept.keep_section::<E>(section, ranges, bytes)? else {
+            return Ok(None);
         };
-        if front.bytes > 0 {
-            self.judge.pass_section();
-        }
-        Ok(front)
+        self.judge.pass_section(kept.range)?;
+        Ok(Some(kept.front))
     }
 
     /// Accepts the first lines of the bytes that the judge accepts ahead, one after another. It is cold, since most lines are those of whole
@@ -132,10 +116,9 @@ impl<K: Keeper> Machine for TaskMachine<K> {
 
     #[inline(always)]
     fn accept_ahead<E: LineEnd>(&mut self, bytes: &[u8]) -> Result<Front, Kind> {
-        let section = self.section_ahead::<E>(bytes)?;
-        if section.bytes > 0 {
-            return Ok(section);
+        match self.section_ahead::<E>(bytes)? {
+            Some(front) => Ok(front),
+            None => self.lines_ahead::<E>(bytes),
         }
-        self.lines_ahead::<E>(bytes)
     }
 }

@@ -9,8 +9,8 @@ ghost use Rattle.sas_task_file.specs.TaskEvents.{behind_group, behind_operator, 
 ghost use Rattle.sas_task_reader.specs.TaskOutline.{outline_in, kept_of};
 
 use crate::flat_so_far::FlatSoFar;
-use crate::fronts::{SectionLists, group_front, operator_front, rule_front};
-use crate::{Keeper, KeptVariable};
+use crate::fronts::{SectionLists, section_front};
+use crate::{Keeper, ParsedSection, Section};
 use sas_core::Items;
 use sas_flat::Outline;
 use sas_reader::{Front, Kind, LineEnd};
@@ -118,35 +118,25 @@ impl Keeper for TaskOutline {
         Ok(())
     }
 
-    fn keep_variable<E: LineEnd>(&mut self, bytes: &[u8]) -> Result<KeptVariable, Kind> {
-        self.seen.rest.keep_variable::<E>(bytes)
-    }
-
-    fn keep_group<E: LineEnd>(&mut self, ranges: &Items<u32>, bytes: &[u8]) -> Result<Front, Kind> {
-        let Some(front) = group_front::<E>(ranges, bytes, &mut self.gathered)? else {
-            return Ok(Front::EMPTY);
-        };
-        self.seen.group();
-        Ok(front)
-    }
-
-    fn keep_operator<E: LineEnd>(
+    #[inline(always)]
+    fn keep_section<E: LineEnd>(
         &mut self,
+        section: Section,
         ranges: &Items<u32>,
         bytes: &[u8],
-    ) -> Result<Front, Kind> {
-        let Some(front) = operator_front::<E>(ranges, bytes, &mut self.gathered)? else {
-            return Ok(Front::EMPTY);
+    ) -> Result<Option<ParsedSection>, Kind> {
+        if let Section::Variable = section {
+            return self.seen.rest.keep_section::<E>(section, ranges, bytes);
+        }
+        let Some(kept) = section_front::<E>(section, ranges, bytes, &mut self.gathered)? else {
+            return Ok(None);
         };
-        self.seen.operator();
-        Ok(front)
-    }
-
-    fn keep_rule<E: LineEnd>(&mut self, ranges: &Items<u32>, bytes: &[u8]) -> Result<Front, Kind> {
-        let Some(front) = rule_front::<E>(ranges, bytes, &mut self.gathered)? else {
-            return Ok(Front::EMPTY);
-        };
-        self.seen.rule();
-        Ok(front)
+        match section {
+            Section::Variable => {}
+            Section::Group => self.seen.group(),
+            Section::Operator => self.seen.operator(),
+            Section::Rule => self.seen.rule(),
+        }
+        Ok(Some(kept))
     }
 }

@@ -1,11 +1,9 @@
 // Stores only the text of a task file.
-ghost use Rattle.std.specs.Prelude.{◌≡◌, ◌++◌, ◌≤◌, [], length, take, OnOk, IfErr};
+ghost use Rattle.std.specs.Prelude.{◌≡◌, []};
 ghost use Rattle.sas_lines.specs.Lines.{without_returns};
 
-use crate::fronts::{
-    NO_VARIABLE, SectionLists, group_front, operator_front, rule_front, variable_front,
-};
-use crate::{Keeper, KeptVariable};
+use crate::fronts::{SectionLists, section_front};
+use crate::{Keeper, ParsedSection, Section};
 use sas_core::Items;
 use sas_lines::{drop_returns, push_line};
 use sas_reader::{Front, Kind, LineEnd};
@@ -48,16 +46,6 @@ impl TaskText {
         drop_returns(&mut text);
         text
     }
-
-    /// Appends the first `count` bytes, which are whole lines.
-    fn take(&mut self, bytes: &[u8], count: usize) -> Result<(), Kind>
-        requires { count ≤ length bytes.now }
-        ensures ok { OnOk result (self.new ≡ self.old ++ take count bytes.now) }
-        ensures err { IfErr result (λ k. k ≡ Kind.Memory) }
-    {
-        self.text.extend_from_slice(&bytes[..count])?;
-        Ok(())
-    }
 }
 
 impl Keeper for TaskText {
@@ -72,39 +60,16 @@ impl Keeper for TaskText {
     }
 
     #[inline(always)]
-    fn keep_variable<E: LineEnd>(&mut self, bytes: &[u8]) -> Result<KeptVariable, Kind> {
-        let Some(kept) = variable_front::<E>(bytes, &mut self.gathered)? else {
-            return Ok(NO_VARIABLE);
-        };
-        self.take(bytes, kept.front.bytes)?;
-        Ok(kept)
-    }
-
-    fn keep_group<E: LineEnd>(&mut self, ranges: &Items<u32>, bytes: &[u8]) -> Result<Front, Kind> {
-        let Some(front) = group_front::<E>(ranges, bytes, &mut self.gathered)? else {
-            return Ok(Front::EMPTY);
-        };
-        self.take(bytes, front.bytes)?;
-        Ok(front)
-    }
-
-    fn keep_operator<E: LineEnd>(
+    fn keep_section<E: LineEnd>(
         &mut self,
+        section: Section,
         ranges: &Items<u32>,
         bytes: &[u8],
-    ) -> Result<Front, Kind> {
-        let Some(front) = operator_front::<E>(ranges, bytes, &mut self.gathered)? else {
-            return Ok(Front::EMPTY);
+    ) -> Result<Option<ParsedSection>, Kind> {
+        let Some(kept) = section_front::<E>(section, ranges, bytes, &mut self.gathered)? else {
+            return Ok(None);
         };
-        self.take(bytes, front.bytes)?;
-        Ok(front)
-    }
-
-    fn keep_rule<E: LineEnd>(&mut self, ranges: &Items<u32>, bytes: &[u8]) -> Result<Front, Kind> {
-        let Some(front) = rule_front::<E>(ranges, bytes, &mut self.gathered)? else {
-            return Ok(Front::EMPTY);
-        };
-        self.take(bytes, front.bytes)?;
-        Ok(front)
+        self.text.extend_from_slice(&bytes[..kept.front.bytes])?;
+        Ok(Some(kept))
     }
 }

@@ -1,6 +1,6 @@
 // Whole sections: a variable, a mutex group, an operator or a rule. A keeper that stores a section at once also judges its lines.
 ghost use Rattle.std.specs.Prelude.{◌≡◌, ◌<◌, IfSome, IfNone, OnOk, OnErr};
-ghost use Rattle.sas_task_reader.specs.TaskJudge.{SectionDue, past_section, past_variable};
+ghost use Rattle.sas_task_reader.specs.TaskJudge.{SectionDue, past_section};
 
 use super::TaskJudge;
 use sas_core::Items;
@@ -8,6 +8,7 @@ use sas_task_file::Place;
 use std::alloc::AllocError;
 
 /// A section that a keeper may store at once.
+#[derive(Clone, Copy)]
 pub enum Section {
     Variable,
     Group,
@@ -37,24 +38,19 @@ impl TaskJudge {
         &self.tracker.ranges
     }
 
-    /// Moves past the expected variable, which has `range` values. Returns `Err` and changes nothing if out of memory.
-    pub fn pass_variable(&mut self, range: u32) -> Result<(), AllocError>
+    /// Moves past the expected section. `range` is the number of values of a variable, and `None` for other sections. Returns `Err` and
+    /// changes nothing if out of memory.
+    pub fn pass_section(&mut self, range: Option<u32>) -> Result<(), AllocError>
         requires { 0 < self.old.tracker.left }
         ensures ok { OnOk result (self.new
-            ≡ record self.old { tracker = past_variable range self.old.tracker }) }
+            ≡ record self.old { tracker = past_section range self.old.tracker }) }
         ensures err { OnErr result (self.new ≡ self.old) }
     {
-        self.tracker.ranges.push(range)?;
-        self.pass_section();
-        Ok(())
-    }
-
-    /// Moves past the expected section.
-    pub fn pass_section(&mut self)
-        requires { 0 < self.old.tracker.left }
-        ensures { self.new ≡ record self.old { tracker = past_section self.old.tracker } }
-    {
+        if let Some(range) = range {
+            self.tracker.ranges.push(range)?;
+        }
         self.tracker.left -= 1;
         self.tracker.more = 0;
+        Ok(())
     }
 }
