@@ -15,7 +15,6 @@ mod progress;
 mod runner;
 mod stepper;
 mod steps;
-mod value_groups;
 
 pub use choosers::{Chooser, NamedPlan, NumberedPlan};
 pub use execution::Execution;
