@@ -1,76 +1,70 @@
 -- The operators of a chain, from its first one on.
-use Rattle.sas_run.proofs.Imports.{◌≡◌, ℕ, ◌+◌, ◌<◌, ◌≤◌, List, [], ◌∷◌, ◌++◌, length, get_or, Option, None, Some, refl, ◌∙◌, inl, inr, arith, cases_lt, get_or_append_left, get_or_push, length-append, Parts, operator_at, IsNamed, IsNextNamed, AreAll}
+use Rattle.sas_run.proofs.Imports.{◌≡◌, ◌≢◌, ◌⊎◌, ℕ, ◌+◌, ◌<◌, List, [], ◌∷◌, ◌++◌, length, get_or, Option, None, Some, IfSome, inl, inr, refl, sym, subst, arith, none-some, cases_eq, same_Some, unwrap_or, Vec, All-nil, All-push, All-weaker, Contains-push, Contains-append_left, Parts, nat_cmp, operator_at, IsNamed, IsNextNamed, LongChain, Requires, operators_with, IsPushed, IsIn, ArePart, IsLongChain}
+use Rattle.std.proofs.lemmas.Bool.{cases_order}
+use Rattle.std.proofs.lemmas.List.Quantifiers.{all_pairs_push}
+use Rattle.std.specs.BTreeMap.{is_at}
+use Rattle.std.specs.Option.{option_cmp}
+use Rattle.std.specs.Prelude.{Contains, false}
+use Rattle.sas_run.specs.LongChains.{items_of}
 
--- the operators of this name below the number `bound`
-pub record AreAllBelow (p : Parts) (first : ℕ) (bound : ℕ) (operators : List ℕ) : Type 0 where
-  pub from_on : (item : ℕ) → item < length operators → first ≤ get_or operators item 0
-  pub named : (item : ℕ) → item < length operators → IsNamed p (operator_at p first).name (get_or operators item 0)
-  pub below : (item : ℕ) → item < length operators → get_or operators item 0 < bound
-  pub ascend : (item later : ℕ) → item < later → later < length operators → get_or operators item 0 < get_or operators later 0
-  pub all : (operator : ℕ) → first ≤ operator → operator < bound → IsNamed p (operator_at p first).name operator
-      → (item : ℕ) × (item < length operators) × (get_or operators item 0 ≡ operator)
+-- whether two optional values are the same
+same_or_not : (v w : Option ℕ) → (v ≡ w) ⊎ (v ≢ w)
+same_or_not h1 h2 = grind (arith, none-some, cases_eq, same_Some)
 
--- they are collected, and the next one is known
-pub record Collects (p : Parts) (first : ℕ) (operators : List ℕ) (next : Option ℕ) : Type 0 where
-  pub bound : ℕ
-  pub from_on : first ≤ bound
-  pub are : AreAllBelow p first bound operators
-  pub is_next : IsNextNamed p (operator_at p first).name bound next
+-- the map tells different values apart
+pub apart_from : (value other : Option ℕ) → other ≢ value → is_at (option_cmp nat_cmp value) other ≡ false
+apart_from value other apart = grind arith
 
-pub collects_none : (p : Parts) (first : ℕ) → first < length p.operators → Collects p first [] (Some first)
-collects_none p first exists = grind arith
+-- a list that isn't there is empty
+pub items_or_none : (o : Option (Vec ℕ)) (none : Vec ℕ) → none.items ≡ [] → (unwrap_or o none).items ≡ items_of o
+items_or_none None none empty = empty
+items_or_none (Some operators) none empty = refl
 
-module _ (p : Parts) (first : ℕ) (operators : List ℕ) (operator : ℕ) (collects : Collects p first operators (Some operator)) where
-  abbrev more : List ℕ
-  more = operators ++ operator ∷ []
+module _ (p : Parts) (first operator : ℕ) (next : Option ℕ) (in_chain : IsIn p first None operator) (is_next : IsNextNamed p (operator_at p first).name (operator + 1) next) where
+  pub next_in_chain : IfSome next (IsIn p first None)
+  next_in_chain = grind arith
 
-  many : length more ≡ length operators + 1
-  many = length-append operators (operator ∷ [])
+  stays : (o : ℕ) → IsIn p first (Some operator) o → IsIn p first next o
+  stays o h = grind arith
 
-  -- an item of the longer list
-  each : (P : ℕ → Type 0) → ((item : ℕ) → item < length operators → P (get_or operators item 0)) → P operator → (item : ℕ) → item < length more → P (get_or more item 0)
-  each h1 before here item lt = grind (arith, cases_lt, length, get_or_append_left, get_or_push, many)
+  itself : IsIn p first next operator
+  itself = grind arith
 
-  pub collects_more : (next : Option ℕ) → IsNextNamed p (operator_at p first).name (operator + 1) next → Collects p first more next
-  collects_more next is_next =
-      let low = collects.is_next in
-      let are = collects.are in
-      record {
-        bound = operator + 1;
-        from_on = let a = low.from_on in let b = collects.from_on in omega arith;
-        are = record {
-          from_on = each (λ o. first ≤ o) are.from_on (let a = low.from_on in let b = collects.from_on in omega arith);
-          named = each (IsNamed p (operator_at p first).name) are.named low.of_name;
-          below = each (λ o. o < operator + 1) (λ item lt. let a = are.below item lt in let b = low.from_on in omega arith) (omega arith);
-          ascend = λ item later lt within. elim (cases_lt later (length operators)) [
-            | inl early ↦
-                let here = get_or_append_left operators (operator ∷ []) 0 item (omega arith) in
-                let there = get_or_append_left operators (operator ∷ []) 0 later early in
-                let up = are.ascend item later lt early in
-                omega (arith, here, there)
-            | inr late ↦
-                let inside : item < length operators = omega (arith, many) in
-                let here = get_or_append_left operators (operator ∷ []) 0 item inside in
-                let there = get_or_push operators operator 0 later (omega (arith, many)) in
-                let up = are.below item inside in
-                let above = low.from_on in
-                omega (arith, here, there)
-          ];
-          all = λ o from_on below named. elim (cases_lt o collects.bound) [
-            | inl early ↦
-                let (item, lt, is) = are.all o from_on early named in
-                (item, omega (arith, many), get_or_append_left operators (operator ∷ []) 0 item lt ∙ is)
-            | inr late ↦ elim (cases_lt o operator) [
-              | inl before ↦ absurd (low.first o late before named)
-              | inr behind ↦
-                  let same : operator ≡ o = omega arith in
-                  (length operators, omega (arith, many), get_or_push operators operator 0 (length operators) refl ∙ same)
-            ]
-          ];
-        };
-        is_next = is_next;
-      }
+  -- it is the operator, or was in the chain before
+  was : (o : ℕ) → IsIn p first next o → (o ≡ operator) ⊎ IsIn p first (Some operator) o
+  was o h = grind (arith, cases_order)
 
--- all are collected
-pub all_collected : (p : Parts) (first : ℕ) (operators : List ℕ) → Collects p first operators None → AreAll p first operators
-all_collected p first operators collects = grind (arith, cases_lt)
+  kept : (operators : List ℕ) → ArePart p first (Some operator) operators → ArePart p first next operators
+  kept operators are = record { in_chain = All-weaker (IsIn p first (Some operator)) (IsIn p first next) stays operators are.in_chain; ascend = are.ascend }
+
+  pushed : (operators : List ℕ) → ArePart p first (Some operator) operators → ArePart p first next (operators ++ operator ∷ [])
+  pushed operators are = record {
+    in_chain = All-push (IsIn p first next) operators operator (kept operators are).in_chain itself;
+    ascend = all_pairs_push (λ low high. low < high) operators operator are.ascend (λ k d lt. (are.in_chain k d lt).2);
+  }
+
+  pub one_more : (chain new : LongChain) (value : Option ℕ) → IsLongChain p first chain (Some operator) → IsPushed chain value operator new → Requires (operator_at p operator) chain.var value
+      → IsLongChain p first new next
+  one_more chain new value are is requires = record {
+    var = subst (λ v. v < length p.variables) (sym is.var) are.var;
+    parts = λ other. elim (same_or_not other value) [
+      | inl same ↦ subst (λ v. ArePart p first next (operators_with new v)) (sym same) (subst (ArePart p first next) (sym is.here) (pushed (operators_with chain value) (are.parts value)))
+      | inr apart ↦ subst (ArePart p first next) (sym (is.others other apart)) (kept (operators_with chain other) (are.parts other))
+    ];
+    all = λ o h. elim (was o h) [
+      | inl same ↦ (
+        value,
+        subst (λ k. Contains (operators_with new value) k) (sym same) (subst (λ l. Contains l operator) (sym is.here) (Contains-push (operators_with chain value) operator)),
+        subst (λ v. Requires (operator_at p o) v value) (sym is.var) (subst (λ k. Requires (operator_at p k) chain.var value) (sym same) requires),
+      )
+      | inr before ↦
+          let (its, there, requires) = are.all o before in (
+            its,
+            elim (same_or_not its value) [
+              | inl same ↦ subst (λ v. Contains (operators_with new v) o) (sym same) (subst (λ l. Contains l o) (sym is.here) (Contains-append_left (operators_with chain value) (operator ∷ []) o (subst (λ v. Contains (operators_with chain v) o) same there)))
+              | inr apart ↦ subst (λ l. Contains l o) (sym (is.others its apart)) there
+            ],
+            subst (λ v. Requires (operator_at p o) v its) (sym is.var) requires,
+          )
+    ];
+  }

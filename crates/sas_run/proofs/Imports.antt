@@ -53,8 +53,7 @@ pub use Rattle.sas_run.specs.Choosers.{IsNumberChoice, Makes, MakesStepBy, EndsS
 pub use Rattle.sas_run.specs.PlainSteps.{DeletedHasRoom, NotesOn, AreMade, IsPlainStep, OldHolds}
 pub use Rattle.sas_run.specs.Given.{given_to, Replaces, value_after, NothingGiven, IsGiven, IsGivenTo, GivesValue, GivesOther}
 pub use Rattle.sas_run.specs.Laws.{AreChosen, ValidByNumbers, SomeVerdictByNumbers, NumbersHaveNoFault, FaultByNumbersIsOne, LeadsToReachable, LastIsReachable, SomeVerdict, ValidHasNoFault, ValidIsOne, FaultIsOne, SomeRun, OneRun}
-pub use Rattle.sas_run.specs.ValueGroups.{first_with, IsFirstFrom, AreValueGroups}
-pub use Rattle.sas_run.specs.LongChains.{RequiresValue, HaveValues, IsLongChain, AreAll, NoneAmong, IsFirstAmong, AreLongChains}
+pub use Rattle.sas_run.specs.LongChains.{Requires, operators_with, IsPushed, IsIn, ArePart, IsLongChain, AreLongChains, AreEither, BeginsLower}
 pub use Rattle.sas_names.specs.Named.{IsNamed}
 pub use Rattle.sas_names.specs.Names.{IsNextNamed, IsLowestNamed, existing}
 pub use Rattle.sas_run.specs.NumberFaults.{IsStuck, IsFaultByNumbers, IsNumberFaultOrMemory}
@@ -66,7 +65,6 @@ pub use Rattle.sas_run.specs.Observing.{IsTold, CanSee, AreMadeAndSeen}
 pub use Rattle.sas_run.specs.Stepping.{IsAt}
 pub use Rattle.sas_run.specs.Verdicts.{IsFirstMissed, ComesTo, IsFaultOf}
 pub use Rattle.sas_run.specs.declared.deletions.DeletedFacts.{DeletedFacts}
-pub use Rattle.sas_run.specs.declared.value_groups.ValueGroups.{ValueGroups}
 pub use Rattle.sas_run.specs.declared.long_chains.LongChain.{LongChain}
 pub use Rattle.sas_run.specs.declared.long_chains.LongChains.{LongChains}
 pub use Rattle.sas_run.specs.declared.plan_check.PlanFault.{PlanFault}

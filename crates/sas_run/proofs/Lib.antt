@@ -1,6 +1,6 @@
 pub mod Searching
-mod Grouping
 mod Collecting
+pub mod LongSearch
 pub mod Determined
 mod OtherSenses
 pub mod Choosing
@@ -12,7 +12,6 @@ pub mod Giving
 pub mod Deleted
 pub mod PlainSteps
 pub mod NamedAlike
-pub mod LongSearch
 pub mod Going
 pub mod PlanStates
 pub mod GoingByNumbers

@@ -1,62 +1,74 @@
--- The search in a long chain.
-use Rattle.sas_run.proofs.Imports.{◌≡◌, ℕ, ◌+◌, ◌<◌, ◌≤◌, List, length, get_or, slice_index, Option, None, Some, refl, sym, ap, subst, ◌∙◌, inl, inr, arith, cases_lt, eq-or-lt_of_le, All-contains, Parts, operator_at, Holds, preconditions, IsNamed, IsApplicable, IsFirstChosen, IsFirstFrom, ValueGroups, AreValueGroups, first_with, HaveValues, AreAll, NoneAmong, IsFirstAmong}
-use Rattle.std.proofs.Math.Nat.{min-le_left, min-le_right, min-eq_left, min_comm}
-use Rattle.std.proofs.Common.{min}
+-- The search in a long chain, in two lists, of which the first begins with the lower operator.
+use Rattle.sas_run.proofs.Imports.{◌≡◌, ℕ, ◌+◌, ◌<◌, ◌≤◌, ◌⊎◌, List, [], ◌∷◌, length, zero, suc, get_or, slice_index, Option, None, Some, refl, sym, ap, ◌∙◌, subst, inl, inr, arith, cases_lt, eq-or-lt_of_le, All-tail, All-head, All-contains, Contains-get_or, Fact, Parts, operator_at, Holds, preconditions, IsApplicable, IsFirstChosen, LongChain, Requires, operators_with, IsIn, ArePart, IsLongChain, AreEither, BeginsLower}
+use Rattle.std.proofs.lemmas.Grind.{get_or_default_zero}
+use Rattle.std.proofs.lemmas.List.Elements.{Contains-append_cases}
+use Rattle.std.proofs.lemmas.List.Quantifiers.{all_pairs_remove}
+use Rattle.std.specs.Prelude.{Contains}
 
-module _ (p : Parts) (s operators : List ℕ) (values : List (Option ℕ)) where
-  -- no operator before this item that requires this value is applicable
-  pub record SearchedAt (value : Option ℕ) (item : ℕ) : Type 0 where
-    pub within : item ≤ length values
-    pub has : item < length values → get_or values item None ≡ value
-    pub none : (before : ℕ) → before < item → get_or values before None ≡ value → IsApplicable s (operator_at p (get_or operators before 0)) → ⊥
+-- operators that are in neither list aren't applicable
+pub record Left (p : Parts) (s : List ℕ) (first : ℕ) (low high : List ℕ) : Type 0 where
+  pub low_part : ArePart p first None low
+  pub high_part : ArePart p first None high
+  pub all : (operator : ℕ) → IsIn p first None operator → IsApplicable s (operator_at p operator) → Contains low operator ⊎ Contains high operator
 
-  pub starts_at : (groups : ValueGroups) → AreValueGroups values groups → (value : Option ℕ) (item : ℕ) → item ≡ first_with groups value
-      → SearchedAt value item
-  starts_at groups are value item is =
-      let low = are.first value in
-      rw is record { within = low.within; has = low.has; none = λ before lt same can. low.first before (omega arith) lt same }
+module _ (p : Parts) (s : List ℕ) (first : ℕ) where
+  -- in any order
+  reordered : (a b low high : List ℕ) → AreEither a b low high → Left p s first a b → Left p s first low high
+  reordered a b low high either left = grind arith
 
-  pub goes_to : (groups : ValueGroups) → AreValueGroups values groups → (value : Option ℕ) (item next : ℕ) → SearchedAt value item
-      → item < length values → (IsApplicable s (operator_at p (get_or operators item 0)) → ⊥) → next ≡ slice_index groups.next.items item → SearchedAt value next
-  goes_to groups are value item next searched lt not is =
-      let low : IsFirstFrom values (item + 1) (get_or values item None) next = rw is (are.next item lt) in
-      grind (arith, cases_lt, eq-or-lt_of_le, operator_at, get_or)
+  -- at first, they are those that require the state's value, and those that require none
+  pub starts : (chain : LongChain) (value : ℕ) (same free low high : List ℕ) → IsLongChain p first chain None → value ≡ slice_index s chain.var
+      → same ≡ operators_with chain (Some value) → free ≡ operators_with chain None → AreEither same free low high → Left p s first low high
+  starts chain value same free low high is of_state is_same is_free either = reordered same free low high either (rw (is_same, is_free) (record {
+    low_part = is.parts (Some value);
+    high_part = is.parts None;
+    all = λ operator in_chain can. let (value, there, requires) = is.all operator in_chain in in_either operator can value there requires;
+  }))
+    where
+      in_either : (operator : ℕ) → IsApplicable s (operator_at p operator) → (its : Option ℕ) → Contains (operators_with chain its) operator → Requires (operator_at p operator) chain.var its
+          → Contains (operators_with chain (Some value)) operator ⊎ Contains (operators_with chain None) operator
+      in_either operator can None there requires = inr there
+      in_either operator can (Some its) there requires =
+          let holds : slice_index s chain.var ≡ its = All-contains (Holds (slice_index s)) (preconditions (operator_at p operator)) (record { var = chain.var; value = its }) can requires in
+          inl (subst (λ v. Contains (operators_with chain (Some v)) operator) (sym (of_state ∙ holds)) there)
 
-  module _ (var : ℕ) (have : HaveValues p operators var values) where
-    -- an operator that requires another value isn't applicable
-    required : (before value : ℕ) → before < length operators → get_or values before None ≡ Some value → IsApplicable s (operator_at p (get_or operators before 0)) → slice_index s var ≡ value
-    required before value lt is can = All-contains (Holds (slice_index s)) (preconditions (operator_at p (get_or operators before 0))) (record { var = var; value = value }) can (have.each before value lt is)
+  module _ (next : ℕ) (low rest high : List ℕ) (is : low ≡ next ∷ rest) (begins : Left p s first low high) where
+    left : Left p s first (next ∷ rest) high
+    left = subst (λ l. Left p s first l high) is begins
 
-    pub none_among : (same free item : ℕ) → SearchedAt (Some (slice_index s var)) same → SearchedAt None free → item ≤ same → item ≤ free → item ≤ length operators → NoneAmong p s operators item
-    none_among same free item with_value without below_same below_free within before lt can = by (get_or values before None) refl
-      where
-        by : (value : Option ℕ) → get_or values before None ≡ value → ⊥
-        by None is = without.none before (omega arith) is can
-        by (Some value) is = with_value.none before (omega arith) (is ∙ ap Some (sym (required before value (omega arith) is can))) can
-
--- the lower one of two items
-pub below_both : (a b m : ℕ) → m ≡ min a b → (m ≤ a) × (m ≤ b)
-below_both a b m is = (subst (λ k. k ≤ a) (sym is) (min-le_left a b), subst (λ k. k ≤ b) (sym is) (min-le_right a b))
-
-pub is_other : (a b m : ℕ) → m ≡ min a b → (m ≡ a → ⊥) → m ≡ b
-is_other a b m is apart = grind (arith, cases_lt, min-eq_left, min_comm)
-
--- the first applicable one among all operators of the name is the first chosen
-pub chosen_among : (p : Parts) (s : List ℕ) (first : ℕ) (operators : List ℕ) (result : Option ℕ) → AreAll p first operators → IsFirstAmong p s operators result → IsFirstChosen p s first result
-chosen_among p s first operators None all none = λ operator from_on named can.
-    let (item, lt, is) = all.all operator from_on named in
-    none item lt (subst (λ o. IsApplicable s (operator_at p o)) (sym is) can)
-chosen_among p s first operators (Some operator) all (item, lt, is, can, none) = (
-  subst (λ o. first ≤ o) is (all.from_on item lt),
-  subst (IsNamed p (operator_at p first).name) is (all.named item lt),
-  can,
-  λ lower from_on below named can'.
-      let (place, inside, same) = all.all lower from_on named in
-      elim (cases_lt place item) [
-        | inl before ↦ none place before (subst (λ o. IsApplicable s (operator_at p o)) (sym same) can')
-        | inr behind ↦ elim (eq-or-lt_of_le behind) [
-          | inl at ↦ omega (arith, is, same, ap (λ k. get_or operators k 0) at)
-          | inr above ↦ let up = all.ascend item place above inside in omega (arith, is, same)
+    -- the first one isn't applicable
+    pub goes_on : (new_low new_high : List ℕ) → (IsApplicable s (operator_at p next) → ⊥) → AreEither rest high new_low new_high → Left p s first new_low new_high
+    goes_on new_low new_high not either = reordered rest high new_low new_high either (record {
+      low_part = record { in_chain = All-tail (IsIn p first None) next rest left.low_part.in_chain; ascend = all_pairs_remove (λ a b. a < b) (next ∷ rest) 0 (omega arith) left.low_part.ascend };
+      high_part = left.high_part;
+      all = λ operator in_chain can. elim (left.all operator in_chain can) [
+        | inl in_low ↦ elim (Contains-append_cases (next ∷ []) rest operator in_low) [
+          | inl (k, lt, here) ↦ absurd (not (subst (λ o. IsApplicable s (operator_at p o)) (grind (arith)) can))
+          | inr behind ↦ inl behind
         ]
+        | inr in_high ↦ inr in_high
+      ];
+    })
+
+    below_low : (o : ℕ) → Contains (next ∷ rest) o → next ≤ o
+    below_low o (zero, lt, here) = omega (arith, here)
+    below_low o (suc k, lt, here) = let up = left.low_part.ascend 0 (suc k) o (omega arith) lt in omega (arith, here)
+
+    below_high : (o : ℕ) → BeginsLower (next ∷ rest) high → Contains high o → next ≤ o
+    below_high o lower (zero, lt, here) = let low = lower (omega arith) in omega (arith, here, get_or_default_zero high 0 o (omega arith))
+    below_high o lower (suc k, lt, here) = let up = left.high_part.ascend 0 (suc k) o (omega arith) lt in let low = lower (omega arith) in omega (arith, here, get_or_default_zero high 0 o (omega arith))
+
+    -- the first one is applicable
+    pub chosen : BeginsLower low high → IsApplicable s (operator_at p next) → IsFirstChosen p s first (Some next)
+    chosen lower can = (
+      (left.low_part.in_chain 0 0 (omega arith)).0,
+      (left.low_part.in_chain 0 0 (omega arith)).1,
+      can,
+      λ o from_on below named can'. elim (left.all o (from_on, named, tt) can') [
+        | inl low ↦ let up = below_low o low in omega arith
+        | inr in_high ↦ let up = below_high o (subst (λ l. BeginsLower l high) is lower) in_high in omega arith
       ],
-)
+    )
+
+  pub none_left : (high : List ℕ) → BeginsLower [] high → Left p s first [] high → IsFirstChosen p s first None
+  none_left high lower left = grind (arith, cases_lt)

@@ -1,5 +1,4 @@
 -- The modules that public contracts cite.
-pub mod ValueGroups
 pub mod LongChains
 pub mod Plans
 pub mod ByNumbers

@@ -15,7 +15,6 @@ mod plan_check;
 mod runner;
 mod stepper;
 mod steps;
-mod value_groups;
 
 pub use checker::{Checker, checker_for};
 pub use choosers::{Chooser, NamedPlan, NumberedPlan};

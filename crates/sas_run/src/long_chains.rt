@@ -1,77 +1,74 @@
-// Long chains: many operators of one name. A state is compared only with those that require its value of one variable, or none of it.
-ghost use Rattle.std.specs.Prelude.{◌≡◌, ◌<◌, All, length, IfOk, OnOk, IfSome};
-ghost use Rattle.sas_core.specs.declared.parts.Parts.{Parts};
+// Long chains: many operators of one name. A step tries only those that require its state's value of one variable, or none of it.
+ghost use Rattle.std.specs.Prelude.{◌≡◌, ◌<◌, length, None, IfOk, OnOk};
 ghost use Rattle.sas_core.specs.Grounded.{operator_at};
 ghost use Rattle.sas_core.specs.Variables.{IsState};
 ghost use Rattle.sas_names.specs.Chains.{IsChain, HaveChains};
-ghost use Rattle.sas_run.specs.LongChains.{AreAll, AreLongChains, HaveValues, IsFirstAmong, IsLongChain, RequiresValue};
 ghost use Rattle.sas_names.specs.NameTable.{AreNames};
+ghost use Rattle.sas_run.specs.LongChains.{AreEither, AreLongChains, BeginsLower, IsLongChain, IsPushed, Requires, operators_with};
 ghost use Rattle.sas_run.specs.Plans.{IsApplicable};
 ghost use Rattle.sas_run.specs.Running.{IsFirstChosen};
 
 use crate::runner::{is_applicable, later_applicable};
-use crate::value_groups::ValueGroups;
-use sas_core::{Fact, Grounded};
+use sas_core::Grounded;
 use sas_meaning::{Layered, Preconditions, State};
 use sas_names::{Names, existing, next_in};
 use std::alloc::{AllocError, Global};
 use std::collections::BTreeMap;
+use std::iter::successors;
 
 /// A chain of up to this many operators isn't long.
 const SHORT: usize = 8;
 
-/// The operators of one name, ascending, in groups that require the same value of one variable.
+/// The operators of one name, by the value that they require of one variable, if any. Each list ascends.
 #[derive(Drop)]
 pub struct LongChain {
     var: u32,
-    operators: Vec<u32>,
-    groups: ValueGroups,
+    by_value: BTreeMap<Option<u32>, Vec<u32>>,
 }
 
 impl LongChain {
-    /// Groups the operators by the variable of which they require the most values.
+    /// Collects the operators from this one on.
     fn new<T: Grounded>(
         alloc: Global,
         layered: &Layered<T>,
-        operators: Vec<u32>,
+        first: u32,
+        nexts: &[Option<u32>],
     ) -> Result<LongChain, AllocError>
         requires variables { 0 < length layered.now.variables }
-        requires exist { All (λ operator. operator < length layered.now.operators) operators.items }
-        ensures chain { IfOk result (IsLongChain layered.now) }
-        ensures operators { IfOk result (λ chain. chain.operators ≡ operators) }
+        requires chain { IsChain layered.now first nexts.now }
+        requires first { first < length layered.now.operators }
+        ensures { IfOk result (λ chain. IsLongChain layered.now first chain None) }
     {
-        let var = splitting_variable(alloc, layered, operators.as_slice())?;
-        let values = required_values(alloc, layered, operators.as_slice(), var)?;
-        let groups = ValueGroups::new(alloc, values.as_slice())?;
-        Ok(LongChain {
-            var,
-            operators,
-            groups,
-        })
+        let var = splitting_variable(alloc, layered, first, nexts)?;
+        let by_value = BTreeMap::new(alloc);
+        let mut chain = LongChain { var, by_value };
+        let mut next = Some(first);
+        while let Some(operator) = next {
+            chain.push(alloc, required_value(layered, operator, var), operator)?;
+            next = next_in(nexts, operator);
+        }
+        Ok(chain)
     }
 
-    /// Returns the first of the operators that is applicable. Visits the operators that require the state's value, and those that require
-    /// none, in their order.
-    #[inline(never)]
-    pub fn first_applicable<T: Grounded>(&self, task: &Layered<T>, state: &State) -> Option<u32>
-        requires chain { IsLongChain task.now self.now }
-        requires state { IsState task.now.variables state.now }
-        ensures { IsFirstAmong task.now state.now self.now.operators.items result }
+    /// Adds an operator that requires this value, or none.
+    fn push(&mut self, alloc: Global, value: Option<u32>, operator: u32) -> Result<(), AllocError>
+        ensures { OnOk result (IsPushed self.old value operator self.new) }
     {
-        let mut same = self.groups.first(Some(state.value(self.var)));
-        let mut free = self.groups.first(None);
-        while same.min(free) < self.operators.len() {
-            let item = same.min(free);
-            if is_applicable(task, state, self.operators[item]) {
-                return Some(self.operators[item]);
-            }
-            if item == same {
-                same = self.groups.next(item);
-            } else {
-                free = self.groups.next(item);
-            }
+        let none = Vec::new(alloc);
+        let mut operators = self.by_value.remove(&value).unwrap_or(none);
+        operators.push(operator)?;
+        self.by_value.insert(value, operators)?;
+        Ok(())
+    }
+
+    /// Returns the operators that require this value, or none.
+    fn with(&self, value: Option<u32>) -> &[u32]
+        ensures { result.now ≡ operators_with self.now value }
+    {
+        match self.by_value.get(&value) {
+            Some(operators) => operators.as_slice(),
+            None => &[],
         }
-        None
     }
 }
 
@@ -82,16 +79,7 @@ pub struct LongChains {
 }
 
 impl LongChains {
-    /// Returns no chain.
-    pub fn none(alloc: Global) -> LongChains
-        ensures { (p : Parts) → AreLongChains p result }
-    {
-        LongChains {
-            chains: BTreeMap::new(alloc),
-        }
-    }
-
-    /// Groups the long chains that begin with one of these operators.
+    /// Collects the long chains that begin with one of these operators.
     pub fn new<T: Grounded>(
         alloc: Global,
         layered: &Layered<T>,
@@ -101,8 +89,9 @@ impl LongChains {
         requires { HaveChains layered.now firsts.now nexts.now }
         ensures { IfOk result (AreLongChains layered.now) }
     {
-        let mut long = LongChains::none(alloc);
-        if layered.task().variables() == 0 || !nexts.iter().any(|next| next.is_some()) {
+        let chains = BTreeMap::new(alloc);
+        let mut long = LongChains { chains };
+        if !nexts.iter().any(|next| next.is_some()) {
             return Ok(long);
         }
         for first in firsts {
@@ -113,7 +102,7 @@ impl LongChains {
         Ok(long)
     }
 
-    /// Groups the long chains of the task, whose operators have these names.
+    /// Collects the long chains of the task, whose operators have these names.
     pub fn of_task<T: Grounded>(
         alloc: Global,
         layered: &Layered<T>,
@@ -122,10 +111,8 @@ impl LongChains {
         requires { AreNames layered.now names.now }
         ensures { IfOk result (AreLongChains layered.now) }
     {
-        let mut long = LongChains::none(alloc);
-        if layered.task().variables() == 0 {
-            return Ok(long);
-        }
+        let chains = BTreeMap::new(alloc);
+        let mut long = LongChains { chains };
         for first in 0..layered.operators() {
             if is_long(names.next(), first)
                 && names.first(layered, layered.name(first)) == Some(first)
@@ -136,7 +123,7 @@ impl LongChains {
         Ok(long)
     }
 
-    /// Groups the chain that begins with this operator, if it is long.
+    /// Collects the chain that begins with this operator, if it is long.
     fn add<T: Grounded>(
         &mut self,
         alloc: Global,
@@ -144,15 +131,16 @@ impl LongChains {
         first: u32,
         nexts: &[Option<u32>],
     ) -> Result<(), AllocError>
-        requires variables { 0 < length layered.now.variables }
         requires chain { IsChain layered.now first nexts.now }
         requires first { first < length layered.now.operators }
         requires chains { AreLongChains layered.now self.old }
         ensures { OnOk result (AreLongChains layered.now self.new) }
     {
-        if is_long(nexts, first) && !self.chains.contains_key(&first) {
-            let operators = operators_of(alloc, layered, first, nexts)?;
-            let chain = LongChain::new(alloc, layered, operators)?;
+        if is_long(nexts, first)
+            && layered.task().variables() > 0
+            && !self.chains.contains_key(&first)
+        {
+            let chain = LongChain::new(alloc, layered, first, nexts)?;
             self.chains.insert(first, chain)?;
         }
         Ok(())
@@ -195,127 +183,75 @@ impl LongChains {
         requires not_first { IsApplicable state.now (operator_at task.now first) → ⊥ }
         ensures { IsFirstChosen task.now state.now first result }
     {
-        match self.chains.get(&first) {
-            Some(chain) => chain.first_applicable(task, state),
-            None => later_applicable(task, nexts, state, first),
+        let Some(chain) = self.chains.get(&first) else {
+            return later_applicable(task, nexts, state, first);
+        };
+        let same = chain.with(Some(state.value(chain.var)));
+        let mut lists = lower_first(same, chain.with(None));
+        while let Some((next, rest)) = lists.0.split_first() {
+            if is_applicable(task, state, *next) {
+                return Some(*next);
+            }
+            lists = lower_first(rest, lists.1);
         }
+        None
+    }
+}
+
+/// Returns the two lists, first the one that begins with the lower operator.
+fn lower_first<'a>(a: &'a [u32], b: &'a [u32]) -> (&'a [u32], &'a [u32])
+    ensures lists { AreEither a.now b.now result.0.now result.1.now }
+    ensures lower { BeginsLower result.0.now result.1.now }
+{
+    match (a.first(), b.first()) {
+        (Some(low), Some(high)) if low <= high => (a, b),
+        (Some(_), None) => (a, b),
+        _ => (b, a),
     }
 }
 
 /// Returns whether the chain that begins with this operator is long.
 fn is_long(nexts: &[Option<u32>], first: u32) -> bool {
-    let mut next = Some(first);
-    for _ in 0..SHORT {
-        let Some(operator) = next else {
-            return false;
-        };
-        next = next_in(nexts, operator);
-    }
-    next.is_some()
+    successors(Some(first), |operator| next_in(nexts, *operator))
+        .nth(SHORT)
+        .is_some()
 }
 
-/// Returns the operators of the chain that begins with this one.
-fn operators_of<T: Grounded>(
+/// Returns the variable of which the operators of a chain require the most values.
+fn splitting_variable<T: Grounded>(
     alloc: Global,
     layered: &Layered<T>,
     first: u32,
     nexts: &[Option<u32>],
-) -> Result<Vec<u32>, AllocError>
-    requires chain { IsChain layered.now first nexts.now }
-    requires first { first < length layered.now.operators }
-    ensures { IfOk result (λ operators. AreAll layered.now first operators.items) }
-{
-    let mut operators = Vec::new(alloc);
-    let mut next = Some(first);
-    while let Some(operator) = next {
-        operators.push(operator)?;
-        next = next_in(nexts, operator);
-    }
-    Ok(operators)
-}
-
-/// Returns the variable of which the operators require the most values.
-fn splitting_variable<T: Grounded>(
-    alloc: Global,
-    layered: &Layered<T>,
-    operators: &[u32],
 ) -> Result<u32, AllocError>
     requires variables { 0 < length layered.now.variables }
-    requires exist { All (λ operator. operator < length layered.now.operators) operators.now }
+    requires chain { IsChain layered.now first nexts.now }
+    requires first { first < length layered.now.operators }
     ensures { IfOk result (λ var. var < length layered.now.variables) }
 {
     let task = layered.task();
     let mut facts = Vec::new(alloc);
-    for operator in operators {
-        push_preconditions(task, *operator, &mut facts)?;
+    let mut next = Some(first);
+    while let Some(operator) = next {
+        facts.extend(Preconditions::new(task, operator))?;
+        next = next_in(nexts, operator);
     }
     facts.sort_unstable();
-    let var = most_varied(facts.as_slice());
-    Ok(if var < task.variables() { var } else { 0 })
-}
-
-/// Adds the operator's preconditions to the facts.
-fn push_preconditions<T: Grounded>(
-    task: &T,
-    operator: u32,
-    facts: &mut Vec<Fact>,
-) -> Result<(), AllocError>
-    requires { operator < length (T.says task.now).operators }
-{
-    for fact in Preconditions::new(task, operator) {
-        facts.push(fact)?;
-    }
-    Ok(())
-}
-
-/// Returns the variable that most of the facts are on, each counted once. They are sorted.
-fn most_varied(facts: &[Fact]) -> u32 {
-    let mut var = 0;
-    let mut most = 0usize;
-    let mut count = 0usize;
-    for index in 0..facts.len() {
-        let fact = facts[index];
-        if index == 0 || facts[index - 1].var != fact.var {
-            count = 1;
-        } else if facts[index - 1].value != fact.value {
-            count += 1;
-        }
-        if count > most {
-            most = count;
-            var = fact.var;
-        }
-    }
-    var
-}
-
-/// Returns, for each of the operators, the value that it requires of the variable, if any.
-fn required_values<T: Grounded>(
-    alloc: Global,
-    layered: &Layered<T>,
-    operators: &[u32],
-    var: u32,
-) -> Result<Vec<Option<u32>>, AllocError>
-    requires { All (λ operator. operator < length layered.now.operators) operators.now }
-    ensures { IfOk result (λ values. HaveValues layered.now operators.now var values.items) }
-{
-    let mut values = Vec::with_capacity(alloc, operators.len())?;
-    for operator in operators {
-        values
-            .push(required_value(layered, *operator, var))
-            .unwrap();
-    }
-    Ok(values)
+    facts.dedup();
+    let most = facts
+        .chunk_by(|fact, other| fact.var == other.var)
+        .max_by_key(|facts| facts.len());
+    let var = most
+        .and_then(|facts| facts.first())
+        .map_or(0, |fact| fact.var);
+    Ok(var.min(task.variables() - 1))
 }
 
 /// Returns the value that the operator requires of the variable, if any.
 fn required_value<T: Grounded>(layered: &Layered<T>, operator: u32, var: u32) -> Option<u32>
     requires { operator < length layered.now.operators }
-    ensures { IfSome result (λ value. RequiresValue (operator_at layered.now operator) var value) }
+    ensures { Requires (operator_at layered.now operator) var result }
 {
-    for fact in Preconditions::new(layered.task(), operator) {
-        if fact.var == var {
-            return Some(fact.value);
-        }
-    }
-    None
+    let fact = Preconditions::new(layered.task(), operator).find(|fact| fact.var == var)?;
+    Some(fact.value)
 }

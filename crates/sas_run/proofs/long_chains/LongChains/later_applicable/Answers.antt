@@ -1,16 +1,23 @@
--- The chain that is found has all operators of the name.
-use Rattle.sas_run.proofs.Imports.{sym}
-use Rattle.sas_run.proofs.LongSearch.{chosen_among}
-use Rattle.sas_run.proofs.NamedAlike.{chosen_later}
+-- The first operator of the two lists is tested, until one is applicable or none is left.
+use Rattle.sas_run.proofs.Imports.{sym, ◌∙◌, true≢false}
+use Rattle.sas_run.proofs.LongSearch.{starts, goes_on, chosen}
 use Rattle.sas_run.proofs.long_chains.LongChains.later_applicable.Goals as goal
 
-pub first_applicable-requires-clause-chain : goal.first_applicable-requires-clause-chain
-first_applicable-requires-clause-chain g c = (c.requires.long.each c.args.first c.in-Some.chain.now (sym c.in-Some.ensures.value)).0
+pub loop-next-init : goal.loop-next-init
+loop-next-init g c = record {
+  left = starts c.args.task.now c.args.state.now c.args.first c.in-Some.chain.now _ _ _ _ _ (c.requires.long.each c.args.first c.in-Some.chain.now (sym c.in-Some.ensures.value))
+      c.value.ensures c.with-same.ensures c.with.ensures c.lower_first-lists.ensures.lists;
+  lower = c.lower_first-lists.ensures.lower;
+}
 
-pub returns-in-Some : goal.returns-in-Some
-returns-in-Some g c =
-    let long = c.requires.long.each c.args.first c.in-Some.chain.now (sym c.in-Some.ensures.value) in
-    chosen_among c.args.task.now c.args.state.now c.args.first c.in-Some.chain.now.operators.items c.first_applicable.result long.1 c.first_applicable.ensures
+pub returns-then-is_applicable : goal.returns-then-is_applicable
+returns-then-is_applicable g c =
+    let l = c.loop-next.invariant in
+    chosen c.args.task.now c.args.state.now c.args.first _ _ c.in-Some-split_first.rest.now _ c.in-Some-split_first.ensures.cases.0 l.left l.lower (c.is_applicable.ensures.0 c.if-is_applicable.true)
 
-pub returns-in-None : goal.returns-in-None
-returns-in-None g c = chosen_later c.args.task.now c.args.state.now c.args.first c.later_applicable.result c.requires.not_first c.later_applicable.ensures
+pub loop-next-preserved : goal.loop-next-preserved
+loop-next-preserved g c = record {
+  left = goes_on c.args.task.now c.args.state.now c.args.first _ _ c.in-Some-split_first.rest.now _ c.in-Some-split_first.ensures.cases.0 c.loop-next.invariant.left _ _
+      (λ can. true≢false (sym (c.is_applicable.ensures.1 can) ∙ c.if-is_applicable.false)) c.lower_first-lists-in-Some-split_first.ensures.lists;
+  lower = c.lower_first-lists-in-Some-split_first.ensures.lower;
+}
