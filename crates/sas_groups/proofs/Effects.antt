@@ -1,5 +1,5 @@
 -- Properties of all effects as properties of the effect at each index, and when an operator
--- preserves a group.
+-- keeps a group.
 use Rattle.sas_groups.proofs.Imports.{arith, rules, ◌≡◌, ℕ, ◌<◌, length, ◌∙◌, ap, subst, get_or_default, Contains-get_or, Contains, List, Change, Fact, Effect, Operator, effect_at, change_of, Keeps, IsRemoved, sets, Removes, NotBoth, KeepsIfSets, known, no_effect}
 
 -- the fact that a change sets

@@ -1,4 +1,4 @@
--- The union of families that are preserved jointly is preserved jointly. The greatest family is
+-- The union of families that are kept jointly is kept jointly. The greatest family is
 -- unique, contains each group that is exclusive alone, and no group can be added to it.
 use Rattle.sas_groups.proofs.Imports.{◌≡◌, ℕ, ◌<◌, ◌⊎◌, Bool, true, false, List, ◌++◌, length, refl, sym, ap, subst, inl, inr, ◌||◌, ◌==◌, IsTrue, eq-eqb, eqb-true, Fact, Operator, Parts, group_at, preconditions, arith, rules, common_steps, Clash, Keeps, MayBeExclusive, IsIn, IsGroupOf, IsGroupOfOr, AllKeep, IsKeptJointly, FamiliesUnite, GreatestIsOne, GreatestHasAlone, OutsideIsBroken}
 

@@ -1,4 +1,4 @@
--- Groups that every operator preserves stay exclusive, by induction over the reachable states, for
+-- Groups that every operator keeps stay exclusive, by induction over the reachable states, for
 -- any set of assumed groups.
 use Rattle.sas_groups.proofs.Imports.{◌≡◌, ◌≢◌, ℕ, Bool, List, [], ◌∷◌, ◌++◌, get_or, refl, sym, ◌∙◌, ap, subst, inl, inr, cases_eq, All-nil, All-cons, All-append, All-contains, All, Contains, Fact, Effect, Operator, Parts, Holds, AllHold, IsBasic, preconditions, Fires, Step, IsInitial, Reachable, Initial, Next, SetBy, Untouched, set_or_kept, arith, rules, common_steps, Clash, sets, Keeps, IsExclusiveIn, MayBeExclusive, IsGroupOf, AllKeep, IsKeptJointly, JointlyKeptIsInvariant, ExclusiveAloneIsInvariant, ExclusiveJointlyIsInvariant, fact_same}
 

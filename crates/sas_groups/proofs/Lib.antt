@@ -1,12 +1,3 @@
-pub mod Numbering
-pub mod InLists
-pub mod Entering
-pub mod InOrder
-pub mod RunLengths
-pub mod ByVariable
-pub mod Existing
-pub mod NotesOfFacts
-pub mod Larger
 pub mod Invariance
 mod StateVerdicts
 pub mod GreatestFamily

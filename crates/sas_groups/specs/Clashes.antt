@@ -1,4 +1,4 @@
--- Which facts exclude each other, and which operators preserve a group. Groups are lists of facts,
+-- Which facts exclude each other, and which operators keep a group. Groups are lists of facts,
 -- treated as sets. The predicate `Counts` selects the groups that are assumed to be exclusive: no
 -- two different facts of such a group hold together before a step.
 use Rattle.std.specs.Prelude.{◌≡◌, ◌≢◌, ◌⊎◌, List, [], ◌∷◌, ◌++◌, All, Contains}
@@ -55,7 +55,7 @@ RemovesOthers Counts o group = (e : Effect) (f : Fact) → Contains o.effects e
     → Clash Counts (preconditions o ++ e.conditions ++ f ∷ [])
     ⊎ IsRemoved o (preconditions o ++ e.conditions ++ f ∷ []) f
 
--- the operator preserves the group
+-- the operator keeps the group
 pub record Keeps (Counts : List Fact → Type 0) (o : Operator) (group : List Fact) : Type 0 where
   pub two : NeverSetsTwo Counts o group
   pub others : RemovesOthers Counts o group

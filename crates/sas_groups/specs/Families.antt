@@ -1,4 +1,4 @@
--- Families of groups of a task that are preserved jointly. A family is a predicate on the indexes
+-- Families of groups of a task that are kept jointly. A family is a predicate on the indexes
 -- of groups.
 use Rattle.std.specs.Prelude.{◌≡◌, ◌⊎◌, ℕ, ◌<◌, Bool, IsTrue, List, length, All}
 use Rattle.sas_core.specs.declared.parts.Fact.{Fact}
@@ -28,11 +28,11 @@ pub record IsIn (p : Parts) (family : ℕ → Bool) (place : ℕ) : Type 0 where
 abbrev pub IsGroupOf : Parts → (ℕ → Bool) → List Fact → Type 0
 IsGroupOf p family group = (place : ℕ) × IsIn p family place × (group ≡ group_at p place)
 
--- every operator preserves the group, given the assumed groups
+-- every operator keeps the group, given the assumed groups
 abbrev pub AllKeep : Parts → (List Fact → Type 0) → List Fact → Type 0
 AllKeep p Counts group = All (λ (o : Operator). Keeps Counts o group) p.operators
 
--- a family is preserved jointly if each of its groups may be exclusive and every operator preserves
+-- a family is kept jointly if each of its groups may be exclusive and every operator keeps
 -- each of its groups, assuming the groups of the family
 pub record IsKeptJointly (p : Parts) (family : ℕ → Bool) : Type 0 where
   pub may : (place : ℕ) → IsIn p family place → MayBeExclusive p (group_at p place)

@@ -10,7 +10,7 @@ use Rattle.sas_groups.specs.Groups.{IsInvariant}
 use Rattle.sas_groups.specs.Families.{MayBeExclusive, IsIn, IsGroupOfOr, AllKeep, IsKeptJointly, IsGreatest}
 use Rattle.sas_groups.specs.Verdicts.{IsVerdictAlone, IsJointVerdict}
 
--- invariance: each group of a family that is preserved jointly is an invariant
+-- invariance: each group of a family that is kept jointly is an invariant
 abbrev pub JointlyKeptIsInvariant : Type 0
 JointlyKeptIsInvariant = (p : Parts) (family : ℕ → Bool) (place : ℕ) → IsKeptJointly p family
     → IsIn p family place → IsInvariant p (group_at p place)
@@ -24,7 +24,7 @@ abbrev pub ExclusiveJointlyIsInvariant : Type 0
 ExclusiveJointlyIsInvariant = (p : Parts) (place : ℕ) → IsJointVerdict p place Exclusive
     → IsInvariant p (group_at p place)
 
--- the union of two families that are preserved jointly is preserved jointly
+-- the union of two families that are kept jointly is kept jointly
 abbrev pub FamiliesUnite : Type 0
 FamiliesUnite = (p : Parts) (a b : ℕ → Bool) → IsKeptJointly p a → IsKeptJointly p b
     → IsKeptJointly p (λ place. a place || b place)
@@ -45,7 +45,7 @@ GreatestHasAlone = (p : Parts) (family : ℕ → Bool) (place : ℕ) → place <
     → IsGreatest p family
     → IsVerdictAlone p (group_at p place) Exclusive → IsIn p family place
 
--- a group outside the greatest family that may be exclusive isn't preserved by all operators,
+-- a group outside the greatest family that may be exclusive isn't kept by all operators,
 -- assuming that family and the group itself
 abbrev pub OutsideIsBroken : Type 0
 OutsideIsBroken = (p : Parts) (family : ℕ → Bool) (place : ℕ) → place < length p.groups

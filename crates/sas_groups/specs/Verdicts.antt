@@ -9,7 +9,7 @@ use Rattle.sas_groups.specs.Clashes.{Keeps}
 use Rattle.sas_groups.specs.Groups.{IsExclusiveIn, IsInvariant}
 use Rattle.sas_groups.specs.Families.{IsIn, IsOnBasic, AllKeep, IsGreatest, IsGroupOfOr}
 
--- the first operator that doesn't preserve the group
+-- the first operator that doesn't keep the group
 pub record IsFirstBreaking (p : Parts) (Counts : List Fact → Type 0) (group : List Fact)
     (operator : ℕ) : Type 0 where
   pub exists : operator < length p.operators
@@ -28,8 +28,8 @@ IsVerdictAlone p group Exclusive = IsOnBasic p group
     × AllKeep p (λ g. g ≡ group) group
 
 -- The joint verdict on the group with this index. `Derived` and `Initial` are as for the group
--- alone. The groups of the greatest family that is preserved jointly are `Exclusive`. Any other
--- group is broken by the first operator that doesn't preserve it, assuming that family and the
+-- alone. The groups of the greatest family that is kept jointly are `Exclusive`. Any other
+-- group is broken by the first operator that doesn't keep it, assuming that family and the
 -- group itself.
 abbrev pub IsJointVerdict : Parts → ℕ → Verdict → Type 0
 IsJointVerdict p place Derived = IsOnBasic p (group_at p place) → ⊥

@@ -2,7 +2,7 @@
 ghost use Rattle.std.specs.Prelude.{◌<◌, ◌↔◌, length, Contains, IsTrue};
 ghost use Rattle.std.specs.List.{Any};
 ghost use Rattle.sas_groups.specs.Clashes.{Contradict, Clash};
-ghost use Rattle.sas_groups.specs.Checks.{Alone};
+ghost use Rattle.sas_groups.specs.Keeping.{Alone};
 ghost use Rattle.sas_groups.specs.Lists.{known_on};
 
 use crate::known::{Known, Premises};

@@ -5,7 +5,7 @@ ghost use Rattle.sas_meaning.specs.States.{Holds};
 ghost use Rattle.sas_groups.specs.Groups.{IsExclusiveIn, IsInvariant};
 ghost use Rattle.sas_groups.specs.Families.{IsOnBasic, AllKeep};
 ghost use Rattle.sas_groups.specs.Verdicts.{IsVerdictAlone, IsFirstBreaking};
-ghost use Rattle.sas_groups.specs.Checks.{IsFirstVerdict, Alone};
+ghost use Rattle.sas_groups.specs.Keeping.{IsFirstVerdict, Alone};
 
 use crate::keeping::keeps;
 use crate::verdict::Verdict;
@@ -15,7 +15,7 @@ use sas_meaning::Layered;
 /// Returns the verdict on a group, using only the group itself as an assumption.
 ///
 /// The checks are, in this order: a fact on a derived variable; two different facts that hold in the state section; the first operator that
-/// doesn't preserve the group.
+/// doesn't keep the group.
 pub fn check_group<T: Grounded>(layered: &Layered<T>, group: &[Fact]) -> Verdict
     requires { All (FactExists layered.now.variables) group.now }
     ensures verdict { IsVerdictAlone layered.now group.now result }
@@ -31,7 +31,7 @@ pub fn check_group<T: Grounded>(layered: &Layered<T>, group: &[Fact]) -> Verdict
     }
 }
 
-/// Returns the verdict on a group before operators are checked: `Derived`, `Initial`, or `Exclusive` if neither applies.
+/// Returns the verdict on a group before operators are looked at: `Derived`, `Initial`, or `Exclusive` if neither applies.
 pub fn before_operators<T: Grounded>(task: &Layered<T>, group: &[Fact]) -> Verdict
     requires { All (λ f. f.var < length task.now.variables) group.now }
     ensures { IsFirstVerdict task.now group.now result }
@@ -94,7 +94,7 @@ fn holds<T: Grounded>(task: &Layered<T>, fact: Fact) -> bool
     task.initial_value(fact.var) == fact.value
 }
 
-/// Returns the first operator that doesn't preserve the group, if any.
+/// Returns the first operator that doesn't keep the group, if any.
 fn first_breaking<T: Grounded>(task: &Layered<T>, group: &[Fact]) -> Option<u32>
     ensures some { IfSome result
         (λ operator. IsFirstBreaking task.now (Alone group.now) group.now operator) }

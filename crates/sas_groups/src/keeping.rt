@@ -1,8 +1,8 @@
-// Which operators preserve a group.
+// Which operators keep a group.
 ghost use Rattle.std.specs.Prelude.{◌<◌, ◌↔◌, length, All, IsTrue};
 ghost use Rattle.sas_core.specs.Grounded.{operator_at, effect_at};
 ghost use Rattle.sas_groups.specs.Clashes.{Keeps};
-ghost use Rattle.sas_groups.specs.Checks.{Alone, NotBoth, HasNoPartner, IsGone, KeepsIfSets};
+ghost use Rattle.sas_groups.specs.Keeping.{Alone, NotBoth, HasNoPartner, IsGone, KeepsIfSets};
 
 use crate::clashes::{clash, contains};
 use crate::known::Premises;
@@ -10,7 +10,7 @@ use crate::removal::is_removed;
 use sas_core::{Fact, Grounded};
 use sas_meaning::Layered;
 
-/// Returns whether the operator preserves the group.
+/// Returns whether the operator keeps the group.
 pub fn keeps<T: Grounded>(task: &Layered<T>, operator: u32, group: &[Fact]) -> bool
     requires { operator < length task.now.operators }
     ensures { IsTrue result ↔ Keeps (Alone group.now) (operator_at task.now operator) group.now }
@@ -23,7 +23,7 @@ pub fn keeps<T: Grounded>(task: &Layered<T>, operator: u32, group: &[Fact]) -> b
     true
 }
 
-/// Returns whether the effect sets no fact of the group, or preserves the group.
+/// Returns whether the effect sets no fact of the group, or keeps the group.
 fn keeps_if_sets<T: Grounded>(task: &Layered<T>, operator: u32, group: &[Fact], effect: u32) -> bool
     requires operator { operator < length task.now.operators }
     requires effect { effect < length (operator_at task.now operator).effects }

@@ -9,6 +9,6 @@ pub enum Verdict {
     Derived,
     /// The state section contains two different facts of the group.
     Initial,
-    /// This operator doesn't preserve the group, and all operators with lower numbers do.
+    /// This operator doesn't keep the group, and all operators with lower numbers do.
     Broken { operator: u32 },
 }

@@ -1,4 +1,4 @@
--- An operator doesn't preserve a group if and only if it has a failure. Then it has exactly one
+-- An operator doesn't keep a group if and only if it has a failure. Then it has exactly one
 -- first failure.
 use Rattle.std.proofs.lemmas.Grind.{common_steps}
 use Rattle.sas_mutex.proofs.Imports.{◌≡◌, ℕ, ◌<◌, ◌≤◌, ◌⊎◌, List, [], ◌∷◌, length, Some, refl, ◌∙◌, ap, subst, inl, inr, arith, cases_eq, cases_lt, cases_order, slice_get-get_or, Contains, slice_get, Fact, Operator, effect_at, Keeps, sets, NotBoth, IsGone, known, clash_more, EffectKeeps, keeps_from_effects, effect_of_keeps, Failure, SetsTwo, MayStay, IsFailure, IsEarlier, IsFirstFailure, effect_of_failure, IsFirstOfEffect}

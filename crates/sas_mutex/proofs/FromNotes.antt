@@ -1,5 +1,7 @@
 -- What the notes of facts that don't clash imply for another fact.
-use Rattle.sas_mutex.proofs.Imports.{arith, common_steps, rules, ◌≡◌, ◌≢◌, ◌⊎◌, ℕ, ◌<◌, Bool, [], length, List, ◌∷◌, ◌++◌, None, Some, subst, refl, sym, ap, ◌∙◌, inl, inr, append-nil, All, Any, Contains, cases_eq, get_or_default, Contains-append_left, Contains-append_right, Contains-append_cases, Contains-push, Contains-push_cases, Contains-get_or, Change, Fact, Effect, change_of, Operator, Parts, effect_at, group_at, FactExists, EffectKeeps, AreGone, Marks, IsKept, EffectPlace, operator_of, effect_of, IsNotedAt, ShareOne, AreKnown, IsMet, Removes, SomeRemoves, IsNotedFor, known_at, preconditions, Contradict, Clash, IsRemoved, IsIn, known, Index, Notes, IsGone, clash_more, group_of_larger, family_of, IsIndexOf, HasFact, groups_of, value_note, group_note, IsOfGroupBeside, HasOtherValue, HasNotedGroup, ShareKept, SharesApart, Excluding, Excludes, AreGoneAt, WellRanged, variable_below, a_note, apart_or_not, one_or_two, value_note_shows, no_value_note_shows, no_note_shows, some_note_shows, shared_turned, no_effect}
+use Rattle.sas_mutex.proofs.Imports.{arith, common_steps, rules, ◌≡◌, ◌≢◌, ◌⊎◌, ℕ, ◌<◌, Bool, [], length, List, ◌∷◌, ◌++◌, None, Some, subst, refl, sym, ap, ◌∙◌, inl, inr, append-nil, All, Any, Contains, cases_eq, get_or_default, Contains-append_left, Contains-append_right, Contains-append_cases, Contains-push, Contains-push_cases, Contains-get_or, Change, Fact, Effect, change_of, Operator, Parts, effect_at, group_at, FactExists, EffectKeeps, AreGone, Recorded, IsKept, EffectPlace, operator_of, effect_of, IsNotedAt, ShareOne, AreKnown, IsMet, Removes, SomeRemoves, IsNotedFor, known_at, preconditions, Contradict, Clash, IsRemoved, IsIn, known, Index, Notes, IsGone, clash_more, group_of_larger, family_of, IsIndexOf, HasFact, groups_of, value_note, group_note, IsOfGroupBeside, HasOtherValue, HasNotedGroup, ShareKept, SharesApart, Excluding, Excludes, AreGoneAt, WellRanged, no_effect}
+use Rattle.sas_mutex.proofs.Existing.{variable_below}
+use Rattle.sas_mutex.proofs.NotesOfFacts.{a_note, apart_or_not, one_or_two, value_note_shows, no_value_note_shows, no_note_shows, some_note_shows, shared_turned}
 use Rattle.sas_mutex.proofs.TaskFacts.{known_at_exist, conditions_exist}
 use Rattle.sas_mutex.proofs.KnownFacts.{contradict_turned, not_itself, shares_contradicts, contradicts_shares, share_one, share_kept}
 
@@ -11,7 +13,7 @@ IsFiring f index change = WellRanged f.task
     × (f.effect < length (operator_of f).effects)
     × (change ≡ change_of (effect_of f))
 
-module _ (at : EffectPlace) (index : Index) {change : Change} (fits : IsFiring at index change) (kept : List Bool) (marks : Marks) (noted : IsNotedAt at kept marks)
+module _ (at : EffectPlace) (index : Index) {change : Change} (fits : IsFiring at index change) (kept : List Bool) (recorded : Recorded) (noted : IsNotedAt at kept recorded)
     (fact : Fact) (exists : FactExists at.task.variables fact) where
   abbrev p : Parts
   p = at.task
@@ -23,7 +25,7 @@ module _ (at : EffectPlace) (index : Index) {change : Change} (fits : IsFiring a
   conditions = (effect_of at).conditions
 
   abbrev notes : Notes
-  notes = marks.known
+  notes = recorded.known
 
   indexed : IsIndexOf p index
   indexed = fits.1
@@ -231,9 +233,9 @@ pub clash_keeps : (Counts : List Fact → Type 0) (o : Operator) (group : List F
 clash_keeps Counts o group e clash = grind (arith, common_steps, clash_stays)
 
 -- what doesn't clash under a family doesn't under a smaller one
-pub noted_fewer : (p : Parts) (kept fewer : List Bool) (operator effect : ℕ) (marks : Marks) → ((place : ℕ) → IsIn p (family_of fewer) place → IsIn p (family_of kept) place)
-    → IsNotedFor p kept operator effect marks → IsNotedFor p fewer operator effect marks
-noted_fewer p kept fewer operator effect marks less noted = search (rules, arith, are, clash_more, group_of_larger)
+pub noted_fewer : (p : Parts) (kept fewer : List Bool) (operator effect : ℕ) (recorded : Recorded) → ((place : ℕ) → IsIn p (family_of fewer) place → IsIn p (family_of kept) place)
+    → IsNotedFor p kept operator effect recorded → IsNotedFor p fewer operator effect recorded
+noted_fewer p kept fewer operator effect recorded less noted = search (rules, arith, are, clash_more, group_of_larger)
 
 -- where a fact of a group that counts is known, and is gone, all of the group are
 pub known_one_is_all : (p : Parts) (kept : List Bool) (o : Operator) (place : ℕ) (e : Effect) (h : Fact) → IsIn p (family_of kept) place
@@ -259,9 +261,9 @@ known_one_is_all p kept o place e h in_family known_h among gone f in_group = el
     one_more x = ap (λ (xs : List Fact). xs ++ x ∷ []) (sym (append-nil (preconditions o ++ e.conditions)))
 
 -- where the fact set apart excludes the facts of a group, none of them remains
-pub excluded_gone : (f : EffectPlace) (kept : List Bool) (marks : Marks) (excluding : Excluding) → IsNotedAt f kept marks → Excludes f.task kept excluding
-    → marks.known.apart ≡ Some excluding.fact → excluding.var ≡ (effect_of f).var → AreGoneAt f kept excluding.group
-excluded_gone f kept marks excluding noted excludes apart on other among differ =
+pub excluded_gone : (f : EffectPlace) (kept : List Bool) (recorded : Recorded) (excluding : Excluding) → IsNotedAt f kept recorded → Excludes f.task kept excluding
+    → recorded.known.apart ≡ Some excluding.fact → excluding.var ≡ (effect_of f).var → AreGoneAt f kept excluding.group
+excluded_gone f kept recorded excluding noted excludes apart on other among differ =
     let before = known_at f.task f.operator f.effect in
     let more = ap (λ (xs : List Fact). xs ++ other ∷ []) (sym (append-nil (preconditions (operator_of f) ++ (effect_of f).conditions))) in
     inl (

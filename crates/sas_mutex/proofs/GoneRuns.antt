@@ -1,15 +1,17 @@
 -- Facts of a group that can't remain, run by run.
-use Rattle.sas_mutex.proofs.Imports.{◌≡◌, ℕ, ◌+◌, ◌<◌, ◌≤◌, length, get_or, take, drop, Bool, List, [], ◌∷◌, ◌++◌, Some, refl, sym, ap, subst, ◌∙◌, append-nil, inl, inr, arith, All, Contains, cases_eq, take-append-drop, drop_more, All-nil, All-append, All-contains, Contains-append_left, Contains-append_right, Contains-get_or, Change, Fact, FactExists, Index, value_note, AreDistinct, AreOnOne, AreRuns, IsNotedAt, IsUnknownAt, IsGoneAt, IsDecidedByFirst, known_at, Marks, EffectPlace, effect_of, variable_below, a_note, value_note_shows}
+use Rattle.sas_mutex.proofs.Imports.{◌≡◌, ℕ, ◌+◌, ◌<◌, ◌≤◌, length, get_or, take, drop, Bool, List, [], ◌∷◌, ◌++◌, Some, refl, sym, ap, subst, ◌∙◌, append-nil, inl, inr, arith, All, Contains, cases_eq, take-append-drop, drop_more, All-nil, All-append, All-contains, Contains-append_left, Contains-append_right, Contains-get_or, Change, Fact, FactExists, Index, value_note, AreDistinct, AreOnOne, AreRuns, IsNotedAt, IsUnknownAt, IsGoneAt, IsDecidedByFirst, known_at, Recorded, EffectPlace, effect_of}
+use Rattle.sas_mutex.proofs.Existing.{variable_below}
+use Rattle.sas_mutex.proofs.NotesOfFacts.{a_note, value_note_shows}
 use Rattle.std.proofs.Common.{append_assoc}
 use Rattle.sas_mutex.proofs.FromNotes.{IsFiring, other_value_clashes}
 
 -- of the facts of a run that is settled none is known, so that what is noted for their variable is
 -- another value
-pub settled_are_gone : (f : EffectPlace) (index : Index) {change : Change} (fits : IsFiring f index change) (kept : List Bool) (marks : Marks) (noted : IsNotedAt f kept marks) (run : List Fact)
+pub settled_are_gone : (f : EffectPlace) (index : Index) {change : Change} (fits : IsFiring f index change) (kept : List Bool) (recorded : Recorded) (noted : IsNotedAt f kept recorded) (run : List Fact)
     → All (FactExists f.task.variables) run → AreOnOne run
-    → All (IsUnknownAt f) run → IsDecidedByFirst (effect_of f) run marks.known → All (IsGoneAt f kept) run
-settled_are_gone f index fits kept marks noted run exist (var, on_it) unknown settled k d below on_other =
-    let values = marks.known.values in
+    → All (IsUnknownAt f) run → IsDecidedByFirst (effect_of f) run recorded.known → All (IsGoneAt f kept) run
+settled_are_gone f index fits kept recorded noted run exist (var, on_it) unknown settled k d below on_other =
+    let values = recorded.known.values in
     let fact = get_or run k d in
     let some : 0 < length run = omega arith in
     let same : (get_or run 0 d).var ≡ fact.var = on_it 0 d some ∙ sym (on_it k d below) in
@@ -21,7 +23,7 @@ settled_are_gone f index fits kept marks noted run exist (var, on_it) unknown se
         | inr w ↦ elim (cases_eq w.0 fact.value) [
           | inl its ↦ absurd (unknown k d below (value_note_shows (known_at f.task f.operator f.effect) fact.var fact.value (value_note values fact.var)
               (noted.noted.are.noted.values fact.var (variable_below f.task fact exists)) (w.1 ∙ ap (λ v. Some v) its)))
-          | inr differs ↦ inl (other_value_clashes f index fits kept marks noted fact exists (w.0, w.1, differs))
+          | inr differs ↦ inl (other_value_clashes f index fits kept recorded noted fact exists (w.0, w.1, differs))
         ]
       ]
     ]

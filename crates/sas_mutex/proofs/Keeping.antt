@@ -1,5 +1,6 @@
--- What an effect preserves if more or fewer groups are assumed.
-use Rattle.sas_mutex.proofs.Imports.{common_steps, rules, ◌≡◌, ◌≢◌, ◌⊎◌, ℕ, ◌<◌, List, [], ◌∷◌, length, refl, sym, ap, inl, inr, arith, Contains, Contains-append_right, Contains-append_cases, All-contains, All-cons, All-nil, contains_none, one_or_two, Fact, Effect, Operator, Parts, effect_at, group_at, sets, Clash, known, clash_more, EffectKeeps, HasFactBeside}
+-- What an effect keeps if more or fewer groups are assumed.
+use Rattle.sas_mutex.proofs.Imports.{common_steps, rules, ◌≡◌, ◌≢◌, ◌⊎◌, ℕ, ◌<◌, List, [], ◌∷◌, length, refl, sym, ap, inl, inr, arith, Contains, Contains-append_right, Contains-append_cases, All-contains, All-cons, All-nil, contains_none, Fact, Effect, Operator, Parts, effect_at, group_at, sets, Clash, known, clash_more, EffectKeeps, HasFactBeside}
+use Rattle.sas_mutex.proofs.NotesOfFacts.{one_or_two}
 
 -- what clashes where some groups count clashes where others do
 module _ (Counts Others : List Fact → Type 0) (o : Operator) (group : List Fact) (e : Effect) where
@@ -29,7 +30,7 @@ other_or_none (f ∷ facts) fact = elim (one_or_two f fact) [
   ]
 ]
 
--- an effect that sets the only fact of a group preserves it
+-- an effect that sets the only fact of a group keeps it
 pub keeps_only : (Counts : List Fact → Type 0) (o : Operator) (group : List Fact) (e : Effect) → ((f : Fact) → Contains group f → f ≡ sets e)
     → EffectKeeps Counts o group e
 keeps_only Counts o group e only = record {

@@ -1,3 +1,12 @@
+mod Numbering
+mod InLists
+mod Entering
+mod InOrder
+mod RunLengths
+mod ByVariable
+mod Existing
+mod NotesOfFacts
+mod Larger
 pub mod TaskFacts
 pub mod KnownFacts
 pub mod FromNotes

@@ -1,5 +1,5 @@
--- Checks of effects, one after another.
-use Rattle.sas_mutex.proofs.Imports.{common_steps, rules, ◌≡◌, ◌⊎◌, ◌<◌, ◌≤◌, ℕ, Bool, true, false, List, [], ◌∷◌, ◌++◌, length, get_or, set, arith, ap, subst, sym, ◌∙◌, inl, inr, All-contains, vec_capacity, both_ways, get_or_default, get_or-set_same, length-set, length_push, All-nil, Contains, Fact, Parts, operator_at, effect_at, group_at, Clash, sets, known, HasFactBeside, EffectKeeps, IsIn, IsGroupOfOr, family_of, Family, Marks, SetsNone, Checker, IsChecking, IsKept, KeepsAt, KeepsWithItself, IsUnconditional, EffectPlace, IsNotedFor, NeverFires, known_at, HasGrown, IsBasis, FamilyHasRoom, RestsOn, count, ForPairs, Looked, IsPair, IsOfEffect, IsOfOperator, IsOfAlike}
+-- Looks at effects, one after another.
+use Rattle.sas_mutex.proofs.Imports.{common_steps, rules, ◌≡◌, ◌⊎◌, ◌<◌, ◌≤◌, ℕ, Bool, true, false, List, [], ◌∷◌, ◌++◌, length, get_or, set, arith, ap, subst, sym, ◌∙◌, inl, inr, All-contains, vec_capacity, both_ways, get_or_default, get_or-set_same, length-set, length_push, All-nil, Contains, Fact, Parts, operator_at, effect_at, group_at, Clash, sets, known, HasFactBeside, EffectKeeps, IsIn, IsGroupOfOr, family_of, Family, Recorded, SetsNone, Keeping, IsAtEffect, IsKept, KeepsAt, KeepsWithItself, IsUnconditional, EffectPlace, IsNotedFor, NeverFires, known_at, HasGrown, IsBasis, FamilyHasRoom, RestsOn, count, ForPairs, Looked, IsPair, IsOfEffect, IsOfOperator, IsOfAlike}
 use Rattle.sas_mutex.proofs.Counting.{count_fell}
 use Rattle.sas_mutex.proofs.Keeping.{keeps_if_beside}
 use Rattle.sas_mutex.proofs.FallingGroups.{falls_then, one_fell, never_jointly, none_first, none_then, keeps_still, basis_keeps, basis_grows}
@@ -10,22 +10,22 @@ use Rattle.sas_mutex.proofs.Supporting.{grown_falls, same_grown}
 same_known : (p : Parts) (operator of effect : ℕ) → IsUnconditional p operator of → IsUnconditional p operator effect → known_at p operator of ≡ known_at p operator effect
 same_known p operator of effect plain also = ap (λ (conditions : List Fact). known (operator_at p operator) conditions []) (plain ∙ sym also)
 
-pub alike_notes : (p : Parts) (operator of effect : ℕ) (kept : List Bool) (marks : Marks) → IsUnconditional p operator of → IsUnconditional p operator effect
-    → IsNotedFor p kept operator of marks → IsNotedFor p kept operator effect marks
-alike_notes p operator of effect kept marks plain also noted = grind (arith, common_steps, same_known)
+pub alike_notes : (p : Parts) (operator of effect : ℕ) (kept : List Bool) (recorded : Recorded) → IsUnconditional p operator of → IsUnconditional p operator effect
+    → IsNotedFor p kept operator of recorded → IsNotedFor p kept operator effect recorded
+alike_notes p operator of effect kept recorded plain also noted = grind (arith, common_steps, same_known)
 
-pub alike_checking : (p : Parts) (operator of effect : ℕ) (checker : Checker) → IsUnconditional p operator of → IsUnconditional p operator effect
-    → IsChecking (record { task = p; operator = operator; effect = of }) checker → IsChecking (record { task = p; operator = operator; effect = effect }) checker
-alike_checking p operator of effect checker plain also checking = grind (arith, alike_notes)
+pub alike_at_effect : (p : Parts) (operator of effect : ℕ) (keeping : Keeping) → IsUnconditional p operator of → IsUnconditional p operator effect
+    → IsAtEffect (record { task = p; operator = operator; effect = of }) keeping → IsAtEffect (record { task = p; operator = operator; effect = effect }) keeping
+alike_at_effect p operator of effect keeping plain also at_effect = grind (arith, alike_notes)
 
 pub alike_never_fires : (f : EffectPlace) (kept : List Bool) (effect place : ℕ) → IsOfAlike f effect place → NeverFires f kept
     → Clash (IsKept f.task kept) (known_at f.task f.operator effect)
 alike_never_fires f kept effect place h1 never = grind (arith, known_at, same_known)
 
--- ---- checks
+-- ---- looks
 
 module _ {p : Parts} {operator : ℕ} where
-  -- no group is removed, and the effects preserve the groups
+  -- no group is removed, and the effects keep the groups
   pub looked_grown : {Pairs : ℕ → ℕ → Type 0} {before after : Family} {alone : Bool} → HasGrown before after
       → ForPairs p operator before.kept Pairs (KeepsAt p before.kept operator)
       → (alone ≡ true → ForPairs p operator before.kept Pairs (KeepsWithItself p after.basis operator)) → Looked p operator Pairs before after alone
@@ -41,7 +41,7 @@ module _ {p : Parts} {operator : ℕ} where
       → ForPairs p operator family.kept Pairs (λ effect place. ⊥) → Looked p operator Pairs family family alone
   looked_none {Pairs} {family} {alone} none = grind (arith, common_steps, looked_grown, same_grown)
 
-  -- each pair is one of those checked first, or one of those checked then
+  -- each pair is one of those looked at first, or one of those looked at then
   pub looked_then : {First Second Both : ℕ → ℕ → Type 0} {a b c : Family} {x y z : Bool} → Looked p operator First a b x → Looked p operator Second b c y
       → ((effect place : ℕ) → Both effect place → First effect place ⊎ Second effect place)
       → (z ≡ true → (x ≡ true) × (y ≡ true)) → Looked p operator Both a c z
@@ -59,7 +59,7 @@ module _ {p : Parts} {operator : ℕ} where
     ];
   }
 
-  -- other pairs that are among those checked, and what else is known of the basis
+  -- other pairs that are among those looked at, and what else is known of the basis
   pub looked_by : {Pairs Others : ℕ → ℕ → Type 0} {before after : Family} {x y : Bool} → Looked p operator Pairs before after x
       → ((effect place : ℕ) → Others effect place → Pairs effect place)
       → (y ≡ true → (x ≡ true) ⊎ ((effect place : ℕ) → Others effect place → KeepsWithItself p after.basis operator effect place))
@@ -98,7 +98,7 @@ module _ {p : Parts} {operator : ℕ} where
           let (k, lt, at) = all place (subst (λ n. HasFactBeside p place (sets (effect_at (operator_at p operator) n))) is beside) in
           (is, k, omega arith, get_or_default groups k 0 place lt ∙ at)
 
-  -- an operator that was checked with a basis is at rest as long as the groups of the basis are in
+  -- an operator that was looked at with a basis is at rest as long as the groups of the basis are in
   -- the family
   pub rests_on : {before after : Family} {alone : Bool} → IsBasis (length p.groups) after → Looked p operator (IsOfOperator p operator) before after alone → alone ≡ true
       → RestsOn p after.kept after.supports operator
@@ -107,7 +107,7 @@ module _ {p : Parts} {operator : ℕ} where
       (λ n in_basis. All-contains (IsIn p (family_of smaller)) after.supports n all (is_basis.only n in_basis.chosen)) w
       (looked.by_basis t effect place below (inside place w) has)
 
--- the effect doesn't preserve the group, which is removed
+-- the effect doesn't keep the group, which is removed
 module _ (p : Parts) (operator of at : ℕ) (before after : Family) (kept : after.kept ≡ set before.kept at false) (fallen : after.fallen.items ≡ before.fallen.items ++ at ∷ [])
     (basis : after.basis ≡ before.basis) (supports : after.supports ≡ before.supports) (none : after.excluding ≡ []) (capacity : vec_capacity before.fallen ≤ vec_capacity after.fallen)
     (room : FamilyHasRoom p before) (here : IsIn p (family_of before.kept) at) where

@@ -1,4 +1,4 @@
--- The lowest effect that may set another fact of a group, as more effects are checked.
+-- The lowest effect that may set another fact of a group, as more effects are looked at.
 use Rattle.std.proofs.lemmas.Grind.{common_steps}
 use Rattle.sas_mutex.proofs.Imports.{take, take_all, take_more, length-take, get_or-take, get_or_default, Contains-get_or, Contains-push_cases, ◌≡◌, ℕ, ◌+◌, ◌<◌, ◌≤◌, ◌⊎◌, min, Bool, List, length, get_or, refl, sym, ◌∙◌, ap, subst, inl, inr, arith, cases_eq, Contains, Fact, effect_at, group_at, sets, EffectPlace, operator_of, NotBothAt, IsOnVariableBefore, IsLowestPartner, IsAny, SetsVariable}
 

@@ -1,6 +1,7 @@
 -- If an effect requires an old value that is a fact of a group, no other fact of the group can have
 -- held before.
-use Rattle.sas_mutex.proofs.Imports.{◌≡◌, ℕ, ◌<◌, length, List, [], ◌++◌, Bool, Option, Some, subst, refl, sym, ap, ◌∙◌, arith, Contains, filter_map, option_to_list, Contains-append_left, Contains-append_right, Contains-get_or, Change, Fact, Effect, Operator, Parts, operator_at, effect_at, group_at, change_of, WellRanged, old_fact, preconditions, IsIn, Index, AreGone, IsKept, family_of, IsIndexOf, groups_of, in_flat, given_is}
+use Rattle.sas_mutex.proofs.Imports.{◌≡◌, ℕ, ◌<◌, length, List, [], ◌++◌, Bool, Option, Some, subst, refl, sym, ap, ◌∙◌, arith, Contains, filter_map, option_to_list, Contains-append_left, Contains-append_right, Contains-get_or, Change, Fact, Effect, Operator, Parts, operator_at, effect_at, group_at, change_of, WellRanged, old_fact, preconditions, IsIn, Index, AreGone, IsKept, family_of, IsIndexOf, groups_of}
+use Rattle.sas_mutex.proofs.InLists.{in_flat, given_is}
 use Rattle.sas_mutex.proofs.TaskFacts.{known_at_exist}
 use Rattle.sas_mutex.proofs.FromNotes.{known_one_is_all}
 

@@ -1,5 +1,6 @@
 -- The facts that changes set exist, so the index contains their groups.
-use Rattle.sas_mutex.proofs.Imports.{arith, common_steps, rules, ◌≡◌, ℕ, ◌<◌, Bool, List, length, get_or, sym, ◌∙◌, subst, Contains, ◌↔◌, get_or_default, Change, Parts, operator_at, effect_at, change_of, fact_of, FactExists, WellRanged, sets, Index, IsIndexOf, HasFactBeside, larger_groups_of, larger_groups_have, EffectPlace, operator_of, SetsBeside, NotBothAt, BothClashAt, effect_fits}
+use Rattle.sas_mutex.proofs.Imports.{arith, common_steps, rules, ◌≡◌, ℕ, ◌<◌, Bool, List, length, get_or, sym, ◌∙◌, subst, Contains, ◌↔◌, get_or_default, Change, Parts, operator_at, effect_at, change_of, fact_of, FactExists, WellRanged, sets, Index, IsIndexOf, HasFactBeside, larger_groups_of, EffectPlace, operator_of, SetsBeside, NotBothAt, BothClashAt, effect_fits}
+use Rattle.sas_mutex.proofs.Larger.{larger_groups_have}
 
 module _ (p : Parts) (ranged : WellRanged p) (operator effect : ℕ) (exists : operator < length p.operators) (lt : effect < length (operator_at p operator).effects)
     (change : Change) (is : change ≡ change_of (effect_at (operator_at p operator) effect)) where

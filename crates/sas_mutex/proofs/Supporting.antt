@@ -1,5 +1,5 @@
 -- Growing the basis and emptying it.
-use Rattle.sas_mutex.proofs.Imports.{arith, common_steps, rules, ◌≡◌, ℕ, ◌<◌, Bool, true, false, List, [], length, set, refl, sym, subst, inl, inr, cases_eq, cases_lt, true≢false, get_or-set_same, get_or-set_other, get_or_past, get_or, All-nil, All-contains, All, Contains-get_or, Parts, family_of, Excluding, Family, AreNotedWith, IsBasis, IsOfNone, Excludes, HasGrown, Falls, FamilyHasRoom, EffectPlace, Checker, IsChecking}
+use Rattle.sas_mutex.proofs.Imports.{arith, common_steps, rules, ◌≡◌, ℕ, ◌<◌, Bool, true, false, List, [], length, set, refl, sym, subst, inl, inr, cases_eq, cases_lt, true≢false, get_or-set_same, get_or-set_other, get_or_past, get_or, All-nil, All-contains, All, Contains-get_or, Parts, family_of, Excluding, Family, AreNotedWith, IsBasis, IsOfNone, Excludes, HasGrown, Falls, FamilyHasRoom, EffectPlace, Keeping, IsAtEffect}
 use Rattle.sas_mutex.proofs.FallingGroups.{none_fell}
 
 -- a place at which a list is true is one of its places
@@ -31,9 +31,9 @@ same_excluding p before after same room = subst (All (Excludes p before.kept)) (
 pub basis_room : (p : Parts) (before after : Family) → HasGrown before after → after.excluding ≡ before.excluding → FamilyHasRoom p before → FamilyHasRoom p after
 basis_room p before after grown same room = grown_room p before after grown (same_excluding p before after same room) room
 
-pub grown_checking : (f : EffectPlace) (checker : Checker) (after : Family) → HasGrown checker.family after → All (Excludes f.task checker.family.kept) after.excluding
-    → IsChecking f checker → IsChecking f (record { family = after; marks = checker.marks })
-grown_checking f checker after grown excluding checking = grind (arith, grown_room)
+pub grown_at_effect : (f : EffectPlace) (keeping : Keeping) (after : Family) → HasGrown keeping.family after → All (Excludes f.task keeping.family.kept) after.excluding
+    → IsAtEffect f keeping → IsAtEffect f (record { family = after; recorded = keeping.recorded })
+grown_at_effect f keeping after grown excluding at_effect = grind (arith, grown_room)
 
 -- one more is noted
 pub more_excluding : (p : Parts) (kept : List Bool) (before after : List Excluding) (found : Excluding) → All (Excludes p kept) before → Excludes p kept found

@@ -1,5 +1,6 @@
 -- The verdicts after each effect and each operator.
-use Rattle.sas_mutex.proofs.Imports.{rules, common_steps, below_more, ◌≡◌, ◌≢◌, ℕ, ◌+◌, ◌<◌, Bool, true, false, List, [], ◌∷◌, ◌++◌, length, set, refl, sym, ◌∙◌, ap, subst, inl, inr, arith, cases_eq, cases_Bool, both_ways, length_push, get_or_push, get_or_append_left, length-set, get_or-set_same, get_or-set_other, set-set, set-get_or, All-from_get_or, Contains, ◌↔◌, IsTrue, Fact, Operator, Parts, operator_at, effect_at, group_at, EffectKeeps, keeps_from_effects, effect_of_keeps, Marks, IsKept, KeepsWithItself, AreCandidates, AreFirstVerdicts, IsUndecided, KeptSoFar, IsVerdictSoFar, AreVerdictsSoFar, IsNotedFor, known_at, Verdict, Exclusive, Derived, Initial, Broken, Clash, Keeps, sets, MayBeExclusive, IsIn, IsGroupOfOr, IsGreatest, IsJointVerdict, IsFirstVerdict, outside_is_broken, clash_more, GroupNote, Several, family_of, HasFactBeside, verdict_at, AreJointVerdicts, IsGroupNote, at_most_one, get_or_past, cases_lt, Option, None, Some, IsSomeAnd, EffectPlace, Failure, FailsFirst, failure_at, AreFailures, effect_of_failure, IsFirstOfEffectAt, operator_of}
+use Rattle.sas_mutex.proofs.Imports.{rules, common_steps, below_more, ◌≡◌, ◌≢◌, ℕ, ◌+◌, ◌<◌, Bool, true, false, List, [], ◌∷◌, ◌++◌, length, set, refl, sym, ◌∙◌, ap, subst, inl, inr, arith, cases_eq, cases_Bool, both_ways, length_push, get_or_push, get_or_append_left, length-set, get_or-set_same, get_or-set_other, set-set, set-get_or, All-from_get_or, Contains, ◌↔◌, IsTrue, Fact, Operator, Parts, operator_at, effect_at, group_at, EffectKeeps, keeps_from_effects, effect_of_keeps, Recorded, IsKept, KeepsWithItself, AreCandidates, AreFirstVerdicts, IsUndecided, KeptSoFar, IsVerdictSoFar, AreVerdictsSoFar, IsNotedFor, known_at, Verdict, Exclusive, Derived, Initial, Broken, Clash, Keeps, sets, MayBeExclusive, IsIn, IsGroupOfOr, IsGreatest, IsJointVerdict, IsFirstVerdict, outside_is_broken, clash_more, GroupNote, Several, family_of, HasFactBeside, verdict_at, AreJointVerdicts, IsGroupNote, get_or_past, cases_lt, Option, None, Some, IsSomeAnd, EffectPlace, Failure, FailsFirst, failure_at, AreFailures, effect_of_failure, IsFirstOfEffectAt, operator_of}
+use Rattle.sas_mutex.proofs.NotesOfFacts.{at_most_one}
 use Rattle.sas_mutex.proofs.Keeping.{effect_keeps_more, keeps_if_beside}
 use Rattle.sas_mutex.proofs.KnownFacts.{several_clash}
 use Rattle.sas_mutex.proofs.FromNotes.{clash_keeps}
@@ -74,12 +75,12 @@ module _ (p : Parts) (kept : List Bool) (place : ℕ) (exists : place < length p
   clash_never_fires operator effect clash = never_fires operator effect
       (clash_more (IsKept p kept) (IsGroupOfOr p (family_of kept) (group_at p place)) (known_at p operator effect) (λ g counts. inl counts) clash)
 
-  module _ (operator effect : ℕ) (marks : Marks) (noted : IsNotedFor p kept operator effect marks) where
+  module _ (operator effect : ℕ) (recorded : Recorded) (noted : IsNotedFor p kept operator effect recorded) where
     pub several_never_fire : IsGroupNote p (known_at p operator effect) place Several → KeepsWithItself p kept operator effect place
     several_never_fire note = never_fires operator effect (several_clash p (IsGroupOfOr p (family_of kept) (group_at p place)) (known_at p operator effect) place (inr refl) note)
 
     -- where the effect doesn't keep it, nothing clashes for it
-    pub noted_if_broken : (KeepsWithItself p kept operator effect place → ⊥) → IsNotedFor p (set kept place true) operator effect marks
+    pub noted_if_broken : (KeepsWithItself p kept operator effect place → ⊥) → IsNotedFor p (set kept place true) operator effect recorded
     noted_if_broken broken = record {
       are = record {
         noted = noted.are.noted;
@@ -90,8 +91,8 @@ module _ (p : Parts) (kept : List Bool) (place : ℕ) (exists : place < length p
     }
 
     -- nor where not several facts of it are known
-    pub noted_with : (note : GroupNote) → IsGroupNote p (known_at p operator effect) place note → note ≢ Several → IsNotedFor p (set kept place true) operator effect marks
-    noted_with note reports few = record {
+    pub noted_with : (note : GroupNote) → IsGroupNote p (known_at p operator effect) place note → note ≢ Several → IsNotedFor p (set kept place true) operator effect recorded
+    noted_with note shows few = record {
       are = record {
         noted = noted.are.noted;
         apart = λ (f, g, in_f, in_g, why). elim why [
@@ -99,7 +100,7 @@ module _ (p : Parts) (kept : List Bool) (place : ℕ) (exists : place < length p
           | inr one ↦ elim (with_place one.group one.counts) [
             | inl counts ↦ noted.are.apart
                 (f, g, in_f, in_g, inr (record { differ = one.differ; group = one.group; counts = counts; first = one.first; second = one.second }))
-            | inr is ↦ one.differ (at_most_one p (known_at p operator effect) place note reports few f g
+            | inr is ↦ one.differ (at_most_one p (known_at p operator effect) place note shows few f g
                 (record { among = in_f; has = record { exists = exists; among = subst (λ (facts : List Fact). Contains facts f) is one.first } })
                 (record { among = in_g; has = record { exists = exists; among = subst (λ (facts : List Fact). Contains facts g) is one.second } }))
           ]
@@ -115,10 +116,20 @@ put_back kept place was is = set-set kept place true was ∙ (ap (λ (b : Bool).
 -- ---- the verdicts so far
 
 module _ (p : Parts) (kept : List Bool) where
-  -- a verdict that isn't exclusive is judged for good
+  -- a verdict that isn't exclusive is final
   pub decided_for_good : (operator effect operator' effect' place : ℕ) (verdict : Verdict) → (verdict ≢ Exclusive)
       → IsVerdictSoFar p kept operator effect place verdict → IsVerdictSoFar p kept operator' effect' place verdict
   decided_for_good operator effect operator' effect' place h1 ne is = grind arith
+
+  -- before the first operator
+  so_far_first : (place : ℕ) (verdict : Verdict) → IsFirstVerdict p (group_at p place) verdict → IsVerdictSoFar p kept 0 0 place verdict
+  so_far_first place Derived is = is
+  so_far_first place Initial is = is
+  so_far_first place (Broken operator) is = absurd is
+  so_far_first place Exclusive is = (is, λ out. record { operators = λ lower lt. absurd (omega arith); effects = λ lower lt. absurd (omega arith) })
+
+  pub so_far_at_first : (verdicts : List Verdict) → AreFirstVerdicts p verdicts → AreVerdictsSoFar p kept 0 0 verdicts
+  so_far_at_first verdicts first = record { one_each = first.one_each; are = λ place lt. so_far_first place (verdict_at verdicts place) (first.are place lt) }
 
   -- what is kept so far, said again further on
   pub so_far_by : (operator effect operator' effect' place : ℕ) (verdict : Verdict)
@@ -150,40 +161,40 @@ module _ (p : Parts) (kept : List Bool) where
       let next = λ (place : ℕ). so_far_by operator effects (operator + 1) 0 place (verdict_at verdicts place) (λ _. one_operator_more operator effects place all) in
       record { one_each = so_far.one_each; are = λ place lt. next place (so_far.are place lt) }
 
-  -- the effect judged of each group that has the fact which it sets and another one
-  one_effect_judged : (operator effect place : ℕ) (verdict : Verdict) → place < length p.groups
+  -- the effect is considered for each group that has the fact which it sets and another one
+  one_effect_considered : (operator effect place : ℕ) (verdict : Verdict) → place < length p.groups
       → (HasFactBeside p place (sets (effect_at (operator_at p operator) effect)) → IsVerdictSoFar p kept operator (effect + 1) place verdict)
       → IsVerdictSoFar p kept operator effect place verdict → IsVerdictSoFar p kept operator (effect + 1) place verdict
-  one_effect_judged operator effect place Exclusive exists judged is = (
+  one_effect_considered operator effect place Exclusive exists considered is = (
     is.0,
     λ out. one_effect_more operator effect place
         (λ has. keeps_if_beside p (IsGroupOfOr p (family_of kept) (group_at p place)) (operator_at p operator) place (effect_at (operator_at p operator) effect) exists has
-        (λ beside. ((judged beside).1 out).effects effect (omega arith) has)) (is.1 out),
+        (λ beside. ((considered beside).1 out).effects effect (omega arith) has)) (is.1 out),
   )
-  one_effect_judged operator effect place Derived exists judged is = is
-  one_effect_judged operator effect place Initial exists judged is = is
-  one_effect_judged operator effect place (Broken breaking) exists judged is = is
+  one_effect_considered operator effect place Derived exists considered is = is
+  one_effect_considered operator effect place Initial exists considered is = is
+  one_effect_considered operator effect place (Broken breaking) exists considered is = is
 
   pub next_effect : (operator effect : ℕ) (verdicts : List Verdict)
       → ((place : ℕ) → HasFactBeside p place (sets (effect_at (operator_at p operator) effect)) → IsVerdictSoFar p kept operator (effect + 1) place (verdict_at verdicts place))
       → AreVerdictsSoFar p kept operator effect verdicts → AreVerdictsSoFar p kept operator (effect + 1) verdicts
-  next_effect operator effect verdicts judged so_far =
-      let next = λ (place : ℕ) (lt : place < length p.groups). one_effect_judged operator effect place (verdict_at verdicts place) lt (judged place) (so_far.are place lt) in
+  next_effect operator effect verdicts considered so_far =
+      let next = λ (place : ℕ) (lt : place < length p.groups). one_effect_considered operator effect place (verdict_at verdicts place) lt (considered place) (so_far.are place lt) in
       record { one_each = so_far.one_each; are = next }
 
-  -- of a group that is in the family, or of which something is judged, nothing is left to decide
+  -- of a group that is in the family, or whose effect is considered, nothing is left to decide
   pub decided_already : (operator effect place : ℕ) (verdicts : List Verdict) → place < length p.groups → (IsUndecided kept verdicts place → ⊥)
       → IsVerdictSoFar p kept operator effect place (verdict_at verdicts place) → IsVerdictSoFar p kept operator (effect + 1) place (verdict_at verdicts place)
-  decided_already operator effect place verdicts exists judged is = elim (cases_Bool (family_of kept place)) [
+  decided_already operator effect place verdicts exists considered is = elim (cases_Bool (family_of kept place)) [
     | inl here ↦ so_far_by operator effect operator (effect + 1) place (verdict_at verdicts place) (λ out. absurd (out (record { exists = exists; chosen = here }))) is
-    | inr gone ↦ decided_for_good operator effect operator (effect + 1) place (verdict_at verdicts place) (λ e. judged (record { fell = gone; nothing = e })) is
+    | inr gone ↦ decided_for_good operator effect operator (effect + 1) place (verdict_at verdicts place) (λ e. considered (record { fell = gone; nothing = e })) is
   ]
 
-  -- one verdict is judged
-  pub one_judged : (operator effect place : ℕ) (verdicts : List Verdict) (verdict : Verdict) → place < length p.groups
+  -- one verdict more
+  pub one_verdict_more : (operator effect place : ℕ) (verdicts : List Verdict) (verdict : Verdict) → place < length p.groups
       → AreVerdictsSoFar p kept operator effect verdicts → IsVerdictSoFar p kept operator effect place verdict
       → AreVerdictsSoFar p kept operator effect (set verdicts place verdict)
-  one_judged operator effect place verdicts verdict exists so_far is = record {
+  one_verdict_more operator effect place verdicts verdict exists so_far is = record {
     one_each = length-set verdicts place verdict ∙ so_far.one_each;
     are = λ n lt. elim (cases_eq n place) [
       | inl e ↦ subst (λ i. IsVerdictSoFar p kept operator effect i (verdict_at (set verdicts place verdict) i)) (sym e)
@@ -213,12 +224,12 @@ module _ (p : Parts) (kept : List Bool) where
 
   -- ---- in the end
 
-  all_judged : IsGreatest p (family_of kept) → (place : ℕ) → place < length p.groups → (verdict : Verdict)
+  all_joint : IsGreatest p (family_of kept) → (place : ℕ) → place < length p.groups → (verdict : Verdict)
       → IsVerdictSoFar p kept (length p.operators) 0 place verdict → IsJointVerdict p place verdict
-  all_judged greatest place exists Derived is = is
-  all_judged greatest place exists Initial is = is
-  all_judged greatest place exists (Broken operator) is = is
-  all_judged greatest place exists Exclusive is = elim (cases_Bool (family_of kept place)) [
+  all_joint greatest place exists Derived is = is
+  all_joint greatest place exists Initial is = is
+  all_joint greatest place exists (Broken operator) is = is
+  all_joint greatest place exists Exclusive is = elim (cases_Bool (family_of kept place)) [
     | inl here ↦ (family_of kept, greatest, record { exists = exists; chosen = here })
     | inr gone ↦ absurd (outside_is_broken p (family_of kept) place exists greatest (out gone) is.0
         (All-from_get_or (λ (o : Operator). Keeps (IsGroupOfOr p (family_of kept) (group_at p place)) o (group_at p place)) p.operators _ (is.1 (out gone)).operators))
@@ -229,11 +240,11 @@ module _ (p : Parts) (kept : List Bool) where
 
   pub joint_in_the_end : (operators : ℕ) (verdicts : List Verdict) → operators ≡ length p.operators → IsGreatest p (family_of kept)
       → AreVerdictsSoFar p kept operators 0 verdicts → AreJointVerdicts p verdicts
-  joint_in_the_end operators verdicts all greatest so_far = search (rules, arith, all_judged)
+  joint_in_the_end operators verdicts all greatest so_far = search (rules, arith, all_joint)
 
 -- ---- the failures
 
--- before operators are checked no group is broken
+-- before operators are looked at no group is broken
 pub no_failures : (p : Parts) (verdicts : List Verdict) (failures : List (Option Failure)) → AreFirstVerdicts p verdicts → AreFailures p verdicts failures
 no_failures p verdicts failures first place operator lt is = elim (cases_lt place (length p.groups)) [
   | inl exists ↦ absurd (subst (IsFirstVerdict p (group_at p place)) is (first.are place exists))
@@ -253,7 +264,7 @@ one_broken p operator place verdicts before after exists as_many others here fai
       (failures n breaking (omega (arith, lt, as_many)) (sym (get_or-set_other verdicts place n (Broken operator) Exclusive ne) ∙ is))
 ]
 
--- the first failure of the first effect that doesn't preserve the group is that of its operator
+-- the first failure of the first effect that doesn't keep the group is that of its operator
 pub failure_here : (f : EffectPlace) (kept : List Bool) (place : ℕ) (failure : Failure) → IsGreatest f.task (family_of kept)
     → KeptSoFar f.task kept f.operator f.effect place → IsFirstOfEffectAt f kept place failure → FailsFirst f.task place f.operator failure
 failure_here f kept place failure greatest so_far first = (

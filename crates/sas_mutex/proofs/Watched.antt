@@ -1,4 +1,4 @@
--- Which groups operators depend on, as operators are checked and groups are removed.
+-- Which groups operators depend on, as operators are looked at and groups are removed.
 use Rattle.sas_mutex.proofs.Imports.{common_steps, rules, ◌≡◌, ◌≢◌, ◌⊎◌, ℕ, ◌-◌, ◌<◌, ◌≤◌, ◌^◌, Bool, true, List, [], ◌++◌, length, get_or, set, Option, Some, None, refl, sym, ◌∙◌, ap, subst, inl, inr, arith, cases_eq, cases_lt, cases_Bool, length-set, length-append, get_or-set_same, get_or-set_other, get_or-append_right, get_or_append_left, get_or_default, All-nil, All-append, All-weaker, All-contains, Family, Watch, Watches, Falls, newly, IsWithin, IsAtRest, RestsOn, watch_at, since_of, IsLastBelow, AreChained, IsWatchOf, HasWatchFrom, RestsBy, IsOver, IsUnwatched, AreFallen, AreUnwatched, AreWatched, AreMore, IsWatchedAnew, FallenAreUnwatched, StayUnwatched, AreLooseAtRest, Contains-append_left, Contains-append_right, Contains-append_cases, Contains-get_or, All, Contains, Parts, IsIn, family_of}
 use Rattle.sas_mutex.proofs.FallingGroups.{fallen_exist}
 use Rattle.sas_mutex.proofs.Supporting.{kept_below}

@@ -1,16 +1,15 @@
--- The basis: the groups that are assumed besides a group itself. What an effect preserves under
--- this assumption it preserves whichever other groups are removed.
+-- The basis: the groups that are assumed besides a group itself. What an effect keeps under
+-- this assumption it keeps whichever other groups are removed.
 use Rattle.std.specs.Prelude.{◌≡◌, ◌≢◌, ◌⊎◌, ℕ, ◌<◌, Bool, IsTrue, IsFalse, List, length, Contains, All}
 use Rattle.sas_core.specs.declared.parts.Parts.{Parts}
 use Rattle.sas_core.specs.declared.parts.Fact.{Fact}
 use Rattle.sas_core.specs.Grounded.{operator_at, effect_at, group_at}
 use Rattle.sas_groups.specs.Clashes.{Contradict, sets}
-use Rattle.sas_groups.specs.ByFact.{HasFactBeside}
+use Rattle.sas_mutex.specs.ByFact.{HasFactBeside}
 use Rattle.sas_groups.specs.Families.{IsIn}
 use Rattle.sas_mutex.specs.declared.family.Family.{Family}
 use Rattle.sas_mutex.specs.declared.family.Excluding.{Excluding}
-use Rattle.sas_mutex.specs.Effects.{IsKept}
-use Rattle.sas_groups.specs.Runs.{family_of}
+use Rattle.sas_mutex.specs.Kept.{IsKept, family_of}
 
 -- no group of the family contains the fact that the effect sets and another one
 abbrev pub SetsNone : Parts → List Bool → ℕ → ℕ → Type 0

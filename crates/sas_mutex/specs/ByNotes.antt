@@ -9,15 +9,15 @@ use Rattle.sas_core.specs.Changes.{fact_of}
 use Rattle.sas_core.specs.Grounded.{operator_at, effect_at, group_at}
 use Rattle.sas_groups.specs.Clashes.{Clash, Removes}
 use Rattle.sas_groups.specs.Lists.{known}
-use Rattle.sas_mutex.specs.declared.marks.Marks.{Marks}
-use Rattle.sas_groups.specs.declared.notes.Notes.{Notes}
-use Rattle.sas_groups.specs.Checks.{NotBoth, IsGone, HasNoPartner, AreGone}
-use Rattle.sas_mutex.specs.Effects.{IsKept, KeepsAt, KeepsWithItself, EffectPlace, operator_of, effect_of}
-use Rattle.sas_groups.specs.ByVariable.{variable_of}
-use Rattle.sas_groups.specs.Notes.{value_note, AreNotesOf}
-use Rattle.sas_mutex.specs.Marks.{IsNotedFrom}
+use Rattle.sas_mutex.specs.declared.recorded.Recorded.{Recorded}
+use Rattle.sas_mutex.specs.declared.notes.Notes.{Notes}
+use Rattle.sas_groups.specs.Keeping.{NotBoth, IsGone, HasNoPartner, AreGone}
+use Rattle.sas_mutex.specs.Effects.{KeepsAt, KeepsWithItself, EffectPlace, operator_of, effect_of}
+use Rattle.sas_mutex.specs.ByVariable.{variable_of}
+use Rattle.sas_mutex.specs.Notes.{value_note, AreNotesOf}
+use Rattle.sas_mutex.specs.Recorded.{IsNotedFrom}
 use Rattle.sas_groups.specs.Families.{IsIn}
-use Rattle.sas_groups.specs.Runs.{family_of}
+use Rattle.sas_mutex.specs.Kept.{IsKept, family_of}
 
 -- a group of the family contains both facts
 pub record ShareOne (p : Parts) (kept : List Bool) (f g : Fact) : Type 0 where
@@ -53,10 +53,10 @@ known_at p operator effect =
     known (operator_at p operator) (effect_at (operator_at p operator) effect).conditions []
 
 -- exactly the known facts of the effect are recorded, and they don't clash
-pub record IsNotedFor (p : Parts) (kept : List Bool) (operator effect : ℕ) (marks : Marks)
+pub record IsNotedFor (p : Parts) (kept : List Bool) (operator effect : ℕ) (recorded : Recorded)
     : Type 0 where
-  pub are : AreKnown p kept (known_at p operator effect) marks.known
-  pub from : IsNotedFrom p (known_at p operator effect) marks
+  pub are : AreKnown p kept (known_at p operator effect) recorded.known
+  pub from : IsNotedFrom p (known_at p operator effect) recorded
 
 -- the first of the facts, if any, is on the variable of the effect, or a value is recorded for its
 -- variable
@@ -68,15 +68,15 @@ IsDecidedByFirst e facts notes = (first : Fact) (d : Fact) → 0 < length facts
 -- ---- the same for an effect and a group of a task, assuming the groups of the family
 
 -- exactly the known facts of the effect are recorded, and they don't clash
-pub record IsNotedAt (f : EffectPlace) (kept : List Bool) (marks : Marks) : Type 0 where
+pub record IsNotedAt (f : EffectPlace) (kept : List Bool) (recorded : Recorded) : Type 0 where
   pub one_each : length kept ≡ length f.task.groups
-  pub noted : IsNotedFor f.task kept f.operator f.effect marks
+  pub noted : IsNotedFor f.task kept f.operator f.effect recorded
 
 -- the known facts of the effect clash
 abbrev pub NeverFires : EffectPlace → List Bool → Type 0
 NeverFires f kept = Clash (IsKept f.task kept) (known_at f.task f.operator f.effect)
 
--- the effect preserves the group with this index, assuming the family, or the family and the group
+-- the effect keeps the group with this index, assuming the family, or the family and the group
 -- itself
 abbrev pub EffectKeepsGroup : EffectPlace → List Bool → ℕ → Type 0
 EffectKeepsGroup f kept place = KeepsAt f.task kept f.operator f.effect place

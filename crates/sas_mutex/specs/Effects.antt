@@ -1,24 +1,19 @@
--- An effect of a task, and what its check decides.
+-- An effect of a task, and which groups it keeps.
 use Rattle.std.specs.Prelude.{◌≡◌, ℕ, Bool, List, []}
-use Rattle.sas_core.specs.declared.parts.Fact.{Fact}
 use Rattle.sas_core.specs.declared.parts.Parts.{Parts}
 use Rattle.sas_core.specs.Grounded.{operator_at, effect_at, group_at}
-use Rattle.sas_groups.specs.Families.{IsGroupOf, IsGroupOfOr}
-use Rattle.sas_groups.specs.Checks.{EffectKeeps}
-use Rattle.sas_groups.specs.Runs.{family_of}
+use Rattle.sas_groups.specs.Families.{IsGroupOfOr}
+use Rattle.sas_groups.specs.Keeping.{EffectKeeps}
+use Rattle.sas_mutex.specs.Kept.{IsKept, family_of}
 use Rattle.sas_core.specs.declared.parts.Effect.{Effect}
 use Rattle.sas_core.specs.declared.parts.Operator.{Operator}
 
--- the groups of the family
-abbrev pub IsKept : Parts → List Bool → List Fact → Type 0
-IsKept p kept = IsGroupOf p (family_of kept)
-
--- the effect preserves the group, assuming the groups of the family; all are given by their indexes
+-- the effect keeps the group, assuming the groups of the family; all are given by their indexes
 abbrev pub KeepsAt : Parts → List Bool → ℕ → ℕ → ℕ → Type 0
 KeepsAt p kept operator effect place = EffectKeeps (IsKept p kept) (operator_at p operator)
     (group_at p place) (effect_at (operator_at p operator) effect)
 
--- the effect preserves the group, assuming the family and the group itself
+-- the effect keeps the group, assuming the family and the group itself
 abbrev pub KeepsWithItself : Parts → List Bool → ℕ → ℕ → ℕ → Type 0
 KeepsWithItself p kept operator effect place =
     EffectKeeps (IsGroupOfOr p (family_of kept) (group_at p place)) (operator_at p operator)

@@ -1,4 +1,4 @@
--- How an operator fails to preserve a group of facts. The predicate `Counts` selects the groups
+-- How an operator fails to keep a group of facts. The predicate `Counts` selects the groups
 -- that are assumed to be exclusive: facts that clash under this assumption don't hold together.
 use Rattle.std.specs.Prelude.{◌≡◌, ◌≢◌, ◌⊎◌, ℕ, ◌<◌, ◌≤◌, Bool, List, [], ◌∷◌, ◌++◌, length, Option, None, Some, IsSomeAnd, Contains, slice_get, slice_index_or}
 use Rattle.sas_core.specs.declared.parts.Fact.{Fact}
@@ -33,7 +33,7 @@ pub record LetsStay (Counts : List Fact → Type 0) (o : Operator) (group : List
   pub no_clash : Clash Counts (preconditions o ++ e.conditions ++ other ∷ []) → ⊥
   pub stays : IsRemoved o (preconditions o ++ e.conditions ++ other ∷ []) other → ⊥
 
--- the operator fails to preserve the group in this way
+-- the operator fails to keep the group in this way
 abbrev pub IsFailure : (List Fact → Type 0) → Operator → List Fact → Failure → Type 0
 IsFailure Counts o group (SetsTwo effect other) = (effect < length o.effects)
     × (other < length o.effects)
@@ -59,7 +59,7 @@ pub record IsFirstFailure (Counts : List Fact → Type 0) (o : Operator) (group 
   pub fails : IsFailure Counts o group failure
   pub first : (other : Failure) → IsEarlier other failure → IsFailure Counts o group other → ⊥
 
--- the first failure of the operator to preserve the group with this index, assuming the groups of
+-- the first failure of the operator to keep the group with this index, assuming the groups of
 -- the greatest family and the group itself
 abbrev pub FailsFirst : Parts → ℕ → ℕ → Failure → Type 0
 FailsFirst p place operator failure = (family : ℕ → Bool)

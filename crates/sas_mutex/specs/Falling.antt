@@ -1,15 +1,15 @@
--- Removing groups from the family of those that may be preserved jointly.
+-- Removing groups from the family of those that may be kept jointly.
 use Rattle.std.specs.Prelude.{◌≡◌, ℕ, ◌+◌, ◌<◌, ◌≤◌, ◌↔◌, Bool, if◌then◌else◌, IsTrue, List, [], ◌∷◌, ◌++◌, length, drop, All, Contains, vec_capacity}
 use Rattle.sas_core.specs.declared.parts.Parts.{Parts}
 use Rattle.sas_core.specs.Grounded.{operator_at, effect_at, group_at}
 use Rattle.sas_groups.specs.Clashes.{sets}
 use Rattle.sas_groups.specs.Families.{IsIn, IsKeptJointly, MayBeExclusive}
 use Rattle.sas_mutex.specs.declared.family.Family.{Family}
-use Rattle.sas_groups.specs.Runs.{family_of}
+use Rattle.sas_mutex.specs.Kept.{family_of}
 use Rattle.sas_mutex.specs.Effects.{KeepsAt}
 use Rattle.sas_mutex.specs.Basis.{IsBasis, Excludes}
 
--- an operator is at rest if each of its effects preserves each group of the family that contains
+-- an operator is at rest if each of its effects keeps each group of the family that contains
 -- the fact that the effect sets
 abbrev pub IsAtRest : Parts → List Bool → ℕ → Type 0
 IsAtRest p kept operator = (effect : ℕ) → effect < length (operator_at p operator).effects
@@ -41,7 +41,7 @@ abbrev pub newly : Family → Family → List ℕ
 newly before after = drop (length before.fallen.items) after.fallen.items
 
 -- Some groups were removed from the family and appended to `fallen`. None of them is in a family
--- that is preserved jointly and was contained in the family before.
+-- that is kept jointly and was contained in the family before.
 pub record Falls (p : Parts) (before after : Family) : Type 0 where
   pub one_each : length after.kept ≡ length before.kept
   pub behind : after.fallen.items ≡ before.fallen.items ++ newly before after
@@ -62,7 +62,7 @@ abbrev pub IsWithin : Parts → List Bool → List Bool → Type 0
 IsWithin p smaller kept =
     (place : ℕ) → IsIn p (family_of smaller) place → IsIn p (family_of kept) place
 
--- the operator preserves each group of the family, and of any smaller family that contains these
+-- the operator keeps each group of the family, and of any smaller family that contains these
 -- groups
 abbrev pub RestsOn : Parts → List Bool → List ℕ → ℕ → Type 0
 RestsOn p kept groups operator = (smaller : List Bool) → IsWithin p smaller kept

@@ -1,18 +1,18 @@
--- How the first failure of an effect is found, among the effects and facts that were checked.
-use Rattle.std.specs.Prelude.{◌≡◌, ℕ, ◌<◌, ◌≤◌, Bool, List, length, Some, slice_get}
+-- How the first failure of an effect is found, among the effects and facts that were looked at.
+use Rattle.std.specs.Prelude.{◌≡◌, ℕ, ◌<◌, ◌≤◌, Bool, List, length, Some, slice_get, ⊤}
 use Rattle.sas_core.specs.declared.parts.Fact.{Fact}
 use Rattle.sas_core.specs.declared.parts.Operator.{Operator}
 use Rattle.sas_core.specs.Grounded.{group_at}
-use Rattle.sas_groups.specs.ByVariable.{variable_of}
+use Rattle.sas_mutex.specs.ByVariable.{variable_of}
 use Rattle.sas_groups.specs.Families.{IsGroupOfOr}
-use Rattle.sas_groups.specs.Runs.{family_of}
+use Rattle.sas_mutex.specs.Kept.{family_of}
 use Rattle.sas_mutex.specs.declared.failures.Failure.{Failure}
 use Rattle.sas_mutex.specs.declared.failures.Failure.TheVariants.{SetsTwo, MayStay}
 use Rattle.sas_mutex.specs.Effects.{EffectPlace, operator_of}
 use Rattle.sas_mutex.specs.ByNotes.{NotBothAt, IsGoneAt}
 use Rattle.sas_mutex.specs.Failures.{IsFailure, IsEarlier}
 
--- The lowest effect, among those that were checked, that may set a fact of the group on another
+-- The lowest effect, among those that were looked at, that may set a fact of the group on another
 -- variable in the same step; the number of all effects if there is none.
 pub record IsLowestPartner (f : EffectPlace) (kept : List Bool)
     (place : ℕ) (IsLookedAt : ℕ → Type 0)
@@ -23,7 +23,7 @@ pub record IsLowestPartner (f : EffectPlace) (kept : List Bool)
 
 -- all effects
 abbrev pub IsAny : ℕ → Type 0
-IsAny effect = Unit {0}
+IsAny effect = ⊤
 
 -- the effects of the operator that set the variable
 abbrev pub SetsVariable : EffectPlace → ℕ → ℕ → Type 0

@@ -1,27 +1,27 @@
--- The check of effects: which groups they preserve, while others are removed.
+-- Looking at effects: which groups they keep, while others are removed.
 use Rattle.std.specs.Prelude.{◌≡◌, ◌⊎◌, ℕ, ◌<◌, Bool, IsTrue, List, [], length, Contains}
 use Rattle.sas_core.specs.declared.parts.Parts.{Parts}
 use Rattle.sas_core.specs.Grounded.{operator_at, effect_at, group_at}
 use Rattle.sas_groups.specs.Clashes.{sets}
 use Rattle.sas_groups.specs.Families.{IsIn}
-use Rattle.sas_groups.specs.Runs.{family_of}
+use Rattle.sas_mutex.specs.Kept.{family_of}
 use Rattle.sas_mutex.specs.declared.family.Family.{Family}
-use Rattle.sas_mutex.specs.declared.looking.Checker.{Checker}
+use Rattle.sas_mutex.specs.declared.looking.Keeping.{Keeping}
 use Rattle.sas_mutex.specs.Basis.{IsPartOf}
 use Rattle.sas_mutex.specs.ByNotes.{IsNotedAt}
 use Rattle.sas_mutex.specs.Effects.{KeepsAt, KeepsWithItself, IsUnconditional, EffectPlace}
 use Rattle.sas_mutex.specs.Falling.{FamilyHasRoom, Falls, newly}
-use Rattle.sas_mutex.specs.Marks.{IsClean}
+use Rattle.sas_mutex.specs.Recorded.{IsClean}
 
--- between two checks: room for all groups that may be removed, and nothing is recorded
-pub record IsIdle (p : Parts) (checker : Checker) : Type 0 where
-  pub room : FamilyHasRoom p checker.family
-  pub clean : IsClean p checker.marks
+-- between two looks: room for all groups that may be removed, and nothing is recorded
+pub record IsIdle (p : Parts) (keeping : Keeping) : Type 0 where
+  pub room : FamilyHasRoom p keeping.family
+  pub clean : IsClean p keeping.recorded
 
--- while the effect is checked: the same room, and its known facts are recorded and don't clash
-pub record IsChecking (f : EffectPlace) (checker : Checker) : Type 0 where
-  pub room : FamilyHasRoom f.task checker.family
-  pub notes : IsNotedAt f checker.family.kept checker.marks
+-- while the effect is looked at: the same room, and its known facts are recorded and don't clash
+pub record IsAtEffect (f : EffectPlace) (keeping : Keeping) : Type 0 where
+  pub room : FamilyHasRoom f.task keeping.family
+  pub notes : IsNotedAt f keeping.family.kept keeping.recorded
 
 -- the property holds for each of these pairs of an effect of the operator and a group of the family
 -- that contains the fact that the effect sets
@@ -31,8 +31,8 @@ ForPairs p operator kept Pairs Property = (effect place : ℕ) → Pairs effect 
     → Contains (group_at p place) (sets (effect_at (operator_at p operator) effect))
     → Property effect place
 
--- These pairs were checked. Groups were removed from the family, and the basis has grown. If no
--- group was removed, each effect preserves the group of its pair. If `alone`, each does so assuming
+-- These pairs were looked at. Groups were removed from the family, and the basis has grown. If no
+-- group was removed, each effect keeps the group of its pair. If `alone`, each does so assuming
 -- only the basis and the group itself.
 pub record Looked (p : Parts) (operator : ℕ) (Pairs : ℕ → ℕ → Type 0) (before after : Family)
     (alone : Bool) : Type 0 where

@@ -1,11 +1,11 @@
--- Which operators must be checked again when a group is removed: those that watch it.
+-- Which operators must be looked at again when a group is removed: those that watch it.
 use Rattle.std.specs.Prelude.{◌≡◌, ◌≢◌, ◌⊎◌, ℕ, ◌<◌, ◌≤◌, ◌^◌, Bool, true, Option, Some, None, List, [], ◌++◌, length, slice_index_or, All, Contains}
 use Rattle.sas_core.specs.declared.parts.Parts.{Parts}
 use Rattle.sas_groups.specs.Families.{IsIn}
 use Rattle.sas_mutex.specs.declared.family.Family.{Family}
 use Rattle.sas_mutex.specs.declared.watches.Watch.{Watch}
 use Rattle.sas_mutex.specs.declared.watches.Watches.{Watches}
-use Rattle.sas_groups.specs.Runs.{family_of}
+use Rattle.sas_mutex.specs.Kept.{family_of}
 use Rattle.sas_mutex.specs.declared.greatest.Search.{Search}
 use Rattle.sas_mutex.specs.Falling.{IsWithin, IsAtRest}
 use Rattle.sas_mutex.specs.Looking.{IsIdle}
@@ -49,7 +49,7 @@ abbrev pub HasWatchFrom : List Watch → ℕ → ℕ → ℕ → Type 0
 HasWatchFrom made operator start group =
     (place : ℕ) × IsWatchOf made operator start place × ((watch_at made place).group ≡ group)
 
--- the operator preserves each group of any smaller family that contains the groups that it watches
+-- the operator keeps each group of any smaller family that contains the groups that it watches
 -- at or after index `start`
 abbrev pub RestsBy : Parts → List Bool → List Watch → ℕ → ℕ → Type 0
 RestsBy p kept made operator start = (smaller : List Bool) → IsWithin p smaller kept
@@ -57,7 +57,7 @@ RestsBy p kept made operator start = (smaller : List Bool) → IsWithin p smalle
     → IsIn p (family_of smaller) (watch_at made place).group)
     → IsAtRest p smaller operator
 
--- the watch is no longer valid: its operator was checked again, or is loose
+-- the watch is no longer valid: its operator was looked at again, or is loose
 abbrev pub IsOver : Watches → ℕ → Type 0
 IsOver w place = (start : ℕ) → since_of w.since (watch_at w.made place).operator ≡ Some start
     → start ≤ place → ⊥
@@ -96,10 +96,10 @@ pub record AreWatched (p : Parts) (family : Family) (w : Watches) : Type 0 where
   pub rest : (operator start : ℕ) → since_of w.since operator ≡ Some start
       → RestsBy p family.kept w.made operator start
 
--- the same between two checks
+-- the same between two looks
 pub record IsReady (p : Parts) (search : Search) : Type 0 where
-  pub watched : AreWatched p search.checker.family search.watches
-  pub idle : IsIdle p search.checker
+  pub watched : AreWatched p search.keeping.family search.watches
+  pub idle : IsIdle p search.keeping
 
 -- ---- steps
 
@@ -118,7 +118,7 @@ pub record WatchesMore (operator : ℕ) (kept : List Bool) (before after : Watch
   pub few : length after.made < 2 ^ 32
   pub since : after.since ≡ before.since
 
--- the operator was checked: its valid watches, if it isn't loose, are new ones
+-- the operator was looked at: its valid watches, if it isn't loose, are new ones
 pub record IsWatchedAnew (operator : ℕ) (kept : List Bool) (before after : Watches) : Type 0 where
   pub made : AreMore operator kept before.made after.made
   pub now : (start : ℕ) → since_of after.since operator ≡ Some start → length before.made ≤ start

@@ -1,4 +1,4 @@
-// Which groups an effect preserves.
+// Which groups an effect keeps.
 ghost use Rattle.std.specs.Prelude.{◌≡◌, ◌<◌, ◌↔◌, ℕ, Bool, List, length, IsTrue, IsFalse, IfSome, All, Contains};
 ghost use Rattle.std.specs.List.{Any};
 ghost use Rattle.sas_core.specs.Grounded.{operator_at, effect_at};
@@ -6,28 +6,31 @@ ghost use Rattle.sas_core.specs.Changes.{fact_of, plain_effects};
 ghost use Rattle.sas_core.specs.Variables.{FactExists};
 ghost use Rattle.sas_groups.specs.Clashes.{Contradict, Removes, sets};
 ghost use Rattle.sas_groups.specs.Families.{IsIn};
-ghost use Rattle.sas_groups.specs.ByFact.{HasFactBeside};
-ghost use Rattle.sas_groups.specs.ByVariable.{AreOn};
-ghost use Rattle.sas_groups.specs.Index.{groups_of};
+ghost use Rattle.sas_mutex.specs.ByFact.{HasFactBeside};
+ghost use Rattle.sas_mutex.specs.ByVariable.{AreOn};
+ghost use Rattle.sas_mutex.specs.Index.{groups_of};
 ghost use Rattle.sas_groups.specs.Lists.{known_left};
-ghost use Rattle.sas_groups.specs.Runs.{AreOnOne, family_of};
-ghost use Rattle.sas_mutex.specs.Effects.{operator_of, effect_of, IsKept};
-ghost use Rattle.sas_groups.specs.Notes.{IsWide, IsGroupNote};
+ghost use Rattle.sas_mutex.specs.Runs.{AreOnOne};
+ghost use Rattle.sas_mutex.specs.Kept.{family_of, IsKept};
+ghost use Rattle.sas_mutex.specs.Effects.{operator_of, effect_of};
+ghost use Rattle.sas_mutex.specs.Notes.{IsWide, IsGroupNote};
 ghost use Rattle.sas_mutex.specs.ByNotes.{IsMet, SomeRemoves, known_at};
 ghost use Rattle.sas_mutex.specs.ByNotes.{IsNotedAt, EffectKeepsGroup, EffectKeepsGroupWithItself, BothClashAt, NotBothAt};
 ghost use Rattle.sas_mutex.specs.ByNotes.{ClashesAt, SharesBesideAt};
 ghost use Rattle.sas_mutex.specs.ByNotes.{HasNoPartnerAt, IsSingleOn, BeginsRun, IsOnVariableBefore, SetsBeside, SetsOtherValue};
 ghost use Rattle.sas_mutex.specs.ByNotes.{IsGoneAt, AreGoneAt, IsUnknownAt, IsDecidedByFirst, NeverFires};
 ghost use Rattle.sas_mutex.specs.Basis.{SetsNone, Excludes};
-ghost use Rattle.sas_mutex.specs.Marks.{IsClean, IsNotedFrom};
+ghost use Rattle.sas_mutex.specs.Recorded.{IsClean, IsNotedFrom};
 
 use crate::family::Excluding;
-use crate::marks::{Marks, facts_clash};
-use sas_core::{Change, Fact, Grounded, Items};
-use sas_groups::{
-    GroupNote, Index, IndexedTask, Known, Notes, Premises, forget, has_noted, note, set_apart,
-    shares_apart, some_has, wider,
+use crate::index::Index;
+use crate::indexed::IndexedTask;
+use crate::notes::{
+    GroupNote, Notes, forget, has_noted, note, set_apart, shares_apart, some_has, wider,
 };
+use crate::recorded::{Recorded, facts_clash};
+use sas_core::{Change, Fact, Grounded, Items};
+use sas_groups::{Known, Premises};
 use sas_meaning::Layered;
 use std::marker::Model;
 
@@ -49,7 +52,7 @@ impl<'a, 'b, T: Grounded> Model for FiringEffect<'a, 'b, T> {
     ghost use Rattle.sas_core.specs.Changes.{change_of};
     ghost use Rattle.sas_core.specs.Grounded.{operator_at, effect_at};
     ghost use Rattle.sas_core.specs.WellRanged.{WellRanged};
-    ghost use Rattle.sas_groups.specs.Index.{IsIndexOf};
+    ghost use Rattle.sas_mutex.specs.Index.{IsIndexOf};
     ghost use Rattle.sas_mutex.specs.Effects.{EffectPlace};
 
     ghost Value = { EffectPlace };
@@ -97,7 +100,7 @@ impl<'a, 'b, T: Grounded> FiringEffect<'a, 'b, T> {
         indexed.effects_on(self.operator, var)
     }
 
-    /// Returns the groups that contain the fact that the effect sets and another one. The effect preserves all others.
+    /// Returns the groups that contain the fact that the effect sets and another one. The effect keeps all others.
     #[inline(always)]
     pub fn groups(&self) -> &'b [u32]
         ensures { let f = self.now in (place : ℕ)
@@ -124,20 +127,26 @@ impl<'a, 'b, T: Grounded> FiringEffect<'a, 'b, T> {
     /// Records the known facts and returns whether they clash, so that the effect never fires. If they do, not all of them are recorded. A
     /// known fact that many groups contain may be set apart.
     #[inline(always)]
-    pub fn note(&self, kept: &[bool], marks: &mut Marks) -> bool
+    pub fn note(&self, kept: &[bool], recorded: &mut Recorded) -> bool
         requires one_each { length kept.now ≡ length self.now.task.groups }
-        requires clean { IsClean self.now.task marks.old }
+        requires clean { IsClean self.now.task recorded.old }
         ensures yes { IsTrue result → NeverFires self.now kept.now }
-        ensures notes { IsFalse result → IsNotedAt self.now kept.now marks.new }
+        ensures notes { IsFalse result → IsNotedAt self.now kept.now recorded.new }
         ensures from { let f = self.now in
-            IsNotedFrom f.task (known_at f.task f.operator f.effect) marks.new }
+            IsNotedFrom f.task (known_at f.task f.operator f.effect) recorded.new }
     {
-        let widest = self.widest_known(marks.known.some_wide);
+        let widest = self.widest_known(recorded.known.some_wide);
         // All effects are visited to find the preconditions.
-        marks.known.spread = self.task.effects(self.operator) as usize;
-        set_apart(widest, &mut marks.known);
+        recorded.known.spread = self.task.effects(self.operator) as usize;
+        set_apart(widest, &mut recorded.known);
         for fact in self.known() {
-            if !note(self.index, kept, fact, &mut marks.known, &marks.deciding) {
+            if !note(
+                self.index,
+                kept,
+                fact,
+                &mut recorded.known,
+                &recorded.deciding,
+            ) {
                 return true;
             }
         }
@@ -146,19 +155,20 @@ impl<'a, 'b, T: Grounded> FiringEffect<'a, 'b, T> {
 
     /// Removes what is recorded for the known facts.
     #[inline(always)]
-    pub fn forget(&self, marks: &mut Marks)
+    pub fn forget(&self, recorded: &mut Recorded)
         requires from { let f = self.now in
-            IsNotedFrom f.task (known_at f.task f.operator f.effect) marks.old }
-        ensures { IsClean self.now.task marks.new }
+            IsNotedFrom f.task (known_at f.task f.operator f.effect) recorded.old }
+        ensures { IsClean self.now.task recorded.new }
     {
         for fact in self.known() {
-            forget(self.index, fact, &mut marks.known);
+            forget(self.index, fact, &mut recorded.known);
         }
-        marks.known.apart = None;
-        marks.known.spread = 0;
+        recorded.known.apart = None;
+        recorded.known.spread = 0;
     }
 
-    /// Returns the known fact with the most groups among those with many groups. Returns `None` if there is none, or if `some_wide` is false.
+    /// Returns the known fact with the most groups among those with many groups. Returns `None` if there is none, or if `some_wide` is
+    /// false.
     fn widest_known(&self, some_wide: bool) -> Option<Fact>
         ensures { let f = self.now in
             IfSome result (Contains (known_at f.task f.operator f.effect)) }
@@ -186,18 +196,18 @@ impl<'a, 'b, T: Grounded> FiringEffect<'a, 'b, T> {
         Known::new(self.task, &premises)
     }
 
-    /// Returns whether the effect preserves the group, which must be in the family. The known facts must be recorded and must not clash.
+    /// Returns whether the effect keeps the group, which must be in the family. The known facts must be recorded and must not clash.
     #[inline(always)]
-    pub fn keeps_by_notes(&self, kept: &[bool], group: u32, marks: &mut Marks) -> bool
-        requires notes { IsNotedAt self.now kept.now marks.old }
+    pub fn keeps_by_notes(&self, kept: &[bool], group: u32, recorded: &mut Recorded) -> bool
+        requires notes { IsNotedAt self.now kept.now recorded.old }
         requires group { IsIn self.now.task (family_of kept.now) group }
-        ensures notes { IsNotedAt self.now kept.now marks.new }
+        ensures notes { IsNotedAt self.now kept.now recorded.new }
         ensures is { IsTrue result ↔ EffectKeepsGroup self.now kept.now group }
     {
-        self.is_single(kept, group, marks) && self.removes_others(kept, group, marks)
+        self.is_single(kept, group, recorded) && self.removes_others(kept, group, recorded)
     }
 
-    /// Returns true only if the effect preserves the group since the fact excludes all others, as noted. The known facts must be recorded and
+    /// Returns true only if the effect keeps the group since the fact excludes all others, as noted. The known facts must be recorded and
     /// must not clash.
     #[inline(always)]
     pub(crate) fn keeps_by(
@@ -205,35 +215,40 @@ impl<'a, 'b, T: Grounded> FiringEffect<'a, 'b, T> {
         excluding: &Excluding,
         kept: &[bool],
         group: u32,
-        marks: &mut Marks,
+        recorded: &mut Recorded,
     ) -> bool
-        requires notes { IsNotedAt self.now kept.now marks.old }
+        requires notes { IsNotedAt self.now kept.now recorded.old }
         requires group { group < length self.now.task.groups }
         requires excludes { Excludes self.now.task kept.now excluding.now }
-        ensures notes { IsNotedAt self.now kept.now marks.new }
+        ensures notes { IsNotedAt self.now kept.now recorded.new }
         ensures yes { IsTrue result → EffectKeepsGroup self.now kept.now group }
     {
         if excluding.group != group
             || excluding.var != self.change.var
-            || !marks.known.is_apart(excluding.fact)
+            || !recorded.known.is_apart(excluding.fact)
         {
             return false;
         }
-        self.is_single(kept, group, marks)
+        self.is_single(kept, group, recorded)
     }
 
     /// Returns the fact set apart if it excludes all facts of the group that aren't on the variable of the effect. The known facts must be
     /// recorded and must not clash.
-    pub(crate) fn excluding(&self, kept: &[bool], group: u32, marks: &Marks) -> Option<Excluding>
-        requires notes { IsNotedAt self.now kept.now marks.now }
+    pub(crate) fn excluding(
+        &self,
+        kept: &[bool],
+        group: u32,
+        recorded: &Recorded,
+    ) -> Option<Excluding>
+        requires notes { IsNotedAt self.now kept.now recorded.now }
         requires group { group < length self.now.task.groups }
         ensures { IfSome result (Excludes self.now.task kept.now) }
     {
-        let Some(fact) = marks.known.apart else {
+        let Some(fact) = recorded.known.apart else {
             return None;
         };
         for other in self.index.facts_of(self.task, group) {
-            if other.var != self.change.var && !self.excludes(kept, fact, *other, marks) {
+            if other.var != self.change.var && !self.excludes(kept, fact, *other, recorded) {
                 return None;
             }
         }
@@ -245,7 +260,7 @@ impl<'a, 'b, T: Grounded> FiringEffect<'a, 'b, T> {
     }
 
     /// Returns true only if both facts contradict each other, assuming the family.
-    fn excludes(&self, kept: &[bool], fact: Fact, other: Fact, marks: &Marks) -> bool
+    fn excludes(&self, kept: &[bool], fact: Fact, other: Fact, recorded: &Recorded) -> bool
         requires fact { FactExists self.now.task.variables fact }
         requires other { FactExists self.now.task.variables other }
         ensures { IsTrue result → Contradict (IsKept self.now.task kept.now) fact other }
@@ -255,56 +270,61 @@ impl<'a, 'b, T: Grounded> FiringEffect<'a, 'b, T> {
         if other == fact {
             return false;
         }
-        some_has(self.index, kept, other, fact, &marks.deciding)
+        some_has(self.index, kept, other, fact, &recorded.deciding)
     }
 
-    /// Returns whether the effect preserves the group, assuming the family and the group itself. The known facts must be recorded and must
+    /// Returns whether the effect keeps the group, assuming the family and the group itself. The known facts must be recorded and must
     /// not clash. The family is unchanged on return.
     #[inline(always)]
-    pub fn keeps_with_itself(&self, group: u32, kept: &mut Items<bool>, marks: &mut Marks) -> bool
-        requires notes { IsNotedAt self.now kept.old marks.old }
+    pub fn keeps_with_itself(
+        &self,
+        group: u32,
+        kept: &mut Items<bool>,
+        recorded: &mut Recorded,
+    ) -> bool
+        requires notes { IsNotedAt self.now kept.old recorded.old }
         requires group { group < length self.now.task.groups }
         ensures is { IsTrue result ↔ EffectKeepsGroupWithItself self.now kept.old group }
         ensures kept { kept.new ≡ kept.old }
-        ensures notes { IsNotedAt self.now kept.old marks.new }
+        ensures notes { IsNotedAt self.now kept.old recorded.new }
     {
         // Two different facts of the group are known. Since the group is assumed to be exclusive, the effect never fires.
-        if self.noted(group, marks).is_several() {
+        if self.noted(group, recorded).is_several() {
             return true;
         }
         let counts = kept.as_slice()[group as usize];
         kept.set(group as usize, true);
-        let keeps = self.keeps_by_notes(kept.as_slice(), group, marks);
+        let keeps = self.keeps_by_notes(kept.as_slice(), group, recorded);
         kept.set(group as usize, counts);
         keeps
     }
 
     /// Returns which of the known facts the group contains.
     #[inline(always)]
-    pub fn noted(&self, group: u32, marks: &Marks) -> GroupNote
-        requires wide { IsWide self.now.task marks.now.known }
+    pub fn noted(&self, group: u32, recorded: &Recorded) -> GroupNote
+        requires wide { IsWide self.now.task recorded.now.known }
         requires group { group < length self.now.task.groups }
-        ensures { let f = self.now in (kept : List Bool) → IsNotedAt f kept marks.now
+        ensures { let f = self.now in (kept : List Bool) → IsNotedAt f kept recorded.now
             → IsGroupNote f.task (known_at f.task f.operator f.effect) group result }
     {
-        marks.known.noted(self.index, group)
+        recorded.known.noted(self.index, group)
     }
 
     /// Returns whether no effect that may fire together with this one sets another fact of the group on another variable. For a large
-    /// operator, only effects on variables of the group are checked if the group has fewer facts than the operator has effects.
+    /// operator, only effects on variables of the group are looked at if the group has fewer facts than the operator has effects.
     #[inline(always)]
-    fn is_single(&self, kept: &[bool], group: u32, marks: &mut Marks) -> bool
-        requires notes { IsNotedAt self.now kept.now marks.old }
+    fn is_single(&self, kept: &[bool], group: u32, recorded: &mut Recorded) -> bool
+        requires notes { IsNotedAt self.now kept.now recorded.old }
         requires group { group < length self.now.task.groups }
-        ensures notes { IsNotedAt self.now kept.now marks.new }
+        ensures notes { IsNotedAt self.now kept.now recorded.new }
         ensures is { IsTrue result ↔ HasNoPartnerAt self.now kept.now group }
     {
         if self.has_more_effects(group) {
-            return self.is_single_by_facts(kept, group, marks);
+            return self.is_single_by_facts(kept, group, recorded);
         }
         match self.task.plain_changes(self.operator) {
-            Some(changes) => self.is_single_of_changes(kept, group, changes, marks),
-            None => self.is_single_of_all(kept, group, marks),
+            Some(changes) => self.is_single_of_changes(kept, group, changes, recorded),
+            None => self.is_single_of_all(kept, group, recorded),
         }
     }
 
@@ -315,9 +335,9 @@ impl<'a, 'b, T: Grounded> FiringEffect<'a, 'b, T> {
         kept: &[bool],
         group: u32,
         changes: &[Change],
-        marks: &Marks,
+        recorded: &Recorded,
     ) -> bool
-        requires notes { IsNotedAt self.now kept.now marks.now }
+        requires notes { IsNotedAt self.now kept.now recorded.now }
         requires group { group < length self.now.task.groups }
         requires plain { (operator_of self.now).effects ≡ plain_effects changes.now }
         ensures { IsTrue result ↔ HasNoPartnerAt self.now kept.now group }
@@ -345,35 +365,35 @@ impl<'a, 'b, T: Grounded> FiringEffect<'a, 'b, T> {
         facts.len() < self.task.effects(self.operator) as usize
     }
 
-    /// `is_single` by checking all effects.
+    /// `is_single` by looking at all effects.
     #[inline(always)]
-    fn is_single_of_all(&self, kept: &[bool], group: u32, marks: &mut Marks) -> bool
-        requires notes { IsNotedAt self.now kept.now marks.old }
+    fn is_single_of_all(&self, kept: &[bool], group: u32, recorded: &mut Recorded) -> bool
+        requires notes { IsNotedAt self.now kept.now recorded.old }
         requires group { group < length self.now.task.groups }
-        ensures notes { IsNotedAt self.now kept.now marks.new }
+        ensures notes { IsNotedAt self.now kept.now recorded.new }
         ensures is { IsTrue result ↔ HasNoPartnerAt self.now kept.now group }
     {
         for other in 0..self.task.effects(self.operator) {
-            if !self.not_both(kept, other, group, marks) {
+            if !self.not_both(kept, other, group, recorded) {
                 return false;
             }
         }
         true
     }
 
-    /// `is_single` by checking the effects on each variable of the group. The facts of the group are sorted, so facts on the same variable
-    /// are adjacent.
+    /// `is_single` by looking at the effects on each variable of the group. The facts of the group are sorted, so facts on the same
+    /// variable are adjacent.
     #[inline(never)]
-    fn is_single_by_facts(&self, kept: &[bool], group: u32, marks: &mut Marks) -> bool
-        requires notes { IsNotedAt self.now kept.now marks.old }
+    fn is_single_by_facts(&self, kept: &[bool], group: u32, recorded: &mut Recorded) -> bool
+        requires notes { IsNotedAt self.now kept.now recorded.old }
         requires group { group < length self.now.task.groups }
-        ensures notes { IsNotedAt self.now kept.now marks.new }
+        ensures notes { IsNotedAt self.now kept.now recorded.new }
         ensures is { IsTrue result ↔ HasNoPartnerAt self.now kept.now group }
     {
         let facts = self.index.facts_of(self.task, group);
         for place in 0..facts.len() {
             if begins_run(facts, place)
-                && !self.is_single_on(kept, group, facts[place].var, marks)
+                && !self.is_single_on(kept, group, facts[place].var, recorded)
             {
                 return false;
             }
@@ -382,19 +402,19 @@ impl<'a, 'b, T: Grounded> FiringEffect<'a, 'b, T> {
     }
 
     /// Returns whether no effect on variable `var` that may fire together with this one sets another fact of the group on another variable.
-    fn is_single_on(&self, kept: &[bool], group: u32, var: u32, marks: &mut Marks) -> bool
-        requires notes { IsNotedAt self.now kept.now marks.old }
+    fn is_single_on(&self, kept: &[bool], group: u32, var: u32, recorded: &mut Recorded) -> bool
+        requires notes { IsNotedAt self.now kept.now recorded.old }
         requires group { group < length self.now.task.groups }
-        ensures notes { IsNotedAt self.now kept.now marks.new }
+        ensures notes { IsNotedAt self.now kept.now recorded.new }
         ensures yes { IsTrue result → IsSingleOn self.now kept.now group var }
         ensures no { IsFalse result → HasNoPartnerAt self.now kept.now group → ⊥ }
     {
         let Some(effects) = self.effects_on(var) else {
-            return self.is_single_of_all(kept, group, marks);
+            return self.is_single_of_all(kept, group, recorded);
         };
         for other in effects {
             if *other < self.task.effects(self.operator)
-                && !self.not_both(kept, *other, group, marks)
+                && !self.not_both(kept, *other, group, recorded)
             {
                 return false;
             }
@@ -404,15 +424,15 @@ impl<'a, 'b, T: Grounded> FiringEffect<'a, 'b, T> {
 
     /// Returns whether the other effect can't set a fact of the group on another variable in the same step in which this effect fires.
     #[inline(always)]
-    pub fn not_both(&self, kept: &[bool], other: u32, group: u32, marks: &mut Marks) -> bool
-        requires notes { IsNotedAt self.now kept.now marks.old }
+    pub fn not_both(&self, kept: &[bool], other: u32, group: u32, recorded: &mut Recorded) -> bool
+        requires notes { IsNotedAt self.now kept.now recorded.old }
         requires other { other < length (operator_of self.now).effects }
         requires group { group < length self.now.task.groups }
-        ensures notes { IsNotedAt self.now kept.now marks.new }
+        ensures notes { IsNotedAt self.now kept.now recorded.new }
         ensures is { IsTrue result ↔ NotBothAt self.now kept.now other group }
     {
         let change = self.task.effect_change(self.operator, other);
-        !self.sets_beside(change, group) || self.both_clash(kept, other, marks)
+        !self.sets_beside(change, group) || self.both_clash(kept, other, recorded)
     }
 
     /// Returns whether the change sets a fact of the group on another variable than this effect.
@@ -428,31 +448,37 @@ impl<'a, 'b, T: Grounded> FiringEffect<'a, 'b, T> {
 
     /// Returns whether the known facts of both effects clash, so that they can't fire together. The known facts of this effect don't clash.
     /// So either a condition of the other effect clashes with them, or its conditions clash with each other.
-    fn both_clash(&self, kept: &[bool], other: u32, marks: &mut Marks) -> bool
-        requires notes { IsNotedAt self.now kept.now marks.old }
+    fn both_clash(&self, kept: &[bool], other: u32, recorded: &mut Recorded) -> bool
+        requires notes { IsNotedAt self.now kept.now recorded.old }
         requires other { other < length (operator_of self.now).effects }
-        ensures notes { IsNotedAt self.now kept.now marks.new }
+        ensures notes { IsNotedAt self.now kept.now recorded.new }
         ensures is { IsTrue result ↔ BothClashAt self.now kept.now other }
     {
         let second = self.task.effect_conditions(self.operator, other);
-        if self.some_clashes(kept, second, marks) {
+        if self.some_clashes(kept, second, recorded) {
             return true;
         }
         let indexed = IndexedTask {
             task: self.task,
             index: self.index,
         };
-        facts_clash(&indexed, kept, second, &mut marks.others, &marks.deciding)
+        facts_clash(
+            &indexed,
+            kept,
+            second,
+            &mut recorded.others,
+            &recorded.deciding,
+        )
     }
 
     /// Returns whether one of these facts clashes with the known facts of this effect.
-    fn some_clashes(&self, kept: &[bool], facts: &[Fact], marks: &Marks) -> bool
-        requires notes { IsNotedAt self.now kept.now marks.now }
+    fn some_clashes(&self, kept: &[bool], facts: &[Fact], recorded: &Recorded) -> bool
+        requires notes { IsNotedAt self.now kept.now recorded.now }
         requires exist { All (FactExists self.now.task.variables) facts.now }
         ensures { IsTrue result ↔ Any (ClashesAt self.now kept.now) facts.now }
     {
         for fact in facts {
-            if self.clashes(kept, *fact, marks) {
+            if self.clashes(kept, *fact, recorded) {
                 return true;
             }
         }
@@ -461,37 +487,43 @@ impl<'a, 'b, T: Grounded> FiringEffect<'a, 'b, T> {
 
     /// Returns whether the fact clashes with the known facts of this effect.
     #[inline(always)]
-    fn clashes(&self, kept: &[bool], fact: Fact, marks: &Marks) -> bool
-        requires notes { IsNotedAt self.now kept.now marks.now }
+    fn clashes(&self, kept: &[bool], fact: Fact, recorded: &Recorded) -> bool
+        requires notes { IsNotedAt self.now kept.now recorded.now }
         requires fact { FactExists self.now.task.variables fact }
         ensures { IsTrue result ↔ ClashesAt self.now kept.now fact }
     {
         // For the proof: accessing a field makes the invariant of the effect available.
         let _ = &self.task;
-        match marks.known.values.as_slice()[fact.var as usize] {
+        match recorded.known.values.as_slice()[fact.var as usize] {
             Some(value) => value != fact.value,
             None => {
-                self.shares_beside(kept, fact, marks)
-                    || shares_apart(self.index, kept, fact, marks.known.apart, &marks.deciding)
+                self.shares_beside(kept, fact, recorded)
+                    || shares_apart(
+                        self.index,
+                        kept,
+                        fact,
+                        recorded.known.apart,
+                        &recorded.deciding,
+                    )
             }
         }
     }
 
     /// Returns whether a group of the family contains both the fact and a known fact other than the one set apart. Searches the groups of
     /// the fact, or those of the known facts if they are fewer.
-    fn shares_beside(&self, kept: &[bool], fact: Fact, marks: &Marks) -> bool
-        requires notes { IsNotedAt self.now kept.now marks.now }
+    fn shares_beside(&self, kept: &[bool], fact: Fact, recorded: &Recorded) -> bool
+        requires notes { IsNotedAt self.now kept.now recorded.now }
         requires fact { FactExists self.now.task.variables fact }
-        ensures { IsTrue result ↔ SharesBesideAt self.now kept.now fact marks.now.known.apart }
+        ensures { IsTrue result ↔ SharesBesideAt self.now kept.now fact recorded.now.known.apart }
     {
         let groups = self.index.groups_of(fact);
-        if groups.len() <= marks.known.spread {
-            let noted = marks.known.groups.as_slice();
-            return has_noted(groups, kept, noted, &marks.deciding);
+        if groups.len() <= recorded.known.spread {
+            let noted = recorded.known.groups.as_slice();
+            return has_noted(groups, kept, noted, &recorded.deciding);
         }
         for known in self.known() {
-            if !marks.known.is_apart(known)
-                && some_has(self.index, kept, known, fact, &marks.deciding)
+            if !recorded.known.is_apart(known)
+                && some_has(self.index, kept, known, fact, &recorded.deciding)
             {
                 return true;
             }
@@ -501,12 +533,12 @@ impl<'a, 'b, T: Grounded> FiringEffect<'a, 'b, T> {
 
     /// Returns whether no other fact of the group can remain when this effect fires. Usually an old value decides this immediately.
     #[inline(always)]
-    pub fn removes_others(&self, kept: &[bool], group: u32, marks: &Marks) -> bool
-        requires notes { IsNotedAt self.now kept.now marks.now }
+    pub fn removes_others(&self, kept: &[bool], group: u32, recorded: &Recorded) -> bool
+        requires notes { IsNotedAt self.now kept.now recorded.now }
         requires group { IsIn self.now.task (family_of kept.now) group }
         ensures { IsTrue result ↔ AreGoneAt self.now kept.now group }
     {
-        self.requires_one_of(group) || self.none_stays(kept, group, marks)
+        self.requires_one_of(group) || self.none_stays(kept, group, recorded)
     }
 
     /// Returns whether the effect requires an old value that is a fact of the group. Then no fact of the group on another variable can have
@@ -529,22 +561,22 @@ impl<'a, 'b, T: Grounded> FiringEffect<'a, 'b, T> {
         }
     }
 
-    /// `removes_others`, checking the facts of the group.
-    fn none_stays(&self, kept: &[bool], group: u32, marks: &Marks) -> bool
-        requires notes { IsNotedAt self.now kept.now marks.now }
+    /// `removes_others` by looking at the facts of the group.
+    fn none_stays(&self, kept: &[bool], group: u32, recorded: &Recorded) -> bool
+        requires notes { IsNotedAt self.now kept.now recorded.now }
         requires group { IsIn self.now.task (family_of kept.now) group }
         ensures { IsTrue result ↔ AreGoneAt self.now kept.now group }
     {
         // For the proof: accessing a field makes the invariant of the effect available.
         let _ = &self.task;
         // If a fact of the group is known, it contradicts all others.
-        if let Some(fact) = self.noted(group, marks).only() {
-            return self.is_gone(kept, fact, marks);
+        if let Some(fact) = self.noted(group, recorded).only() {
+            return self.is_gone(kept, fact, recorded);
         }
         let mut left = self.index.facts_of(self.task, group);
         for length in self.index.runs.as_slice()[group as usize].as_slice() {
             let (run, rest) = left.split_at(*length as usize);
-            if !self.run_is_gone(kept, run, marks) {
+            if !self.run_is_gone(kept, run, recorded) {
                 return false;
             }
             left = rest;
@@ -552,10 +584,10 @@ impl<'a, 'b, T: Grounded> FiringEffect<'a, 'b, T> {
         true
     }
 
-    /// Returns whether none of these facts can remain. They must be on one variable, and none of them may be known. If it is the variable of
-    /// the effect, or another value of it is known, no fact needs to be checked.
-    fn run_is_gone(&self, kept: &[bool], run: &[Fact], marks: &Marks) -> bool
-        requires notes { IsNotedAt self.now kept.now marks.now }
+    /// Returns whether none of these facts can remain. They must be on one variable, and none of them may be known. If it is the variable
+    /// of the effect, or another value of it is known, no fact needs to be looked at.
+    fn run_is_gone(&self, kept: &[bool], run: &[Fact], recorded: &Recorded) -> bool
+        requires notes { IsNotedAt self.now kept.now recorded.now }
         requires exist { All (FactExists self.now.task.variables) run.now }
         requires one { AreOnOne run.now }
         requires unknown { All (IsUnknownAt self.now) run.now }
@@ -563,11 +595,11 @@ impl<'a, 'b, T: Grounded> FiringEffect<'a, 'b, T> {
     {
         // For the proof: accessing a field makes the invariant of the effect available.
         let _ = &self.index;
-        if self.is_settled(run, &marks.known) {
+        if self.is_settled(run, &recorded.known) {
             return true;
         }
         for fact in run {
-            if !self.is_gone(kept, *fact, marks) {
+            if !self.is_gone(kept, *fact, recorded) {
                 return false;
             }
         }
@@ -591,19 +623,19 @@ impl<'a, 'b, T: Grounded> FiringEffect<'a, 'b, T> {
 
     /// Returns whether the fact can't remain when the effect fires. True if the fact is on the variable of the effect.
     #[inline(always)]
-    pub fn is_gone(&self, kept: &[bool], fact: Fact, marks: &Marks) -> bool
-        requires notes { IsNotedAt self.now kept.now marks.now }
+    pub fn is_gone(&self, kept: &[bool], fact: Fact, recorded: &Recorded) -> bool
+        requires notes { IsNotedAt self.now kept.now recorded.now }
         requires fact { FactExists self.now.task.variables fact }
         ensures { IsTrue result ↔ IsGoneAt self.now kept.now fact }
     {
         if self.change.var == fact.var {
             return true;
         }
-        self.clashes(kept, fact, marks) || self.is_removed(fact, &marks.known)
+        self.clashes(kept, fact, recorded) || self.is_removed(fact, &recorded.known)
     }
 
     /// Returns whether some effect of the operator removes the fact: it sets the variable of the fact to another value, and each of its
-    /// conditions is this fact or is recorded. For a large operator, only effects on that variable are checked.
+    /// conditions is this fact or is recorded. For a large operator, only effects on that variable are looked at.
     #[inline(always)]
     fn is_removed(&self, fact: Fact, notes: &Notes) -> bool
         requires wide { IsWide self.now.task notes.now }
@@ -619,7 +651,7 @@ impl<'a, 'b, T: Grounded> FiringEffect<'a, 'b, T> {
         }
     }
 
-    /// `is_removed` by checking all effects of the operator.
+    /// `is_removed` by looking at all effects of the operator.
     #[inline(always)]
     fn some_removes(&self, fact: Fact, notes: &Notes) -> bool
         requires wide { IsWide self.now.task notes.now }

@@ -1,11 +1,15 @@
-// The family: the groups that may still be preserved jointly.
-ghost use Rattle.std.specs.Prelude.{◌≡◌, ◌≤◌, ◌+◌, ◌++◌, [], ◌∷◌, false, ℕ, ◌<◌, length, IsTrue, All, slice_set, vec_capacity};
-ghost use Rattle.sas_groups.specs.Runs.{family_of};
+// The family: the groups that may still be kept jointly.
+ghost use Rattle.std.specs.Prelude.{◌≡◌, ◌≤◌, ◌+◌, ◌++◌, [], ◌∷◌, false, ℕ, ◌<◌, length, IsTrue, IfOk, All, ◌↔◌, slice_set, vec_capacity};
+ghost use Rattle.sas_groups.specs.declared.verdict.Verdict.TheVariants.{Exclusive};
+ghost use Rattle.sas_groups.specs.Verdicts.{verdict_at};
+ghost use Rattle.sas_mutex.specs.Kept.{family_of};
 ghost use Rattle.sas_mutex.specs.Falling.{count};
 ghost use Rattle.sas_mutex.specs.Basis.{AreNotedWith, IsBasis, IsPartOf, HasGrown, IsOfNone, IsWithout};
 
+use crate::deciding::MOST_GROUPS;
 use sas_core::{Fact, Items};
-use sas_groups::MOST_GROUPS;
+use sas_groups::Verdict;
+use std::alloc::{AllocError, Global};
 
 /// A fact that contradicts all facts of a group that are on other variables than `var`, assuming a family.
 #[derive(Clone, Copy)]
@@ -16,17 +20,17 @@ pub struct Excluding {
 }
 
 /// At most so many of them are noted.
-pub const MOST_EXCLUDING: usize = 8;
+const MOST_EXCLUDING: usize = 8;
 
-/// The groups that may still be preserved jointly, and those that were removed.
+/// The groups that may still be kept jointly, and those that were removed.
 #[derive(Drop)]
 pub struct Family {
     /// For each group, whether it is in the family.
     pub kept: Items<bool>,
     /// The removed groups, in the order of their removal.
     pub fallen: Vec<u32>,
-    /// The groups that are assumed besides a group itself to check whether an effect preserves the group whichever others are removed.
-    /// They are those on which the current operator depends, as far as it was checked.
+    /// The groups that are assumed besides a group itself to find whether an effect keeps the group whichever others are removed.
+    /// They are those on which the current operator depends, as far as it was looked at.
     pub basis: Items<bool>,
     /// The groups of the basis as a list. They are few.
     pub supports: Items<u32>,
@@ -35,6 +39,19 @@ pub struct Family {
     pub is_short: bool,
     /// Facts that exclude others, as found since a group was removed last. What one operator has found, others need not find again.
     pub excluding: Items<Excluding>,
+}
+
+/// Returns for each verdict whether it is `Exclusive`.
+fn exclusive_of(alloc: Global, verdicts: &[Verdict]) -> Result<Items<bool>, AllocError>
+    ensures one_each { IfOk result (λ kept. length kept ≡ length verdicts.now) }
+    ensures exclusive { IfOk result (λ kept. (place : ℕ) → place < length verdicts.now
+        → IsTrue (family_of kept place) ↔ (verdict_at verdicts.now place ≡ Exclusive)) }
+{
+    let mut kept = Items::from_vec(Vec::with_capacity(alloc, verdicts.len())?);
+    for verdict in verdicts {
+        kept.push(*verdict == Verdict::Exclusive)?;
+    }
+    Ok(kept)
 }
 
 /// Removes these groups from a family.
@@ -48,6 +65,29 @@ fn take_out(list: &mut Items<bool>, groups: &[u32])
 }
 
 impl Family {
+    /// Returns the family of the groups that may be exclusive, by the verdicts before operators are looked at.
+    pub fn new(alloc: Global, verdicts: &[Verdict]) -> Result<Family, AllocError>
+        ensures one_each { IfOk result (λ family. length family.kept ≡ length verdicts.now) }
+        ensures exclusive { IfOk result (λ family. (place : ℕ) → place < length verdicts.now
+            → IsTrue (family_of family.kept place)
+            ↔ (verdict_at verdicts.now place ≡ Exclusive)) }
+        ensures none { IfOk result (λ family. family.fallen.items ≡ []) }
+        ensures room { IfOk result
+            (λ family. length verdicts.now ≤ vec_capacity family.fallen) }
+        ensures of_none { IfOk result (λ family. IsOfNone (length verdicts.now) family.basis) }
+        ensures free { IfOk result (λ family. family.supports ≡ []) }
+        ensures excluding { IfOk result (λ family. family.excluding ≡ []) }
+    {
+        Ok(Family {
+            kept: exclusive_of(alloc, verdicts)?,
+            fallen: Vec::with_capacity(alloc, verdicts.len())?,
+            basis: Items::from_vec(vec![in alloc; false; verdicts.len()]?),
+            supports: Items::from_vec(Vec::with_capacity(alloc, MOST_GROUPS)?),
+            is_short: false,
+            excluding: Items::from_vec(Vec::with_capacity(alloc, MOST_EXCLUDING)?),
+        })
+    }
+
     /// Returns whether the group is in the family.
     #[inline(always)]
     pub fn has(&self, group: u32) -> bool

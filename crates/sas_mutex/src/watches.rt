@@ -1,12 +1,12 @@
-// Which operators must be checked again when a group is removed.
-ghost use Rattle.std.specs.Prelude.{◌≡◌, ◌<◌, ◌≤◌, ◌++◌, ◌∷◌, ◌^◌, ℕ, [], length, IsTrue, IsFalse, IfOk, All, Some, None, slice_index_or, slice_set};
+// Which operators must be looked at again when a group is removed.
+ghost use Rattle.std.specs.Prelude.{◌≡◌, ◌<◌, ◌≤◌, ◌++◌, ◌∷◌, ◌^◌, ℕ, [], length, IsTrue, IsFalse, IfOk, All, Some, None, slice_index_or, slice_set, replicate};
 ghost use Rattle.sas_mutex.specs.Watching.{AreChained, AreUnwatched, HasWatchFrom, WatchesMore, since_of};
 
 use crate::family::Family;
 use sas_core::Items;
 use std::alloc::{AllocError, Global};
 
-/// The operator must be checked again if the group is removed.
+/// The operator must be looked at again if the group is removed.
 #[derive(Clone, Copy)]
 pub struct Watch {
     pub group: u32,
@@ -21,8 +21,8 @@ pub struct Watches {
     pub made: Items<Watch>,
     /// For each group, the index of its last watch.
     pub last: Items<Option<u32>>,
-    /// For each operator, the index of its first valid watch. As long as all groups that it watches are in the family, it preserves each
-    /// group of the family. An operator without such an index is loose: it depends on more groups than are recorded, or wasn't checked yet.
+    /// For each operator, the index of its first valid watch. As long as all groups that it watches are in the family, it keeps each group
+    /// of the family. An operator without such an index is loose: it depends on more groups than are recorded, or wasn't looked at yet.
     pub since: Items<Option<u32>>,
     /// The maximum number of watches.
     pub room: usize,
@@ -34,16 +34,26 @@ const WATCHES_EACH: usize = 2;
 /// The index of a watch must fit into a `u32`.
 const MOST_WATCHES: usize = u32::MAX as usize - 1;
 
+/// Returns `None` for each of this many groups or operators.
+fn none_each(alloc: Global, count: u32) -> Result<Items<Option<u32>>, AllocError>
+    ensures { IfOk result (λ list. list ≡ replicate count None) }
+{
+    Ok(Items::from_vec(vec![in alloc; None; count as usize]?))
+}
+
 impl Watches {
     /// Returns no watches for this many groups and operators. All operators are loose. Allocates all memory that will be needed.
     pub fn new(alloc: Global, groups: u32, operators: u32) -> Result<Watches, AllocError>
         ensures { IfOk result (λ watches. AreUnwatched groups operators watches) }
     {
         let room = (operators as usize).saturating_mul(WATCHES_EACH);
+        let last = none_each(alloc, groups)?;
+        let since = none_each(alloc, operators)?;
+        let made = Items::from_vec(Vec::with_capacity(alloc, room)?);
         Ok(Watches {
-            made: Items::from_vec(Vec::with_capacity(alloc, room)?),
-            last: Items::from_vec(vec![in alloc; None; groups as usize]?),
-            since: Items::from_vec(vec![in alloc; None; operators as usize]?),
+            made,
+            last,
+            since,
             room,
         })
     }

@@ -12,8 +12,8 @@ no_reason h1 is = grind arith
 
 same_if_any : (p : Parts) (place : ℕ) (verdict : Verdict) (a b : Option Reason) → IsReasonIfAny p place verdict a → IsReasonIfAny p place verdict b → a ≡ b
 same_if_any p place verdict None None is_a is_b = refl
-same_if_any p place verdict None (Some b) is_a is_b = absurd (no_reason b (sym is_a ∙ is_b.reported))
-same_if_any p place verdict (Some a) None is_a is_b = absurd (no_reason a (sym is_b ∙ is_a.reported))
+same_if_any p place verdict None (Some b) is_a is_b = absurd (no_reason b (sym is_a ∙ is_b.of))
+same_if_any p place verdict (Some a) None is_a is_b = absurd (no_reason a (sym is_b ∙ is_a.of))
 same_if_any p place verdict (Some a) (Some b) is_a is_b = ap (λ (r : Reason). Some r) (one_reason p place verdict a b is_a is_b)
 
 pub one_reasons : (p : Parts) (verdicts : List Verdict) (a b : List (Option Reason)) → AreReasons p verdicts a → AreReasons p verdicts b → a ≡ b

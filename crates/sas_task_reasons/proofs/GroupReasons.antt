@@ -87,7 +87,7 @@ one_says p place (Breaks operator failure) (Breaks operator' failure') same (fam
     is = cc
 
 pub one_reason : (p : Parts) (place : ℕ) (verdict : Verdict) (a b : Reason) → IsReason p place verdict a → IsReason p place verdict b → a ≡ b
-one_reason p place verdict a b reason reason' = one_says p place a b (sym reason.reported ∙ reason'.reported) reason.says reason'.says
+one_reason p place verdict a b reason reason' = one_says p place a b (sym reason.of ∙ reason'.of) reason.says reason'.says
 
 pub some_reason : (p : Parts) (place : ℕ) (verdict : Verdict) → place < length p.groups → IsJointVerdict p place verdict → verdict ≢ Exclusive
     → ((reason : Reason) → IsReason p place verdict reason → ⊥) → ⊥
@@ -95,15 +95,15 @@ some_reason p place Exclusive exists joint apart none = apart refl
 some_reason p place Derived exists joint apart none =
     elim (found_or_not (find (λ (f : Fact). is_some (layer_of p.variables f.var)) (group_at p place))) [
       | inl nothing ↦ joint (all_basic p (group_at p place) nothing)
-      | inr (fact, found) ↦ none (OnDerived fact) (record { reported = refl; says = found })
+      | inr (fact, found) ↦ none (OnDerived fact) (record { of = refl; says = found })
     ]
 some_reason p place Initial exists joint apart none = elim (found_or_not (find (holds p.init) (group_at p place))) [
   | inl nothing ↦ joint.1 (exclusive_without p.init (group_at p place) nothing)
   | inr (first, found) ↦ elim (found_or_not (find (λ (f : Fact). holds p.init f && not (f.var == first.var)) (group_at p place))) [
     | inl nothing ↦ joint.1 (exclusive_beside p.init (group_at p place) first.var nothing)
-    | inr (second, found') ↦ none (HoldsTwo first second) (record { reported = refl; says = (found, found') })
+    | inr (second, found') ↦ none (HoldsTwo first second) (record { of = refl; says = (found, found') })
   ]
 ]
 some_reason p place (Broken operator) exists (family, greatest, outside, basic, initial, breaking) apart none =
     some_first (IsGroupOfOr p family (group_at p place)) (operator_at p operator) (group_at p place) breaking.breaks
-    (λ failure first. none (Breaks operator failure) (record { reported = refl; says = (family, greatest, first) }))
+    (λ failure first. none (Breaks operator failure) (record { of = refl; says = (family, greatest, first) }))

@@ -50,7 +50,7 @@ pub use Rattle.sas_answers.specs.Line.{reasons_text}
 pub use Rattle.sas_answers.specs.Sink.{Pushes}
 pub use Rattle.sas_answers.specs.declared.ending.Status.{Status}
 pub use Rattle.sas_answers.specs.declared.line.Line.{Line}
-pub use Rattle.sas_task_reasons.specs.ReasonLaws.{IsOtherGiver, IsReportedOther, IsReportedOld, IsWhole, LayerReasonsAreWhole}
+pub use Rattle.sas_task_reasons.specs.ReasonLaws.{IsOtherGiver, IsNamedOther, IsNamedOld, IsWhole, LayerReasonsAreWhole}
 pub use Rattle.sas_task_reasons.specs.WhyGroups.{verdict_of, IsReasonIfAny, reason_at, AreReasons, holds, TrueOfGroup, IsReason, why_lines, WhyGroupsAnswer, explained_group_lines, why_lines_from, GroupsAnswerWith}
 pub use Rattle.sas_task_reasons.specs.WhyLayers.{layer_reasons, with_reasons, why_refusal, WhyAnswer, WhyCheckAnswer, WhyMutexAnswer}
 pub use Rattle.sas_task_reasons.specs.declared.reason.Reason.{Reason}

@@ -1,6 +1,6 @@
 -- The other giver of a rule's variable, where a rule before it has another new value.
 use Rattle.std.proofs.lemmas.Grind.{common_steps}
-use Rattle.sas_task_reasons.proofs.Imports.{◌≡◌, ◌≢◌, ℕ, ◌<◌, ◌≤◌, ◌==◌, Bool, true, false, cond, [], length, take, sym, ap, ◌∙◌, arith, eqb-true, eq-eqb, Some, None, ◌&&◌, not, position_or_len, lt-ltb, cases_lt, fails_before_first, passes_at_first, Effect, Parts, rule_at, CanFire, can_fire, agrees_with, fires, agrees_with_earlier, IsOtherGiver, IsReportedOther}
+use Rattle.sas_task_reasons.proofs.Imports.{◌≡◌, ◌≢◌, ℕ, ◌<◌, ◌≤◌, ◌==◌, Bool, true, false, cond, [], length, take, sym, ap, ◌∙◌, arith, eqb-true, eq-eqb, Some, None, ◌&&◌, not, position_or_len, lt-ltb, cases_lt, fails_before_first, passes_at_first, Effect, Parts, rule_at, CanFire, can_fire, agrees_with, fires, agrees_with_earlier, IsOtherGiver, IsNamedOther}
 
 abbrev none : Effect
 none = record { conditions = []; var = 0; old = None; new = 0 }
@@ -52,10 +52,10 @@ module _ (p : Parts) (place : ℕ) (within : place < length p.rules) where
   all_agree : place ≤ lowest → agrees_with p (take place p.rules) rule ≡ true
   all_agree past = (agrees_with_earlier p rule place (omega (arith, within))).1 (λ k before. agrees p rule (rule_at p k) (below k (omega (arith, before, past))))
 
-  is_reported : lowest < place → IsReportedOther p place lowest
-  is_reported before =
+  is_named : lowest < place → IsNamedOther p place lowest
+  is_named before =
       let exists : lowest < length p.rules = omega (arith, before, within) in record {
-        reported = ap (λ (b : Bool). cond b (Some lowest) None) (lt-ltb lowest (length p.rules) exists);
+        named = ap (λ (b : Bool). cond b (Some lowest) None) (lt-ltb lowest (length p.rules) exists);
         before = before;
         gives = gives_shows p rule (rule_at p lowest) (passes_at_first (gives_other p rule) p.rules none exists);
         lowest = λ lower less gives.
@@ -64,5 +64,5 @@ module _ (p : Parts) (place : ℕ) (within : place < length p.rules) where
             absurd (let apart : true ≡ false = sym passes ∙ fails in cc);
       }
 
-  pub other_reported : agrees_with p (take place p.rules) rule ≡ false → (other : ℕ) × IsReportedOther p place other
-  other_reported disagrees = grind (arith, common_steps, cases_lt, is_reported, all_agree)
+  pub other_named : agrees_with p (take place p.rules) rule ≡ false → (other : ℕ) × IsNamedOther p place other
+  other_named disagrees = grind (arith, common_steps, cases_lt, is_named, all_agree)

@@ -2,9 +2,9 @@
 use Rattle.std.proofs.Common.{arith}
 use Rattle.std.proofs.lemmas.Grind.{common_steps}
 use Rattle.sas_task_reasons.proofs.GroupReasons.{is_basic}
-use Rattle.sas_task_reasons.proofs.Imports.{◌≡◌, ℕ, ◌<◌, ◌==◌, Bool, true, false, List, [], length, take, get_or, subst, inl, inr, eq-eqb, Option, None, if◌then◌else◌, not, is_some, IsSome, option_map_or, Fact, Effect, Operator, Parts, Check, check, operator_at, effect_at, rule_at, layer_of, LayerFault, EffectOnDerived, OldValue, TwoValues, LayerOrder, IsReportedOld, IsWhole, LayerReasonsAreWhole, default_of, can_fire, numbered_checks, effect_layer_checks, operator_layer_checks, agrees_with, looks_down, firing_checks, rule_layer_checks, layer_checks}
+use Rattle.sas_task_reasons.proofs.Imports.{◌≡◌, ℕ, ◌<◌, ◌==◌, Bool, true, false, List, [], length, take, get_or, subst, inl, inr, eq-eqb, Option, None, if◌then◌else◌, not, is_some, IsSome, option_map_or, Fact, Effect, Operator, Parts, Check, check, operator_at, effect_at, rule_at, layer_of, LayerFault, EffectOnDerived, OldValue, TwoValues, LayerOrder, IsNamedOld, IsWhole, LayerReasonsAreWhole, default_of, can_fire, numbered_checks, effect_layer_checks, operator_layer_checks, agrees_with, looks_down, firing_checks, rule_layer_checks, layer_checks}
 use Rattle.sas_task_reasons.proofs.FailingChecks.{IsFirst, check_fails, guarded_fails, either_fails, numbered_fails}
-use Rattle.sas_task_reasons.proofs.OtherGivers.{other_reported}
+use Rattle.sas_task_reasons.proofs.OtherGivers.{other_named}
 
 -- ---- tests that fail
 
@@ -15,8 +15,8 @@ both_layers : (a b : Option ℕ) (test : ℕ → ℕ → Bool) → option_map_or
 both_layers h1 b test e = grind arith
 
 module _ (p : Parts) where
-  old_reported : (rule : Effect) (old : Option ℕ) → rule.old ≡ old → option_map_or (λ its. its == default_of p rule.var) old true ≡ false → IsReportedOld p rule
-  old_reported rule h1 is e = grind (arith, eq-eqb)
+  old_named : (rule : Effect) (old : Option ℕ) → rule.old ≡ old → option_map_or (λ its. its == default_of p rule.var) old true ≡ false → IsNamedOld p rule
+  old_named rule h1 is e = grind (arith, eq-eqb)
 
   -- ---- operators
 
@@ -56,10 +56,10 @@ module _ (p : Parts) where
     order_check condition c = check (looks_down p rule.var c) (LayerOrder place condition)
 
     old_whole : IsFirst old_checks e → IsWhole p e
-    old_whole is = grind (arith, common_steps, check_fails, old_reported)
+    old_whole is = grind (arith, common_steps, check_fails, old_named)
 
     value_whole : IsFirst value_checks e → IsWhole p e
-    value_whole is = grind (arith, common_steps, check_fails, other_reported)
+    value_whole is = grind (arith, common_steps, check_fails, other_named)
 
     order_whole : IsFirst (numbered_checks order_check rule.conditions) e → IsWhole p e
     order_whole is =

@@ -21,16 +21,16 @@ pub record IsOtherGiver (p : Parts) (rule other : Effect) : Type 0 where
   pub differs : other.new ≢ rule.new
 
 -- the other rule in the reasons for the rule at this place is the lowest, and comes before it
-pub record IsReportedOther (p : Parts) (rule other : ℕ) : Type 0 where
-  pub reported : other_giver p (rule_at p rule) ≡ Some other
+pub record IsNamedOther (p : Parts) (rule other : ℕ) : Type 0 where
+  pub named : other_giver p (rule_at p rule) ≡ Some other
   pub before : other < rule
   pub gives : IsOtherGiver p (rule_at p rule) (rule_at p other)
   pub lowest : (lower : ℕ) → lower < other → IsOtherGiver p (rule_at p rule) (rule_at p lower) → ⊥
 
 -- the old value in the reasons for a rule isn't the default of its variable
-pub record IsReportedOld (p : Parts) (rule : Effect) : Type 0 where
+pub record IsNamedOld (p : Parts) (rule : Effect) : Type 0 where
   pub old : ℕ
-  pub reported : rule.old ≡ Some old
+  pub named : rule.old ≡ Some old
   pub differs : old ≢ default_of p rule.var
 
 -- the parts that the lines for a fault name exist, and so do the layers, the old value and the
@@ -41,8 +41,8 @@ IsWhole p (EffectOnDerived operator effect) =
     × (effect < length (operator_at p operator).effects)
     × IsDerived p.variables (effect_at (operator_at p operator) effect).var
 IsWhole p (RuleOnBasic rule) = (rule < length p.rules) × IsBasic p (rule_at p rule).var
-IsWhole p (OldValue rule) = (rule < length p.rules) × IsReportedOld p (rule_at p rule)
-IsWhole p (TwoValues rule) = (rule < length p.rules) × ((other : ℕ) × IsReportedOther p rule other)
+IsWhole p (OldValue rule) = (rule < length p.rules) × IsNamedOld p (rule_at p rule)
+IsWhole p (TwoValues rule) = (rule < length p.rules) × ((other : ℕ) × IsNamedOther p rule other)
 IsWhole p (LayerOrder rule condition) =
     (rule < length p.rules)
     × (condition < length (rule_at p rule).conditions)

@@ -45,7 +45,7 @@ TrueOfGroup p place (Breaks operator failure) = FailsFirst p place operator fail
 
 -- the reason for this verdict on the group with this index
 pub record IsReason (p : Parts) (place : ℕ) (verdict : Verdict) (reason : Reason) : Type 0 where
-  pub reported : verdict ≡ verdict_of reason
+  pub of : verdict ≡ verdict_of reason
   pub says : TrueOfGroup p place reason
 
 -- the same, if there is a reason; a group without a reason has the verdict `Exclusive`

@@ -24,9 +24,9 @@ use sas_mutex::{Failure, GroupVerdicts, Verdict, joint_verdicts};
 use std::alloc::{AllocError, Global};
 use std::io::Write;
 
-/// Writes the answer about the mutex groups of a layered task: the verdict on each, and if wanted, after it the reason where the group isn't
-/// exclusive. Returns `Yes` if all are. The names in the reasons are looked up as they go out, in pieces: they may make the answer far
-/// longer than the task. If an `Err` isn't a failed write, it is `Memory`, and nothing was written: all memory is allocated before the
+/// Writes the answer about the mutex groups of a layered task: the verdict on each, and if wanted, after it the reason where the group
+/// isn't exclusive. Returns `Yes` if all are. The names in the reasons are looked up as they go out, in pieces: they may make the answer
+/// far longer than the task. If an `Err` isn't a failed write, it is `Memory`, and nothing was written: all memory is allocated before the
 /// first byte. Not to be called after a failure.
 pub fn write_groups<W: Write>(
     alloc: Global,

@@ -21,8 +21,8 @@ pub fn layer_reasons_law()
 {}
 
 /// Laws about reasons. The groups of a family and the group itself are assumed to be exclusive.
-/// - An operator that fails to preserve a group doesn't preserve it. If it doesn't preserve the group, it can't be that it has no failure.
-/// - If it doesn't preserve the group, it can't be that it has no first failure, and it has at most one.
+/// - An operator that fails to keep a group doesn't keep it. If it doesn't keep the group, it can't be that it has no failure.
+/// - If it doesn't keep the group, it can't be that it has no first failure, and it has at most one.
 /// - Each group that isn't exclusive has at most one reason, and it can't be that it has none.
 pub fn reason_laws()
     ensures not_kept { (p : Parts) (family : ℕ → Bool) (o : Operator) (group : List Fact)

@@ -9,6 +9,6 @@ pub enum Reason {
     OnDerived { fact: Fact },
     /// The first fact of the group that holds in the state section, and the first one on another variable.
     HoldsTwo { first: Fact, second: Fact },
-    /// The operator doesn't preserve the group. This is its first failure.
+    /// The operator doesn't keep the group. This is its first failure.
     Breaks { operator: u32, failure: Failure },
 }

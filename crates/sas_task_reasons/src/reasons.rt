@@ -36,8 +36,8 @@ pub fn group_reasons<T: Grounded>(
     Ok(reasons)
 }
 
-/// Returns the reason for the verdict on the group, or `None` if it is exclusive. `failure` is the first failure of the operator that breaks
-/// it, if one does.
+/// Returns the reason for the verdict on the group, or `None` if it is exclusive. `failure` is the first failure of the operator that
+/// breaks it, if one does.
 fn reason_of<T: Grounded>(
     task: &Layered<T>,
     group: u32,

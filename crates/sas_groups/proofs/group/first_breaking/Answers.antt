@@ -1,4 +1,4 @@
--- One more operator preserves the group.
+-- One more operator keeps the group.
 use Rattle.sas_groups.proofs.Imports.{[], below_more, arith, All-from_get_or, Operator, Keeps, Alone}
 use Rattle.sas_groups.proofs.group.first_breaking.Goals as goal
 

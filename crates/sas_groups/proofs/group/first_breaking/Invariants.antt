@@ -1,4 +1,4 @@
--- The operators so far preserve the group.
+-- The operators so far keep the group.
 use Rattle.sas_groups.proofs.Imports.{ℕ, ◌<◌, operator_at, Keeps, Alone}
 use Rattle.sas_groups.proofs.group.first_breaking.Given as goal
 

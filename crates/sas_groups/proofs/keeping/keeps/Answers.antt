@@ -1,4 +1,4 @@
--- An operator preserves the group if and only if each of its effects does.
+-- An operator keeps the group if and only if each of its effects does.
 use Rattle.sas_groups.proofs.Imports.{below_more, arith, operator_at, Alone}
 use Rattle.sas_groups.proofs.Effects.{keeps_from_effects, effect_of_keeps}
 use Rattle.sas_groups.proofs.Iff.{iff_yes, iff_no, iff_not}

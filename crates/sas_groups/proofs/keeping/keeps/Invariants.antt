@@ -1,4 +1,4 @@
--- The effects so far preserve the group.
+-- The effects so far keep the group.
 use Rattle.sas_groups.proofs.Imports.{ℕ, ◌<◌, operator_at, effect_at, Alone, KeepsIfSets}
 use Rattle.sas_groups.proofs.keeping.keeps.Given as goal
 

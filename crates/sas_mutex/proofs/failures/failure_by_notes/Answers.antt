@@ -1,5 +1,5 @@
 -- The first failure is the lowest effect that may set another fact, else the first fact that may
--- remain. Without either the effect would preserve the group.
+-- remain. Without either the effect would keep the group.
 use Rattle.sas_mutex.proofs.Imports.{◌<◌, ◌≤◌, length, inl, inr, subst, cases_lt, group_at}
 use Rattle.sas_mutex.proofs.FirstOfEffect.{no_other, two_first, stay_first, keeps_group}
 use Rattle.sas_mutex.proofs.failures.failure_by_notes.Goals as goal

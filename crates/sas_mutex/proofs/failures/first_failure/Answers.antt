@@ -11,8 +11,8 @@ failure_by_notes-failure-requires-clause-notes g c =
     let p = f.task in
     record {
       one_each = ap length (c.as_slice-2.ensures ∙ c.set.ensures) ∙ (length-set c.args.kept.now c.args.group true ∙ c.requires.notes.one_each);
-      noted = subst (λ (xs : List Bool). IsNotedFor p xs f.operator f.effect c.args.marks.now) (sym (c.as_slice-2.ensures ∙ c.set.ensures))
-          (noted_if_broken p c.args.kept.now c.args.group c.requires.has.exists c.requires.notes.one_each f.operator f.effect c.args.marks.now c.requires.notes.noted c.requires.broken);
+      noted = subst (λ (xs : List Bool). IsNotedFor p xs f.operator f.effect c.args.recorded.now) (sym (c.as_slice-2.ensures ∙ c.set.ensures))
+          (noted_if_broken p c.args.kept.now c.args.group c.requires.has.exists c.requires.notes.one_each f.operator f.effect c.args.recorded.now c.requires.notes.noted c.requires.broken);
     }
 
 pub failure_by_notes-failure-requires-clause-broken : goal.failure_by_notes-failure-requires-clause-broken
@@ -44,10 +44,10 @@ returns-clause-notes g c =
     let f = c.args.firing.now in
     let p = f.task in
     let kept = c.args.kept.now in
-    let marks = c.failure_by_notes-failure.new.marks in
+    let recorded = c.failure_by_notes-failure.new.recorded in
     record {
       one_each = c.requires.notes.one_each;
-      noted = noted_fewer p (set kept c.args.group true) kept f.operator f.effect marks
+      noted = noted_fewer p (set kept c.args.group true) kept f.operator f.effect recorded
           (is_more p kept c.args.group c.requires.has.exists c.requires.notes.one_each)
-          (subst (λ (xs : List Bool). IsNotedFor p xs f.operator f.effect marks) (c.as_slice-2.ensures ∙ c.set.ensures) c.failure_by_notes-failure.ensures.notes.noted);
+          (subst (λ (xs : List Bool). IsNotedFor p xs f.operator f.effect recorded) (c.as_slice-2.ensures ∙ c.set.ensures) c.failure_by_notes-failure.ensures.notes.noted);
     }

@@ -12,13 +12,13 @@ look_at-alone-requires-clause-idle g c =
     let turn = c.clear_basis.ensures in
     let idle = c.loop-operator.invariant.idle in
     let basis = none_are (length c.args.indexed.now.groups) c.clear_basis.new.self (subst (λ n. IsOfNone n c.clear_basis.new.self.basis) idle.room.basis.one_each turn.basis) turn.none in
-    let excluding = same_excluding c.args.indexed.now c.loop-operator.checker.family c.clear_basis.new.self turn.excluding idle.room in
-    record { room = same_room c.args.indexed.now c.loop-operator.checker.family c.clear_basis.new.self turn.kept turn.fallen basis excluding idle.room; clean = idle.clean }
+    let excluding = same_excluding c.args.indexed.now c.loop-operator.keeping.family c.clear_basis.new.self turn.excluding idle.room in
+    record { room = same_room c.args.indexed.now c.loop-operator.keeping.family c.clear_basis.new.self turn.kept turn.fallen basis excluding idle.room; clean = idle.clean }
 
 -- what fell in this turn, and before
-falls : (g : Over) (c : After-look_at-alone g) → Falls c.args.indexed.now c.loop-operator.checker.family c.look_at-alone.new.self.family
+falls : (g : Over) (c : After-look_at-alone g) → Falls c.args.indexed.now c.loop-operator.keeping.family c.look_at-alone.new.self.family
 falls g c = falls_then
-    (same_falls c.args.indexed.now c.loop-operator.checker.family c.clear_basis.new.self c.clear_basis.ensures.kept c.clear_basis.ensures.fallen) c.look_at-alone.ensures.looked.falls
+    (same_falls c.args.indexed.now c.loop-operator.keeping.family c.clear_basis.new.self c.clear_basis.ensures.kept c.clear_basis.ensures.fallen) c.look_at-alone.ensures.looked.falls
 
 pub returns-then-len-before-clause-falls : goal.returns-then-len-before-clause-falls
 returns-then-len-before-clause-falls g c =

@@ -1,16 +1,16 @@
--- All effects were checked.
+-- All effects were looked at.
 use Rattle.sas_mutex.proofs.Imports.{◌≡◌, length, subst, arith, Parts, operator_at}
 use Rattle.sas_mutex.proofs.VerdictsSoFar.{next_operator}
 use Rattle.sas_mutex.proofs.joint.find_broken_by.Goals as goal
 
-pub returns-clause-judged : goal.returns-clause-judged
-returns-clause-judged g c =
+pub returns-clause-verdicts : goal.returns-clause-verdicts
+returns-clause-verdicts g c =
     let count = subst (λ (q : Parts). c.effects-effect-end.result ≡ length (operator_at q c.args.operator).effects) c.indexed.view_is c.effects-effect-end.ensures in
-    let judged = c.loop-effect.invariant.judged in
+    let known = c.loop-effect.invariant.verdicts in
     record {
-      greatest = judged.greatest;
-      so_far = next_operator c.args.indexed.now c.loop-effect.checker.family.kept c.args.operator c.loop-effect.effect c.loop-effect.found.verdicts (omega (arith, count)) judged.so_far;
-      failures = judged.failures;
+      greatest = known.greatest;
+      so_far = next_operator c.args.indexed.now c.loop-effect.keeping.family.kept c.args.operator c.loop-effect.effect c.loop-effect.found.verdicts (omega (arith, count)) known.so_far;
+      failures = known.failures;
     }
 
 pub effects-effect-end-requires : goal.effects-effect-end-requires

@@ -1,4 +1,4 @@
--- Where no group may be exclusive, no operator is checked.
+-- Where no group may be exclusive, no operator is looked at.
 use Rattle.sas_mutex.proofs.Imports.{arith}
 use Rattle.sas_mutex.proofs.JointLists.{decided_at_first}
 use Rattle.sas_mutex.proofs.VerdictsSoFar.{no_failures}

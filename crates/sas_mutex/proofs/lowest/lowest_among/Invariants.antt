@@ -4,6 +4,6 @@ use Rattle.sas_mutex.proofs.lowest.lowest_among.Given as goal
 
 abbrev pub invariant-loop-other : goal.invariant-loop-other
 invariant-loop-other g l = record {
-  notes : IsNotedAt l.firing l.kept l.marks;
+  notes : IsNotedAt l.firing l.kept l.recorded;
   lowest : IsLowestPartner l.firing l.kept l.group (Contains (take l.other-index l.effects)) l.lowest;
 }

@@ -8,11 +8,11 @@ pub loop-place-preserved : goal.loop-place-preserved
 loop-place-preserved g c =
     let inv = c.loop-place.invariant in
     elim c.if-begins_run.branch [
-      | then-begins_run w ↦ rw w.marks-is (rw w.lowest-is (record {
+      | then-begins_run w ↦ rw w.recorded-is (rw w.lowest-is (record {
         notes = w.lowest_on.ensures.notes;
         lowest = one_more_fact _ _ _ _ _ _ inv.lowest _ _ _ c.loop-place-test.true w.lowest_on.ensures.lowest w.min-lowest.ensures;
       }))
-      | else-begins_run w ↦ rw w.marks-is (rw w.lowest-is (record {
+      | else-begins_run w ↦ rw w.recorded-is (rw w.lowest-is (record {
         notes = inv.notes;
         lowest = one_fact_more _ _ _ _ _ _ inv.lowest c.loop-place-test.true (c.begins_run.ensures.follows w.if-begins_run.false);
       }))

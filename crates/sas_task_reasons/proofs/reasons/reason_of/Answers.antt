@@ -53,7 +53,7 @@ returns-in_err-failure-in-Broken g c =
 
 pub returns-in_ok-failure-in-Broken : goal.returns-in_ok-failure-in-Broken
 returns-in_ok-failure-in-Broken g c = record {
-  reported = c.in-Broken.is;
+  of = c.in-Broken.is;
   says = subst (λ (found : Option Failure). IsSomeAnd found (FailsFirst c.args.task.now c.args.group c.in-Broken.operator)) c.in_ok-failure-in-Broken.was
       (noted g (goal.at.returns-in_ok-failure-in-Broken g c).After-branch-failure);
 }

@@ -55,4 +55,4 @@ pub facts_clash-requires-clause-exist : goal.facts_clash-requires-clause-exist
 facts_clash-requires-clause-exist g c = search (arith, conditions_exist)
 
 pub facts_clash-requires-clause-blank : goal.facts_clash-requires-clause-blank
-facts_clash-requires-clause-blank g c = subst (λ (f : EffectPlace). AreBlank f.task c.args.marks.now.others) (sym c.self.view_is) c.requires.notes.noted.from.others
+facts_clash-requires-clause-blank g c = subst (λ (f : EffectPlace). AreBlank f.task c.args.recorded.now.others) (sym c.self.view_is) c.requires.notes.noted.from.others

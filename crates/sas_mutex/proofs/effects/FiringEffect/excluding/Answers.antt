@@ -1,5 +1,6 @@
 -- The fact contradicts one more, or that is on the variable of the effect.
-use Rattle.sas_mutex.proofs.Imports.{◌≢◌, ◌<◌, List, length, get_or, sym, subst, arith, each_more, Contains, Contains-get_or, Fact, group_at, FactExists, own_fact_exists, Contradict, AreDistinct, IsKept, EffectPlace, known_at}
+use Rattle.sas_mutex.proofs.Imports.{◌≢◌, ◌<◌, List, length, get_or, sym, subst, arith, each_more, Contains, Contains-get_or, Fact, group_at, FactExists, Contradict, AreDistinct, IsKept, EffectPlace, known_at}
+use Rattle.sas_mutex.proofs.Entering.{own_fact_exists}
 use Rattle.sas_mutex.proofs.TaskFacts.{known_at_exist}
 use Rattle.sas_mutex.proofs.effects.FiringEffect.excluding.Goals as goal
 use Rattle.sas_mutex.proofs.effects.FiringEffect.excluding.Goals.{else-other-self-via-then-other-self+else-not-excludes, else-other-self-via-else-other-self}

@@ -10,8 +10,8 @@ pub returns-else-clashes : goal.returns-else-clashes
 returns-else-clashes g c =
     let fits = subst (λ (f : EffectPlace). IsFiring f c.self.inside.index.now c.self.inside.change) c.self.view_is c.self.invariant in
     iff_other c.is_removed.ensures
-    (λ removes ne. inr (removes_is_removed c.args.self.now c.self.inside.index.now fits c.args.kept.now c.args.marks.now c.requires.notes c.args.fact c.requires.fact removes))
+    (λ removes ne. inr (removes_is_removed c.args.self.now c.self.inside.index.now fits c.args.kept.now c.args.recorded.now c.requires.notes c.args.fact c.requires.fact removes))
     (λ gone. elim (gone (λ same. c.if-self-fact.false (ap (λ (x : Change). x.var) fits.4 ∙ same))) [
       | inl clash ↦ absurd (iff_not c.clashes.ensures c.if-clashes.false clash)
-      | inr removed ↦ removed_is_removes c.args.self.now c.self.inside.index.now fits c.args.kept.now c.args.marks.now c.requires.notes c.args.fact c.requires.fact removed
+      | inr removed ↦ removed_is_removes c.args.self.now c.self.inside.index.now fits c.args.kept.now c.args.recorded.now c.requires.notes c.args.fact c.requires.fact removed
     ])

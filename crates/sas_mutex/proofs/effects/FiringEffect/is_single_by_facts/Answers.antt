@@ -14,11 +14,11 @@ loop-place-preserved g c =
     let no_fact : Fact = record { var = 0; value = 0 } in
     let Single : Fact → Type 0 = λ fact. IsSingleOn f kept c.args.group fact.var in
     elim c.else-begins_run.branch [
-      | else-begins_run-via-then-begins_run+else-not-is_single_on w ↦ rw w.marks-is (record {
+      | else-begins_run-via-then-begins_run+else-not-is_single_on w ↦ rw w.recorded-is (record {
         notes = w.is_single_on.ensures.notes;
         single = each_more Single facts n _ c.loop-place-test.true inv.single (w.is_single_on.ensures.yes w.if-not-is_single_on.false);
       })
-      | else-begins_run-via-else-begins_run w ↦ rw w.marks-is (record {
+      | else-begins_run-via-else-begins_run w ↦ rw w.recorded-is (record {
         notes = inv.notes;
         single = (let on = c.begins_run.ensures.follows w.if-begins_run.false in
             each_more Single facts n no_fact c.loop-place-test.true inv.single (subst (IsSingleOn f kept c.args.group) (on.same no_fact) (inv.single on.before no_fact on.early)));

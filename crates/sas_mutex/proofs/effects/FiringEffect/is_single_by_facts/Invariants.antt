@@ -4,6 +4,6 @@ use Rattle.sas_mutex.proofs.effects.FiringEffect.is_single_by_facts.Given as goa
 
 abbrev pub invariant-loop-place : goal.invariant-loop-place
 invariant-loop-place g l = record {
-  notes : IsNotedAt l.self l.kept l.marks;
+  notes : IsNotedAt l.self l.kept l.recorded;
   single : (k : ℕ) (d : Fact) → k < l.place → IsSingleOn l.self l.kept l.group (get_or l.facts k d).var;
 }

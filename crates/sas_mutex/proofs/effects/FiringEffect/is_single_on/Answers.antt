@@ -9,11 +9,11 @@ loop-other-preserved g c =
     let count = subst (λ (s : EffectPlace). c.effects.result ≡ length (operator_of s).effects) c.self.view_is c.effects.ensures in
     let inv = c.loop-other.invariant in
     elim c.else-other-effects.branch [
-      | else-other-effects-via-then-other-effects+else-not-not_both w ↦ rw w.marks-is (record {
+      | else-other-effects-via-then-other-effects+else-not-not_both w ↦ rw w.recorded-is (record {
         notes = w.not_both.ensures.notes;
         apart = below_more _ _ inv.apart (λ lt. w.not_both.ensures.is.0 w.if-not-not_both.false);
       })
-      | else-other-effects-via-else-other-effects w ↦ rw w.marks-is (record {
+      | else-other-effects-via-else-other-effects w ↦ rw w.recorded-is (record {
         notes = inv.notes;
         apart = below_more _ _ inv.apart (λ lt. absurd (let ge = w.if-other-effects.false in omega (arith, count)));
       })

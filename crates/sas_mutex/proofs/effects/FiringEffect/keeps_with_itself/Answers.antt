@@ -9,7 +9,7 @@ returns-then-is_several-clause-is g c =
     let p = c.args.self.now.task in
     let several = subst (IsGroupNote p (known_at p c.args.self.now.operator c.args.self.now.effect) c.args.group) (c.is_several.ensures.0 c.if-is_several.true)
     (c.noted.ensures c.args.kept.now c.requires.notes) in
-    iff_yes (several_never_fire p c.args.kept.now c.args.group c.requires.group c.requires.notes.one_each c.args.self.now.operator c.args.self.now.effect c.args.marks.now c.requires.notes.noted several)
+    iff_yes (several_never_fire p c.args.kept.now c.args.group c.requires.group c.requires.notes.one_each c.args.self.now.operator c.args.self.now.effect c.args.recorded.now c.requires.notes.noted several)
 
 pub keeps_by_notes-keeps-requires-clause-notes : goal.keeps_by_notes-keeps-requires-clause-notes
 keeps_by_notes-keeps-requires-clause-notes g c = grind (arith, common_steps, both_ways, length-set, noted_with)
@@ -29,6 +29,6 @@ returns g c =
           ∙ put_back kept place was (ap (λ (xs : List Bool). get_or xs place false) (sym c.as_slice.ensures)));
       notes = record {
         one_each = each;
-        noted = noted_fewer f.task (set kept place true) kept f.operator f.effect c.keeps_by_notes-keeps.new.marks (is_more f.task kept place c.requires.group each) (rw now at turn.notes.noted);
+        noted = noted_fewer f.task (set kept place true) kept f.operator f.effect c.keeps_by_notes-keeps.new.recorded (is_more f.task kept place c.requires.group each) (rw now at turn.notes.noted);
       };
     }

@@ -1,5 +1,7 @@
 -- One more run can't remain, or a fact of the group is known.
-use Rattle.sas_mutex.proofs.Imports.{iff_not, ◌≡◌, [], drop, subst, arith, refl, get_or_default, drop_all, operator_at, effect_at, FactExists, known, WellRanged, group_fact_exists, one_note_shows, iff_yes, iff_no, iff_other, common_steps, EffectPlace, IsKept, IsUnknownAt, IsGoneAt}
+use Rattle.sas_mutex.proofs.Imports.{iff_not, ◌≡◌, [], drop, subst, arith, refl, get_or_default, drop_all, operator_at, effect_at, FactExists, known, WellRanged, iff_yes, iff_no, iff_other, common_steps, EffectPlace, IsKept, IsUnknownAt, IsGoneAt}
+use Rattle.sas_mutex.proofs.Entering.{group_fact_exists}
+use Rattle.sas_mutex.proofs.NotesOfFacts.{one_note_shows}
 use Rattle.sas_mutex.proofs.GoneRuns.{such_none, such_all, next_within, next_on_one, next_too, such_more}
 use Rattle.sas_mutex.proofs.KnownFacts.{none_if_not_one}
 use Rattle.sas_mutex.proofs.FromNotes.{known_one_is_all}

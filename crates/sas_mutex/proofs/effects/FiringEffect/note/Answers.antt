@@ -1,5 +1,7 @@
 -- One more fact is recorded.
-use Rattle.sas_mutex.proofs.Imports.{◌≡◌, ◌<◌, ℕ, List, [], ◌++◌, length, ap, subst, ◌∙◌, append-nil, arith, IfSome, Option, All, Contains, All-contains, Fact, Parts, EffectPlace, FactExists, known_at, known_left, turns_begin, turn_has, turn_more, variable_below, groups_below, blank_same}
+use Rattle.sas_mutex.proofs.Imports.{◌≡◌, ◌<◌, ℕ, List, [], ◌++◌, length, ap, subst, ◌∙◌, append-nil, arith, IfSome, Option, All, Contains, All-contains, Fact, Parts, EffectPlace, FactExists, known_at, known_left, turns_begin, turn_has, turn_more}
+use Rattle.sas_mutex.proofs.Existing.{variable_below, groups_below}
+use Rattle.sas_mutex.proofs.NotesOfFacts.{blank_same}
 use Rattle.sas_mutex.proofs.FromNotes.{IsFiring}
 use Rattle.sas_mutex.proofs.TaskFacts.{known_here_exist}
 use Rattle.sas_mutex.proofs.KnownFacts.{none_so_far, one_so_far, refused_so_far, from_still, all_known}
@@ -17,7 +19,7 @@ set_apart-requires g c =
     let f = c.args.self.now in
     let fits = subst (λ (s : EffectPlace). IsFiring s c.self.inside.index.now c.self.inside.change) c.self.view_is c.self.invariant in
     let exist = known_here_exist f.task fits.0 f.operator fits.2 f.effect fits.3 in
-    chosen_below f.task (known_at f.task f.operator f.effect) c.widest_known-widest.result (length c.args.marks.now.known.values)
+    chosen_below f.task (known_at f.task f.operator f.effect) c.widest_known-widest.result (length c.args.recorded.now.known.values)
     exist c.requires.clean.known.wide.variables c.widest_known-widest.ensures
 
 pub loop-fact-init : goal.loop-fact-init
@@ -41,7 +43,7 @@ note-requires-clause-groups g c =
     let exist = known_here_exist f.task fits.0 f.operator fits.2 f.effect fits.3 in
     let inv = c.loop-fact.invariant in
     let within = turn_has inv.turns c.in-Some.ensures.steps in
-    groups_below f.task c.self.inside.index.now c.in-Some.fact (length c.loop-fact.marks.known.groups) fits.1
+    groups_below f.task c.self.inside.index.now c.in-Some.fact (length c.loop-fact.recorded.known.groups) fits.1
     (All-contains (FactExists f.task.variables) (known_at f.task f.operator f.effect) c.in-Some.fact exist within) inv.so_far.from.wide.groups
 
 pub returns-then-not-note-clause-yes : goal.returns-then-not-note-clause-yes

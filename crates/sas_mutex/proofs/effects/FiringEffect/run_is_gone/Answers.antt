@@ -1,12 +1,13 @@
 -- The first fact decides for the whole run, or one more fact can't remain.
-use Rattle.sas_mutex.proofs.Imports.{iff_not, subst, arith, IsGoneAt, each_more, variable_below, iff_yes, iff_no, common_steps, EffectPlace}
+use Rattle.sas_mutex.proofs.Imports.{iff_not, subst, arith, IsGoneAt, each_more, iff_yes, iff_no, common_steps, EffectPlace}
+use Rattle.sas_mutex.proofs.Existing.{variable_below}
 use Rattle.sas_mutex.proofs.FromNotes.{IsFiring}
 use Rattle.sas_mutex.proofs.GoneRuns.{settled_are_gone}
 use Rattle.sas_mutex.proofs.effects.FiringEffect.run_is_gone.Goals as goal
 
 pub returns-then-is_settled : goal.returns-then-is_settled
 returns-then-is_settled g c = iff_yes (settled_are_gone c.args.self.now c.self.inside.index.now
-    (subst (λ (f : EffectPlace). IsFiring f c.self.inside.index.now c.self.inside.change) c.self.view_is c.self.invariant) c.args.kept.now c.args.marks.now c.requires.notes c.args.run.now
+    (subst (λ (f : EffectPlace). IsFiring f c.self.inside.index.now c.self.inside.change) c.self.view_is c.self.invariant) c.args.kept.now c.args.recorded.now c.requires.notes c.args.run.now
     c.requires.exist c.requires.one c.requires.unknown (c.is_settled.ensures c.if-is_settled.true))
 
 pub loop-fact-preserved : goal.loop-fact-preserved

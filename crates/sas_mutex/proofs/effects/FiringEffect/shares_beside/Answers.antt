@@ -1,6 +1,7 @@
 -- A known fact other than the one set apart is recorded for each group that contains it; or one more
 -- known fact shares no group with the fact, or is the one set apart.
-use Rattle.sas_mutex.proofs.Imports.{arith, length, subst, groups_below, iff_other, EffectPlace, iff_not, ◌≢◌, Some, both_ways, All-contains, Fact, known, turn_has, turn_more, turns_end, iff_yes, iff_no, ShareOne, known_at}
+use Rattle.sas_mutex.proofs.Imports.{arith, length, subst, iff_other, EffectPlace, iff_not, ◌≢◌, Some, both_ways, All-contains, Fact, known, turn_has, turn_more, turns_end, iff_yes, iff_no, ShareOne, known_at}
+use Rattle.sas_mutex.proofs.Existing.{groups_below}
 use Rattle.sas_mutex.proofs.TaskFacts.{known_at_exist}
 use Rattle.sas_mutex.proofs.KnownFacts.{share_one, share_kept}
 use Rattle.sas_mutex.proofs.FromNotes.{IsFiring, noted_beside, beside_noted}
@@ -10,14 +11,14 @@ use Rattle.sas_mutex.proofs.effects.FiringEffect.shares_beside.Goals.{else-not-i
 pub has_noted-requires : goal.has_noted-requires
 has_noted-requires g c = search (arith, length, groups_below, known)
 
-pub returns-then-groups-marks : goal.returns-then-groups-marks
-returns-then-groups-marks g c =
+pub returns-then-groups-recorded : goal.returns-then-groups-recorded
+returns-then-groups-recorded g c =
     let f = c.args.self.now in
     let index = c.self.inside.index.now in
     let fits = subst (λ (s : EffectPlace). IsFiring s index c.self.inside.change) c.self.view_is c.self.invariant in
     let has = rw (c.groups_of-groups.ensures, c.as_slice-noted.ensures) at c.has_noted.ensures in
-    iff_other has (noted_beside f index fits c.args.kept.now c.args.marks.now c.requires.notes c.args.fact c.requires.fact)
-    (λ (known, among, beside, share). beside_noted f index fits c.args.kept.now c.args.marks.now c.requires.notes c.args.fact c.requires.fact known among beside share)
+    iff_other has (noted_beside f index fits c.args.kept.now c.args.recorded.now c.requires.notes c.args.fact c.requires.fact)
+    (λ (known, among, beside, share). beside_noted f index fits c.args.kept.now c.args.recorded.now c.requires.notes c.args.fact c.requires.fact known among beside share)
 
 pub returns-then-some_has : goal.returns-then-some_has
 returns-then-some_has g c =
@@ -48,5 +49,5 @@ loop-known-preserved g c =
 pub returns : goal.returns
 returns g c =
     let f = c.args.self.now in
-    iff_no (λ (one, among, beside, share). All-contains (λ (x : Fact). c.args.marks.now.known.apart ≢ Some x → ShareOne f.task c.args.kept.now x c.args.fact → ⊥)
+    iff_no (λ (one, among, beside, share). All-contains (λ (x : Fact). c.args.recorded.now.known.apart ≢ Some x → ShareOne f.task c.args.kept.now x c.args.fact → ⊥)
     (known_at f.task f.operator f.effect) one (turns_end c.loop-known.invariant c.in-None.ensures.steps.0) among beside share)

@@ -7,8 +7,8 @@ use Rattle.sas_mutex.proofs.greatest.Search.find_greatest.Goals as goal
 pub returns-then-len-before-clause-greatest : goal.returns-then-len-before-clause-greatest
 returns-then-len-before-clause-greatest g c =
     let p = c.args.indexed.now in
-    let before = c.loop-before.self.checker.family in
-    let after = c.look_at_loose.new.self.checker.family in
+    let before = c.loop-before.self.keeping.family in
+    let after = c.look_at_loose.new.self.keeping.family in
     let w = c.look_at_loose.new.self.watches in
     let turn = c.look_at_loose.ensures in
     let same : length after.fallen.items ≡ length before.fallen.items =
@@ -24,11 +24,11 @@ loop-before-preserved g c = search (arith, falls_then)
 pub loop-before-init : goal.loop-before-init
 loop-before-init g c = grind (arith, common_steps, none_fell, none_watched)
 
-pub recheck_watching-requires-clause-from : goal.recheck_watching-requires-clause-from
-recheck_watching-requires-clause-from g c = search (arith, fallen_grow)
+pub look_at_watching-requires-clause-from : goal.look_at_watching-requires-clause-from
+look_at_watching-requires-clause-from g c = search (arith, fallen_grow)
 
-pub recheck_watching-requires-clause-unwatched : goal.recheck_watching-requires-clause-unwatched
-recheck_watching-requires-clause-unwatched g c = grind (arith, common_steps, get_or_append_left)
+pub look_at_watching-requires-clause-unwatched : goal.look_at_watching-requires-clause-unwatched
+look_at_watching-requires-clause-unwatched g c = grind (arith, common_steps, get_or_append_left)
 
 pub loop-before-smaller : goal.loop-before-smaller
 loop-before-smaller g c = grind (arith, common_steps, fallen_grow)

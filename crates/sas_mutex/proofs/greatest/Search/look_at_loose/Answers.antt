@@ -8,14 +8,14 @@ use Rattle.sas_mutex.proofs.greatest.Search.look_at_loose.Goals.{then-is_loose, 
 pub loop-operator-preserved : goal.loop-operator-preserved
 loop-operator-preserved g c =
     let p = c.args.indexed.now in
-    let start = c.args.self.now.checker.family in
-    let before = c.loop-operator.self.checker.family in
+    let start = c.args.self.now.keeping.family in
+    let before = c.loop-operator.self.keeping.family in
     let w = c.loop-operator.self.watches in
     let k = c.loop-operator.operator in
     let inv = c.loop-operator.invariant in
     elim c.if-is_loose.branch [
       | then-is_loose t ↦
-          (let after = t.look_once.new.self.checker.family in
+          (let after = t.look_once.new.self.keeping.family in
           let now = t.look_once.new.self.watches in
           let turn = t.look_once.ensures in
           rw (t.self-is) record {

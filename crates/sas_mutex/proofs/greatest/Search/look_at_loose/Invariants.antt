@@ -4,8 +4,8 @@ use Rattle.sas_mutex.proofs.greatest.Search.look_at_loose.Given as goal
 
 abbrev pub invariant-loop-operator : goal.invariant-loop-operator
 invariant-loop-operator g l = record {
-  falls : Falls l.indexed l.fn.self.checker.family l.self.checker.family;
-  rest : AreLooseAtRest l.indexed l.self.checker.family.kept (newly l.fn.self.checker.family l.self.checker.family) l.self.watches l.operator;
+  falls : Falls l.indexed l.fn.self.keeping.family l.self.keeping.family;
+  rest : AreLooseAtRest l.indexed l.self.keeping.family.kept (newly l.fn.self.keeping.family l.self.keeping.family) l.self.watches l.operator;
   ready : IsReady l.indexed l.self;
-  unwatched : FallenAreUnwatched l.fn.self.checker.family.fallen.items (length l.fn.self.checker.family.fallen.items) l.self.watches;
+  unwatched : FallenAreUnwatched l.fn.self.keeping.family.fallen.items (length l.fn.self.keeping.family.fallen.items) l.self.watches;
 }

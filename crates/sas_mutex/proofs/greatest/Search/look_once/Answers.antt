@@ -15,13 +15,13 @@ pub returns-then-watch_all-clause-ready : goal.returns-then-watch_all-clause-rea
 returns-then-watch_all-clause-ready g c =
     let p = c.args.indexed.now in
     let w = c.args.self.now.watches in
-    let family = c.look_until_quiet-alone.new.checker.family in
+    let family = c.look_until_quiet-alone.new.keeping.family in
     let now = c.watch_all.new.self in
     let turn = c.look_until_quiet-alone.ensures in
     let more = c.watch_all.ensures.more in
     let start = c.len-start.result in
     record {
-      watched = watched_anew p c.args.self.now.checker.family family w now.made now.last c.set.new.self now.room c.args.operator (Some start)
+      watched = watched_anew p c.args.self.now.keeping.family family w now.made now.last c.set.new.self now.room c.args.operator (Some start)
           turn.falls turn.idle.room.one_each c.requires.operator c.requires.ready.watched more.made more.chained more.one_each more.few
           (c.set.ensures ∙ ap (λ (xs : List (Option ℕ)). set xs c.args.operator (Some start)) more.since)
           (λ from is. subst (RestsBy p family.kept now.made c.args.operator) (sym c.len-start.ensures ∙ same_Some start from is)
@@ -33,19 +33,19 @@ returns-then-watch_all-clause-ready g c =
 pub returns-clause-ready : goal.returns-clause-ready
 returns-clause-ready g c =
     let w = c.args.self.now.watches in
-    let family = c.look_until_quiet-alone.new.checker.family in
+    let family = c.look_until_quiet-alone.new.keeping.family in
     let now = c.else-alone.self.watches in
     let turn = c.look_until_quiet-alone.ensures in
     let more : WatchesMore c.args.operator family.kept w now = elim c.else-alone.branch [
       | else-alone-via-then-alone+else-watch_all v ↦ rw v.self-is v.watch_all.ensures.more
       | else-alone-via-else-alone v ↦ rw v.self-is (no_more c.args.operator family.kept w c.requires.ready.watched.chained c.requires.ready.watched.few)
     ] in
-    let same : c.else-alone.self.checker ≡ c.look_until_quiet-alone.new.checker = elim c.else-alone.branch [
+    let same : c.else-alone.self.keeping ≡ c.look_until_quiet-alone.new.keeping = elim c.else-alone.branch [
       | else-alone-via-then-alone+else-watch_all v ↦ rw v.self-is refl
       | else-alone-via-else-alone v ↦ rw v.self-is refl
     ] in
     rw same record {
-      watched = watched_anew c.args.indexed.now c.args.self.now.checker.family family w now.made now.last c.set-2.new.self now.room c.args.operator None
+      watched = watched_anew c.args.indexed.now c.args.self.now.keeping.family family w now.made now.last c.set-2.new.self now.room c.args.operator None
           turn.falls turn.idle.room.one_each c.requires.operator c.requires.ready.watched more.made more.chained more.one_each more.few
           (c.set-2.ensures ∙ ap (λ (xs : List (Option ℕ)). set xs c.args.operator None) more.since)
           (λ from is. absurd (let none : None ≡ Some from = is in cc));

@@ -1,6 +1,0 @@
--- The verdicts on the groups so far.
-use Rattle.sas_mutex.proofs.VerdictsSoFar.{FirstUpTo}
-use Rattle.sas_mutex.proofs.joint.first_verdicts.Given as goal
-
-abbrev pub invariant-loop-group : goal.invariant-loop-group
-invariant-loop-group g l = FirstUpTo l.layered l.group l.verdicts
