@@ -1,0 +1,8 @@
+mod Turns
+mod Options
+mod Machines
+mod OneFile
+mod TwoFiles
+mod ManyFiles
+mod Requests
+mod Calls
