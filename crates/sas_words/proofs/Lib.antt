@@ -5,4 +5,5 @@ mod OneFile
 mod TwoFiles
 mod ManyFiles
 mod Requests
-mod Calls
+mod Understood
+mod Readings

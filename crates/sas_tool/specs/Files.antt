@@ -1,0 +1,48 @@
+-- What is known of files before they are opened.
+use Rattle.std.specs.Prelude.{◌≡◌, ⊤, ℕ, List, [], bytes_eq, codes, if◌then◌else◌, Option, Some, None, IsSomeAnd}
+use Rattle.std.specs.Option.{option_map_or}
+use Rattle.std.specs.String.{string_bytes}
+use Rattle.sas_lines.specs.Inputs.{left_of}
+use Rattle.sas_lines.specs.declared.inputs.OpenInput.{OpenInput}
+use Rattle.sas_tool.specs.declared.arguments.Source.{Source}
+use Rattle.sas_tool.specs.declared.arguments.Source.TheVariants.{Input, File}
+use Rattle.sas_tool.specs.declared.until_end.UntilEnd.{UntilEnd}
+
+-- nothing is known of a file, or that it can't be opened, or that it can, and which bytes it holds
+pub data Held : Type 0 where
+  unknown : Held
+  absent : Held
+  holds : List ℕ → Held
+
+-- of an input whose bytes may be known
+abbrev pub held_if_known : Option (List ℕ) → Held
+held_if_known None = unknown
+held_if_known (Some bytes) = holds bytes
+
+-- of the input that a word names: `-` names standard input, which has these bytes left, if that is
+-- known, and any other word a file
+abbrev pub word_held : (List ℕ → Held) → Option (List ℕ) → List ℕ → Held
+word_held held input word = if bytes_eq word (codes "-") then held_if_known input else held word
+
+-- the same of a source; where there is none, nothing is read
+abbrev pub source_held : (List ℕ → Held) → Option (List ℕ) → Option Source → Held
+source_held held input None = holds []
+source_held held input (Some Input) = held_if_known input
+source_held held input (Some (File name)) = held (string_bytes name)
+
+-- the bytes, if they are known
+abbrev pub bytes_if_known : Held → Option (List ℕ)
+bytes_if_known (holds bytes) = Some bytes
+bytes_if_known _ = None
+
+-- what opening an input gives of which this is known; `left` maps it to the bytes that it has left
+abbrev pub Opens : {F : Type 0} → (F → Option (List ℕ)) → Held → Option F → Type 0
+Opens left unknown opened = ⊤
+Opens left absent opened = opened ≡ None
+Opens left (holds bytes) opened = IsSomeAnd opened (λ file. left file ≡ Some bytes)
+
+-- the bytes that an input of the program has left, and none once it is let go
+abbrev pub input_left : {F I : Type 0} → (F → Option (List ℕ)) → (I → Option (List ℕ))
+    → UntilEnd (OpenInput F I) → Option (List ℕ)
+input_left of_file of_standard u =
+    option_map_or (left_of of_file of_standard) u.input (Some [])

@@ -1,0 +1,116 @@
+// The files of a system, and how the inputs of the program are opened.
+ghost use Rattle.std.specs.Prelude.{◌≡◌, ℕ, List};
+ghost use Rattle.sas_tool.specs.Files.{Held, Opens, input_left, source_held};
+
+use crate::arguments::Source;
+use crate::streams::{Replacements, replace_closed};
+use crate::until_end::UntilEnd;
+use sas_lines::OpenInput;
+use std::fs;
+use std::io::Read;
+use std::os::fd::AsFd;
+use std::rt::Files;
+
+/// Files that are opened by their names.
+pub trait NamedFiles {
+    type File: Read + Drop;
+
+    /// What is kept while files are open.
+    type Ready: Drop;
+
+    /// What is known of the file of a name.
+    ghost held: { Self → List ℕ → Held };
+
+    /// Makes ready for files to be opened. Returns `None` if that fails.
+    fn ready(&self) -> Option<Self::Ready>;
+
+    /// Opens the file of this name, if it can be opened.
+    fn open_file(&self, name: &str) -> Option<Self::File>
+        ensures { Opens Self.File.remaining (held self.now name.now) result };
+}
+
+/// The files of the system that the program runs on. What they hold isn't known.
+#[derive(Clone, Copy)]
+pub struct SystemFiles<'r, R, I, O, E> {
+    pub rt: &'r R,
+    pub input: &'r I,
+    pub output: &'r O,
+    pub error: &'r E,
+}
+
+impl<'r, R: Files, I: AsFd, O: AsFd, E: AsFd> NamedFiles for SystemFiles<'r, R, I, O, E> {
+    ghost use Rattle.sas_tool.specs.Files.{unknown};
+
+    type File = R::File;
+
+    type Ready = Replacements<R::File>;
+
+    ghost held = { λ files name. unknown };
+
+    fn ready(&self) -> Option<Replacements<R::File>> {
+        replace_closed(self.rt, self.input, self.output, self.error).ok()
+    }
+
+    fn open_file(&self, name: &str) -> Option<R::File> {
+        fs::open(self.rt, name).ok()
+    }
+}
+
+/// Two files in memory. There are no others.
+#[derive(Clone, Copy)]
+pub struct FilesInMemory<'f> {
+    pub first: (&'f str, &'f [u8]),
+    pub second: (&'f str, &'f [u8]),
+}
+
+impl<'f> NamedFiles for FilesInMemory<'f> {
+    ghost use Rattle.std.specs.Prelude.{if◌then◌else◌, bytes_eq};
+    ghost use Rattle.sas_tool.specs.Files.{absent, holds};
+
+    type File = &'f [u8];
+
+    type Ready = ();
+
+    ghost held = { λ files name. if bytes_eq name files.first.0.now then holds files.first.1.now
+        else (if bytes_eq name files.second.0.now then holds files.second.1.now else absent) };
+
+    fn ready(&self) -> Option<()> {
+        Some(())
+    }
+
+    fn open_file(&self, name: &str) -> Option<&'f [u8]> {
+        if name == self.first.0 {
+            return Some(self.first.1);
+        }
+        if name == self.second.0 {
+            return Some(self.second.1);
+        }
+        None
+    }
+}
+
+/// The inputs of the program: files, and standard input.
+#[derive(Clone, Copy)]
+pub struct Inputs<'s, N, I> {
+    pub files: &'s N,
+    pub standard: I,
+}
+
+impl<'s, N: NamedFiles, I: Read + Copy + Drop> Inputs<'s, N, I> {
+    /// Opens an input. What the request doesn't read is empty. An input is let go at its end, so that the task isn't open while plans
+    /// are read. This isn't inlined, since opening takes 8 kB of the stack for the name.
+    #[inline(never)]
+    pub fn open(&self, source: &Option<Source>) -> Option<UntilEnd<OpenInput<N::File, I>>>
+        ensures { Opens (input_left N.File.remaining I.remaining)
+            (source_held (N.held self.now.files.now) (I.remaining self.now.standard) source.now) result }
+    {
+        match source {
+            None => Some(UntilEnd::nothing()),
+            Some(Source::Input) => Some(UntilEnd::new(OpenInput::Standard(self.standard))),
+            Some(Source::File(name)) => match self.files.open_file(name.as_str()) {
+                Some(file) => Some(UntilEnd::new(OpenInput::File(file))),
+                None => None,
+            },
+        }
+    }
+}
