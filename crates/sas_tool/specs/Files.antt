@@ -41,8 +41,11 @@ Opens left unknown opened = ⊤
 Opens left absent opened = opened ≡ None
 Opens left (holds bytes) opened = IsSomeAnd opened (λ file. left file ≡ Some bytes)
 
--- the bytes that an input of the program has left, and none once it is let go
+-- the bytes that an input has left, and none once it is let go
+abbrev pub left_until_end : {D : Type 0} → (D → Option (List ℕ)) → UntilEnd D → Option (List ℕ)
+left_until_end left u = option_map_or left u.input (Some [])
+
+-- the same of an input of the program
 abbrev pub input_left : {F I : Type 0} → (F → Option (List ℕ)) → (I → Option (List ℕ))
     → UntilEnd (OpenInput F I) → Option (List ℕ)
-input_left of_file of_standard u =
-    option_map_or (left_of of_file of_standard) u.input (Some [])
+input_left of_file of_standard = left_until_end (left_of of_file of_standard)

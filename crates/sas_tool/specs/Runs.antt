@@ -1,19 +1,20 @@
--- What a call of the program does.
-use Rattle.std.specs.Prelude.{◌≡◌, ◌↔◌, ◌⊎◌, ◌<◌, ◌++◌, ⊤, ℕ, Bool, true, false, List, [], ◌∷◌, codes, Option, Some, None, Ok, Err, Result}
+-- What a run over a task, a plan or both does.
+use Rattle.std.specs.Prelude.{◌≡◌, ◌↔◌, ◌⊎◌, ◌<◌, ⊤, ℕ, List, Option, Some, Result, Err, IfOk}
 use Rattle.std.specs.Io.KnownBytes.{Appends}
-use Rattle.sas_lines.specs.Device.{Device}
 use Rattle.sas_answers.specs.Ending.{EndsCounting, Output}
-use Rattle.sas_answers.specs.Shown.{shown_name}
 use Rattle.sas_answers.specs.ValidLine.{valid_line}
+use Rattle.sas_answers.specs.declared.ending.Status.{Status}
+use Rattle.sas_answers.specs.declared.ending.ToolFault.{ToolFault}
 use Rattle.sas_answers.specs.declared.ending.ToolFault.TheVariants.{Memory}
 use Rattle.sas_requests.specs.Headline.{Headline, Solves}
 use Rattle.sas_requests.specs.Output.{Out}
 use Rattle.sas_requests.specs.TraceOut.{TraceOut}
 use Rattle.sas_requests.specs.Why.{OutWhy}
+use Rattle.sas_requests.specs.declared.Request.TheVariants.{Plan}
 use Rattle.sas_requests.specs.declared.question.Question.{Question}
 use Rattle.sas_requests.specs.declared.question.Question.TheVariants.{Answer, Explanation, Trace}
-use Rattle.sas_tool.specs.Files.{Held, absent, held_if_known, holds, word_held}
-use Rattle.sas_tool.specs.Statuses.{error_line, exit_status}
+use Rattle.sas_tool.specs.Endings.{status_of}
+use Rattle.sas_tool.specs.Files.{Held, absent, holds}
 use Rattle.sas_tool.specs.declared.endings.Ended.{Ended}
 use Rattle.sas_tool.specs.declared.endings.Ended.TheVariants as ended
 
@@ -23,32 +24,50 @@ Prints (Answer request) = Out request
 Prints (Explanation request) = OutWhy request
 Prints Trace = TraceOut
 
--- ---- how a run ended
+-- whether a plan solves a task, with reasons or without
+abbrev pub IsAboutPlan : Question → Type 0
+IsAboutPlan (Answer Plan) = ⊤
+IsAboutPlan (Explanation Plan) = ⊤
+IsAboutPlan _ = ⊥
 
-abbrev pub status_of : Ended → ℕ
-status_of (ended.Answered result) = exit_status result
-status_of _ = 3
+-- What an exit status says of the bytes b of a task and c of a plan. `Sent` holds of the bytes that
+-- were written.
+pub record Says (b c : List ℕ) (Sent : List ℕ → Type 0) (status : ℕ) : Type 0 where
+  -- 0: a line was written that says that the plan is valid, and it is true
+  pub yes : status ≡ 0 → (steps cost : ℕ) × Sent (valid_line steps cost)
+      × Solves b c (valid_line steps cost)
+  -- 1: no such line is true
+  pub no : status ≡ 1 → (steps cost : ℕ) → Solves b c (valid_line steps cost) → ⊥
+  -- and the line was written alone exactly if it is true
+  pub line : status < 2 → (steps cost : ℕ)
+      → Sent (valid_line steps cost) ↔ Solves b c (valid_line steps cost)
 
--- the line on standard error, without its end
-abbrev pub line_of : Ended → Option (List ℕ)
-line_of ended.NotReady = Some (codes "sas: cannot open /dev/null")
-line_of ended.TaskNotOpened = Some (codes "sas: cannot open the task")
-line_of ended.PlanNotOpened = Some (codes "sas: cannot open the plan")
-line_of (ended.Answered result) = error_line result
+-- The question was answered about inputs that have these bytes left, if that is known.
+pub record IsAnswered (question : Question) (task plan old new : Option (List ℕ))
+    (result : Result Status ToolFault) : Type 0 where
+  pub answers : (b c : List ℕ) → task ≡ Some b → plan ≡ Some c
+      → EndsCounting (Prints question b c) (Appends old new) result
+  pub headline : IsAboutPlan question → IfOk result (λ status. (b c before : List ℕ)
+      → task ≡ Some b → plan ≡ Some c → old ≡ Some before
+      → Headline b c (Appends old new) status)
 
--- memory was refused, or the system wasn't made ready
+-- it was stopped before an answer: memory was refused, or a closed stream wasn't replaced
 abbrev pub IsStopped : Ended → Type 0
-IsStopped e = (e ≡ ended.Answered (Err Memory)) ⊎ (e ≡ ended.NotReady)
+IsStopped end = (end ≡ ended.Answered (Err Memory)) ⊎ (end ≡ ended.NotReady)
 
--- A run over a task and a plan of which this is known. `IsOut` holds of the output for their bytes,
--- `Sent` of the bytes that were written. If nothing was written, `Same` holds.
-pub record Ran (IsOut : List ℕ → List ℕ → Option Output → Type 0) (task plan : Held)
-    (Sent : List ℕ → Type 0) (Same : Type 0) (end : Ended) : Type 0 where
+-- How a run ended over a task and a plan of which this is known. A writer that held the bytes `old`
+-- holds `new`, if these are known. If nothing was written, `Same` holds.
+pub record Ran (question : Question) (task plan : Held) (old new : Option (List ℕ))
+    (Same : Type 0) (end : Ended) : Type 0 where
   -- of inputs whose bytes are known, the output went out, or its first bytes, or there is none
   pub answers : (b c : List ℕ) → task ≡ holds b → plan ≡ holds c
       → ((result : Result Status ToolFault) × (end ≡ ended.Answered result)
-      × EndsCounting (IsOut b c) Sent result) ⊎ (IsStopped end × Same)
-  -- the task is opened first
+      × EndsCounting (Prints question b c) (Appends old new) result)
+      ⊎ ((end ≡ ended.NotReady) × Same)
+  -- if an input can't be opened, nothing is written; the task comes first
   pub no_task : task ≡ absent → ((end ≡ ended.TaskNotOpened) ⊎ IsStopped end) × Same
   pub no_plan : (b : List ℕ) → task ≡ holds b → plan ≡ absent
       → ((end ≡ ended.PlanNotOpened) ⊎ IsStopped end) × Same
+  -- what the exit status of `plan` says
+  pub says : IsAboutPlan question → (b c before : List ℕ) → task ≡ holds b → plan ≡ holds c
+      → old ≡ Some before → Says b c (Appends old new) (status_of end)

@@ -1,6 +1,7 @@
 // The files of a system, and how the inputs of the program are opened.
 ghost use Rattle.std.specs.Prelude.{◌≡◌, ℕ, List};
-ghost use Rattle.sas_tool.specs.Files.{Held, Opens, input_left, source_held};
+ghost use Rattle.sas_lines.specs.Inputs.{left_of};
+ghost use Rattle.sas_tool.specs.Files.{Held, Opens, input_left, source_held, word_held};
 
 use crate::arguments::Source;
 use crate::streams::{Replacements, replace_closed};
@@ -97,6 +98,20 @@ pub struct Inputs<'s, N, I> {
 }
 
 impl<'s, N: NamedFiles, I: Read + Copy + Drop> Inputs<'s, N, I> {
+    /// Opens the input that a word names: standard input, or a file.
+    pub fn open_word(&self, word: &str) -> Option<OpenInput<N::File, I>>
+        ensures { Opens (left_of N.File.remaining I.remaining)
+            (word_held (N.held self.now.files.now) (I.remaining self.now.standard) word.now) result }
+    {
+        if word == "-" {
+            return Some(OpenInput::Standard(self.standard));
+        }
+        match self.files.open_file(word) {
+            Some(file) => Some(OpenInput::File(file)),
+            None => None,
+        }
+    }
+
     /// Opens an input. What the request doesn't read is empty. An input is let go at its end, so that the task isn't open while plans
     /// are read. This isn't inlined, since opening takes 8 kB of the stack for the name.
     #[inline(never)]

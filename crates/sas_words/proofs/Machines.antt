@@ -183,8 +183,10 @@ module _ {Seen : Type 0} (shape : Shape) (name : Text) (m : Machine Seen) (IsWel
   after_flag : (s r : Seen) (fs os : List Text) (o : Option (State Seen)) → TakesFlag m IsWell s (Some r) → Meets r fs os o → Meets s fs (codes "--why" ∷ os) o
   after_flag s r fs os None flags meets = λ why eo well. meets why
       (ap (λ b. options_of b ++ os) flags.2 ∙ sym (ap (λ b. options_of b ++ codes "--why" ∷ os) flags.1) ∙ eo) (subst (IsWell why) (sym (ap (λ l. l ++ fs) flags.0)) well)
-  after_flag s r fs os (Some q) flags meets = (meets.0 ∙ ap (λ l. l ++ fs) flags.0,
-      meets.1 ∙ ap (λ b. options_of b ++ os) flags.2 ∙ sym (ap (λ b. options_of b ++ codes "--why" ∷ os) flags.1))
+  after_flag s r fs os (Some q) flags meets = (
+    meets.0 ∙ ap (λ l. l ++ fs) flags.0,
+    meets.1 ∙ ap (λ b. options_of b ++ os) flags.2 ∙ sym (ap (λ b. options_of b ++ codes "--why" ∷ os) flags.1),
+  )
 
   abbrev Seeing : Seen → List Text → Bool → Option (State Seen) → Type 0
   Seeing s vs b o = Meets s (later_files b vs) (later_options b vs) o
@@ -251,8 +253,12 @@ module _ {Seen : Type 0} (shape : Shape) (name : Text) (m : Machine Seen) (IsWel
           let rest : rest_fault shape m (held_of shape m q.1) ≡ [] = subst (λ (z : Walk). rest_fault shape m z.held ≡ []) sim.1 (second _ _ e) in
           let files = seen_files q vs meets in
           elim (is.ends q.1) [
-            | inl done ↦ (m.flag q.1, sym (seen_options q vs meets), subst (IsWell (m.flag q.1)) files done.1,
-                subst₂ (λ (z : Walk) (l : List Text). HasRows name (m.flag q.1) l (finished shape.rules z.held)) (sym sim.1) files done.2)
+            | inl done ↦ (
+              m.flag q.1,
+              sym (seen_options q vs meets),
+              subst (IsWell (m.flag q.1)) files done.1,
+              subst₂ (λ (z : Walk) (l : List Text). HasRows name (m.flag q.1) l (finished shape.rules z.held)) (sym sim.1) files done.2,
+            )
             | inr other ↦ absurd (other.0 rest)
           ]
 

@@ -6,7 +6,6 @@ use Rattle.clap.specs.Simple.{Shape, built_leaf, filled, with_index}
 use Rattle.clap.specs.Words.{new_app}
 use Rattle.clap.specs.Faults.{defaults_fault, values_fault}
 use Rattle.clap.specs.Kinds.{or_else, range_kinds}
-use Rattle.clap.proofs.OnLiterals.{clap_on_literals}
 use Rattle.sas_words.specs.Grammar.{files_rule, over_plans, over_task}
 use Rattle.sas_words.specs.Usage.{AreTwoOrMore}
 use Rattle.sas_words.proofs.Options.{cons≢nil, second}
@@ -102,7 +101,7 @@ ends (many x y ys) = inl (
   λ few. ap (λ k. or_else (or_else k (values_fault plans_here (y ∷ ys))) []) (range_well (length (y ∷ ys)) (omega arith) (omega (arith, few)))
       ∙ ap (λ k. or_else k []) (values_well (y ∷ ys)),
   (refl, (x, y, ys, refl)),
-  record { known = inr (inl refl); task = refl; plans = refl; flag = inr (refl, refl) }
+  record { known = inr (inl refl); task = refl; plans = refl; flag = inr (refl, refl) },
 )
 
 pub plans_follows : Follows plans_shape (codes "plans") plans_machine IsPlans

@@ -1,9 +1,8 @@
 -- The words behind a request over one file: `mutex`, `show`, `check`, `print` and `steps`.
 use Rattle.std.proofs.Common.{◌≡◌, ◌∙◌, inl, inr, ℕ, Bool, true, false, cond, refl, sym, ap, List, [], ◌∷◌, Option, Some, None, bytes_eq, unwrap_or, codes}
 use Rattle.clap.specs.Walk.{Row, Rule, Text, all_of, one_of, used, walked}
-use Rattle.clap.specs.Simple.{App, Shape, built_leaf, filled, with_index}
+use Rattle.clap.specs.Simple.{Shape, built_leaf, filled, with_index}
 use Rattle.clap.specs.Faults.{defaults_fault}
-use Rattle.clap.proofs.OnLiterals.{clap_on_literals}
 use Rattle.sas_words.specs.Grammar.{Among, HasRows, IsFlag, explained, file_rule, over_plan, over_task, request_names}
 use Rattle.sas_words.specs.Usage.{IsOne}
 use Rattle.sas_words.proofs.Options.{cons≢nil, second, why_here}

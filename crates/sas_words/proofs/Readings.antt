@@ -1,9 +1,9 @@
 -- What is read of what clap found.
-use Rattle.std.proofs.Common.{◌≡◌, ◌∙◌, ◌⊎◌, inl, inr, ℕ, Bool, true, false, true≢false, cond, refl, sym, ap, subst, List, [], ◌∷◌, take, Option, Some, None, is_some, unwrap_or, codes, bytes_eq, find, slice_get, option_and_then, option_map, String, string_bytes}
+use Rattle.std.proofs.Common.{◌≡◌, ◌∙◌, inl, inr, Bool, true, false, true≢false, cond, refl, sym, ap, subst, List, [], ◌∷◌, take, Option, Some, None, is_some, unwrap_or, codes, bytes_eq, find, slice_get, option_and_then, option_map, String, string_bytes, Result, Ok, Err, IfOk, MatchResult}
 use Rattle.std.specs.Option.{option_map_or}
-use Rattle.clap.proofs.WalkLemmas.{first_value-rows, one_text-rows, raw_values-rows}
+use Rattle.clap.proofs.WalkLemmas.{first_value-rows, raw_values-rows}
 use Rattle.clap.specs.Walk.{Row, Text, all_of, first_of}
-use Rattle.clap.specs.Words.{found_of, first_value, matched_of, one_of, one_text, raw_values, rows_of, subcommand_rows}
+use Rattle.clap.specs.Words.{first_value, matched_of, raw_values, rows_of}
 use Rattle.clap.specs.declared.parser.matches.Found.{Found}
 use Rattle.sas_words.specs.Calls.{words_in}
 use Rattle.sas_words.specs.Grammar.{HasFound, HasRows, IsFlag, task_words}
@@ -58,3 +58,7 @@ met_is request why files (Some met) name rows en er found = (some_inj _ _ en ∙
 pub none_is : (request : Text) (why : Bool) (files : List Text) (o : Option (Text × List Row)) → is_some o ≡ false → HasFound request why files o → HasFound request why files None
 none_is request why files None e found = found
 none_is request why files (Some met) e found = absurd (true≢false e)
+
+pub ok_of : {A E : Type 0} (r : Result A E) (P Q : A → Type 0) (M : E → Type 0) → ((a : A) → P a → Q a) → MatchResult r P M → IfOk r Q
+ok_of (Ok a) P Q M weaker is = weaker a is
+ok_of (Err e) P Q M weaker is = tt

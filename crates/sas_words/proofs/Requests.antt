@@ -1,12 +1,11 @@
 -- What clap makes of the words of a whole call, by what it makes of those behind the request's name.
-use Rattle.std.proofs.Common.{◌≡◌, ◌∙◌, ◌⊎◌, inl, inr, ℕ, Bool, true, false, refl, sym, ap, subst, List, [], ◌∷◌, ◌++◌, Option, Some, None, codes, fold, is_some, option_map, map, find, bytes_eq}
+use Rattle.std.proofs.Common.{◌≡◌, ◌∙◌, ◌⊎◌, inl, inr, Bool, true, false, refl, sym, ap, subst, List, [], ◌∷◌, ◌++◌, Option, Some, None, codes, fold, is_some, option_map, map, find, bytes_eq}
 use Rattle.std.specs.Option.{option_map_or}
 use Rattle.std.proofs.lemmas.Slice.Eq.{bytes_eq-Decides}
-use Rattle.clap.specs.Walk.{Held, Names, Text, Walk, answers_to, finished, idle, nothing_held, rows_after, settled, subcommand_met, walk, walked}
+use Rattle.clap.specs.Walk.{Names, Text, Walk, answers_to, finished, idle, nothing_held, rows_after, settled, subcommand_met, walk, walked}
 use Rattle.clap.specs.Simple.{App, Shape, built, entered, label_of, names_of, rows_at, subcommand_of}
 use Rattle.clap.specs.Faults.{check_fault, defaults_fault, entered_fault, fault_of, level_fault, settle_fault, stray_fault, turn_fault, walk_fault}
 use Rattle.clap.specs.Kinds.{Kinds, or_else}
-use Rattle.clap.proofs.OnLiterals.{clap_on_literals}
 use Rattle.clap.proofs.WalkLemmas.{walk_stopped}
 use Rattle.sas_words.specs.Grammar.{Among, request_names, sas_app}
 use Rattle.sas_words.specs.Usage.{is_option}
@@ -130,9 +129,9 @@ unfolding walk_fault
 first_word w0 v vs has e = elim (met_among (request_names ++ codes "help" ∷ []) v) [
   | inl none ↦ inr (other (bytes_eq v (codes "--")) (bytes_eq v (codes "--why")) (is_option v) refl refl refl vs none walks)
   | inr among ↦ elim (among_last request_names (codes "help") v among) [
-      | inl here ↦ inl here
-      | inr help ↦ absurd (help_refused (subst (λ u. turn_fault top sas_names top_walk u ≡ []) (sym help) (turn_well v vs walks)))
-    ]
+    | inl here ↦ inl here
+    | inr help ↦ absurd (help_refused (subst (λ u. turn_fault top sas_names top_walk u ≡ []) (sym help) (turn_well v vs walks)))
+  ]
 ]
   where
     walks : walk_fault top sas_names top_walk (v ∷ vs) ≡ []

@@ -1,5 +1,5 @@
 -- What clap makes of one word behind a request.
-use Rattle.std.proofs.Common.{◌≡◌, ℕ, Bool, true, false, refl, List, [], ◌∷◌, Option, None, bytes_eq, if◌then◌else◌, codes, ◌==◌}
+use Rattle.std.proofs.Common.{◌≡◌, ℕ, Bool, true, false, refl, List, [], ◌∷◌, None, bytes_eq, if◌then◌else◌, codes, ◌==◌}
 use Rattle.clap.specs.Lexer.{long_of, short_of}
 use Rattle.clap.specs.Walk.{Held, Rule, Text, Walk, Waiting, idle, positional, arg_by_index, to_positional, walked, value, subcommand_met}
 use Rattle.clap.specs.Simple.{Shape}

@@ -4,7 +4,6 @@ use Rattle.clap.specs.Walk.{Row, Rule, Text, used, walked}
 use Rattle.clap.specs.Simple.{Shape, built_leaf, filled, with_index}
 use Rattle.clap.specs.Words.{new_app}
 use Rattle.clap.specs.Faults.{defaults_fault}
-use Rattle.clap.proofs.OnLiterals.{clap_on_literals}
 use Rattle.sas_words.specs.Grammar.{Among, explained, file_rule, over_plan, over_task, request_names}
 use Rattle.sas_words.specs.Usage.{AreTwo}
 use Rattle.sas_words.proofs.Options.{cons≢nil, second, why_here}

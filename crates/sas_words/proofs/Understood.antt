@@ -1,14 +1,14 @@
 -- Which words clap takes, and what it finds in them.
-use Rattle.std.proofs.Common.{◌≡◌, ◌∙◌, ◌⊎◌, ◌≤◌, inl, inr, ℕ, Bool, true, false, cond, refl, sym, ap, subst, subst₂, arith, List, [], ◌∷◌, length, drop, Option, Some, None, codes, bytes_eq}
+use Rattle.std.proofs.Common.{◌≡◌, ◌∙◌, ◌≤◌, inl, inr, ℕ, Bool, true, false, cond, refl, sym, ap, subst, subst₂, arith, List, [], ◌∷◌, length, drop, codes, bytes_eq}
 use Rattle.std.proofs.lemmas.Slice.Eq.{bytes_eq-Decides}
 use Rattle.clap.specs.Lexer.{usize_max}
-use Rattle.clap.specs.Walk.{Text, rows_after}
+use Rattle.clap.specs.Walk.{Text}
 use Rattle.clap.specs.Simple.{Shape, subcommand_of}
 use Rattle.clap.specs.Faults.{fault_of}
 use Rattle.clap.proofs.OnLiterals.{clap_on_literals}
 use Rattle.sas_words.specs.Grammar.{Among, HasFound, request_names, sas_app}
 use Rattle.sas_words.specs.Usage.{IsAccepted, IsCall, operands, options, options_of, spelled}
-use Rattle.sas_words.proofs.Options.{HaveCharacters, cons≢nil}
+use Rattle.sas_words.proofs.Options.{HaveCharacters}
 use Rattle.sas_words.proofs.Machines.{Follows, Machine, complete, head, same_why, sound, tail}
 use Rattle.sas_words.proofs.Requests.{IsRequest, first_word, request_faults, request_rows}
 use Rattle.sas_words.proofs.OneFile.{task_follows, task_shape, plan_follows as steps_follows, plan_shape as steps_shape}

@@ -1,5 +1,5 @@
 // What the words of a call say.
-ghost use Rattle.std.specs.Prelude.{◌≡◌, IfOk, MatchResult, ℕ, Bool, List, [], ◌∷◌, option_map};
+ghost use Rattle.std.specs.Prelude.{◌≡◌, IfOk, MatchResult, ℕ, Bool, List, [], ◌∷◌, length, option_map};
 ghost use Rattle.std.specs.Option.{option_map_or};
 ghost use Rattle.std.specs.String.{string_bytes};
 ghost use Rattle.clap.specs.Words.{first_value, found_of, kind_of, matched_of, raw_values, rows_of, subcommand_rows_of};
@@ -70,13 +70,20 @@ pub fn call_of(alloc: Global, words: &[String]) -> Result<Call, WordsFault>
     ensures only { IfOk result (λ call. (request : List ℕ) × (why : Bool) × (files : List (List ℕ))
         × IsCall (bytes_of_words words.now) request why files × IsFor request why files call) }
 {
-    // The proof needs to know that a length fits.
-    let _ = words.len();
+    // For the proof: there are fewer than 2^64 words.
+    let _ = count(words);
     let program = grammar(alloc)?;
     match program.try_get_matches_from(words) {
         Ok(matches) => found_call(alloc, &matches),
         Err(error) => Err(words_fault(error, words)),
     }
+}
+
+/// Returns the number of words.
+fn count(words: &[String]) -> usize
+    ensures { result ≡ length words.now }
+{
+    words.len()
 }
 
 /// Returns the call that was found. If the words name no request, it is `steps` over standard input.

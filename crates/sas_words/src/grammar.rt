@@ -20,16 +20,23 @@ end, except with --keep-sas-file. A compressed file is read from standard input:
   zcat output.sas.gz | sas plan - sas_plan";
 
 const ABOUT: &str = "Reads, checks and validates task files and plan files of Fast Downward";
+
 const ABOUT_PLAN: &str = "Checks whether a plan solves a task; for many plans, see plans";
+
 const ABOUT_PLANS: &str = "Checks many plans of one task, and names the cheapest valid one";
+
 const ABOUT_TRACE: &str =
     "Prints what each step of a plan changes, and whether the plan solves a task";
+
 const ABOUT_MUTEX: &str =
     "Prints for each mutex group of a task whether it is shown to be exclusive";
+
 const ABOUT_SHOW: &str = "Prints a summary of a task: its numbers, initial state and goal";
-const ABOUT_CHECK: &str =
-    "Checks whether a task file is well formed and its axioms are stratified";
+
+const ABOUT_CHECK: &str = "Checks whether a task file is well formed and its axioms are stratified";
+
 const ABOUT_PRINT: &str = "Prints a task file in its canonical form";
+
 const ABOUT_STEPS: &str =
     "Prints a plan file in its canonical form; without arguments, that on standard input";
 
@@ -88,13 +95,19 @@ fn plan_request<'a>(alloc: Global) -> Result<Command<'a>, AllocError>
 fn plans_request<'a>(alloc: Global) -> Result<Command<'a>, AllocError>
     ensures { IfOk result (IsCommand (over_plans (over_task (new_app (codes "plans"))))) }
 {
-    with_plans(alloc, with_task(alloc, command_named(alloc, "plans", ABOUT_PLANS))?)
+    with_plans(
+        alloc,
+        with_task(alloc, command_named(alloc, "plans", ABOUT_PLANS))?,
+    )
 }
 
 fn trace_request<'a>(alloc: Global) -> Result<Command<'a>, AllocError>
     ensures { IfOk result (IsCommand (over_plan (over_task (new_app (codes "trace"))))) }
 {
-    with_plan(alloc, with_task(alloc, command_named(alloc, "trace", ABOUT_TRACE))?)
+    with_plan(
+        alloc,
+        with_task(alloc, command_named(alloc, "trace", ABOUT_TRACE))?,
+    )
 }
 
 fn steps_request<'a>(alloc: Global) -> Result<Command<'a>, AllocError>
@@ -104,11 +117,7 @@ fn steps_request<'a>(alloc: Global) -> Result<Command<'a>, AllocError>
 }
 
 /// Returns a request over a task, with the flag for reasons.
-fn task_request<'a>(
-    alloc: Global,
-    name: &'a str,
-    about: &'a str,
-) -> Result<Command<'a>, AllocError>
+fn task_request<'a>(alloc: Global, name: &'a str, about: &'a str) -> Result<Command<'a>, AllocError>
     ensures { IfOk result (IsCommand (over_task (explained name.entry.now))) }
 {
     with_task(alloc, with_flag(alloc, name, about)?)

@@ -1,5 +1,4 @@
 use Rattle.std.proofs.Common.{codes}
-use Rattle.clap.specs.Words.{new_app}
 use Rattle.sas_words.specs.Grammar.{explained, over_task}
 use Rattle.sas_words.proofs.grammar.plan_request.Goals as goal
 
