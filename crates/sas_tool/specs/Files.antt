@@ -1,30 +1,15 @@
--- What is known of files before they are opened.
-use Rattle.std.specs.Prelude.{◌≡◌, ⊤, ℕ, List, [], bytes_eq, codes, if◌then◌else◌, Option, Some, None, IsSomeAnd}
+-- What opening an input of the program gives.
+use Rattle.std.specs.Prelude.{◌≡◌, ⊤, ℕ, List, [], Option, Some, None, IsSomeAnd}
 use Rattle.std.specs.Option.{option_map_or}
 use Rattle.std.specs.String.{string_bytes}
 use Rattle.sas_lines.specs.Inputs.{left_of}
 use Rattle.sas_lines.specs.declared.inputs.OpenInput.{OpenInput}
+use Rattle.sas_tool.specs.Held.{Held, absent, held_if_known, holds, unknown}
 use Rattle.sas_tool.specs.declared.arguments.Source.{Source}
 use Rattle.sas_tool.specs.declared.arguments.Source.TheVariants.{Input, File}
 use Rattle.sas_tool.specs.declared.until_end.UntilEnd.{UntilEnd}
 
--- nothing is known of a file, or that it can't be opened, or that it can, and which bytes it holds
-pub data Held : Type 0 where
-  unknown : Held
-  absent : Held
-  holds : List ℕ → Held
-
--- of an input whose bytes may be known
-abbrev pub held_if_known : Option (List ℕ) → Held
-held_if_known None = unknown
-held_if_known (Some bytes) = holds bytes
-
--- of the input that a word names: `-` names standard input, which has these bytes left, if that is
--- known, and any other word a file
-abbrev pub word_held : (List ℕ → Held) → Option (List ℕ) → List ℕ → Held
-word_held held input word = if bytes_eq word (codes "-") then held_if_known input else held word
-
--- the same of a source; where there is none, nothing is read
+-- what is known of a source; where there is none, nothing is read
 abbrev pub source_held : (List ℕ → Held) → Option (List ℕ) → Option Source → Held
 source_held held input None = holds []
 source_held held input (Some Input) = held_if_known input

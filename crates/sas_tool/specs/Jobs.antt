@@ -1,5 +1,5 @@
 -- The job that a call asks for.
-use Rattle.std.specs.Prelude.{◌≡◌, ◌≢◌, ℕ, Bool, true, false, List, [], ◌∷◌, codes, ⊤, Option, Some, None}
+use Rattle.std.specs.Prelude.{◌≡◌, ◌≢◌, ℕ, Bool, true, false, List, [], ◌∷◌, codes, ⊤, Option, Some, None, IsSomeAnd}
 use Rattle.std.specs.String.{string_bytes}
 use Rattle.sas_requests.specs.declared.Request.{Request}
 use Rattle.sas_requests.specs.declared.Request.TheVariants as request
@@ -40,9 +40,9 @@ asks_why _ = false
 -- the question for a request with this name, with the flag for reasons or without; `plans` is none
 abbrev pub IsAsked : Named → Bool → Option Question → Type 0
 IsAsked named.Plans why question = question ≡ None
-IsAsked name why None = ⊥
-IsAsked name why (Some question) = (question_name question ≡ name_of name)
-    × ((name ≡ named.Trace → why ≡ false) → asks_why question ≡ why)
+IsAsked named.Trace why question = question ≡ Some Trace
+IsAsked name why question =
+    IsSomeAnd question (λ q. (question_name q ≡ name_of name) × (asks_why q ≡ why))
 
 -- ---- sources
 

@@ -1,12 +1,11 @@
 -- What a run over a task, a plan or both does.
-use Rattle.std.specs.Prelude.{◌≡◌, ◌↔◌, ◌⊎◌, ◌<◌, ⊤, ℕ, List, Option, Some, Result, Err, IfOk}
+use Rattle.std.specs.Prelude.{◌≡◌, ◌⊎◌, ⊤, ℕ, List, Option, Some, Result, Err, IfOk}
 use Rattle.std.specs.Io.KnownBytes.{Appends}
 use Rattle.sas_answers.specs.Ending.{EndsCounting, Output}
-use Rattle.sas_answers.specs.ValidLine.{valid_line}
 use Rattle.sas_answers.specs.declared.ending.Status.{Status}
 use Rattle.sas_answers.specs.declared.ending.ToolFault.{ToolFault}
 use Rattle.sas_answers.specs.declared.ending.ToolFault.TheVariants.{Memory}
-use Rattle.sas_requests.specs.Headline.{Headline, Solves}
+use Rattle.sas_requests.specs.Headline.{Headline}
 use Rattle.sas_requests.specs.Output.{Out}
 use Rattle.sas_requests.specs.TraceOut.{TraceOut}
 use Rattle.sas_requests.specs.Why.{OutWhy}
@@ -14,7 +13,9 @@ use Rattle.sas_requests.specs.declared.Request.TheVariants.{Plan}
 use Rattle.sas_requests.specs.declared.question.Question.{Question}
 use Rattle.sas_requests.specs.declared.question.Question.TheVariants.{Answer, Explanation, Trace}
 use Rattle.sas_tool.specs.Endings.{status_of}
-use Rattle.sas_tool.specs.Files.{Held, absent, holds}
+use Rattle.sas_tool.specs.Held.{Held, absent, holds}
+use Rattle.sas_tool.specs.Says.{Says}
+use Rattle.sas_tool.specs.declared.arguments.Source.{Source}
 use Rattle.sas_tool.specs.declared.endings.Ended.{Ended}
 use Rattle.sas_tool.specs.declared.endings.Ended.TheVariants as ended
 
@@ -29,18 +30,6 @@ abbrev pub IsAboutPlan : Question → Type 0
 IsAboutPlan (Answer Plan) = ⊤
 IsAboutPlan (Explanation Plan) = ⊤
 IsAboutPlan _ = ⊥
-
--- What an exit status says of the bytes b of a task and c of a plan. `Sent` holds of the bytes that
--- were written.
-pub record Says (b c : List ℕ) (Sent : List ℕ → Type 0) (status : ℕ) : Type 0 where
-  -- 0: a line was written that says that the plan is valid, and it is true
-  pub yes : status ≡ 0 → (steps cost : ℕ) × Sent (valid_line steps cost)
-      × Solves b c (valid_line steps cost)
-  -- 1: no such line is true
-  pub no : status ≡ 1 → (steps cost : ℕ) → Solves b c (valid_line steps cost) → ⊥
-  -- and the line was written alone exactly if it is true
-  pub line : status < 2 → (steps cost : ℕ)
-      → Sent (valid_line steps cost) ↔ Solves b c (valid_line steps cost)
 
 -- The question was answered about inputs that have these bytes left, if that is known.
 pub record IsAnswered (question : Question) (task plan old new : Option (List ℕ))
@@ -71,3 +60,9 @@ pub record Ran (question : Question) (task plan : Held) (old new : Option (List 
   -- what the exit status of `plan` says
   pub says : IsAboutPlan question → (b c before : List ℕ) → task ≡ holds b → plan ≡ holds c
       → old ≡ Some before → Says b c (Appends old new) (status_of end)
+
+-- of these inputs, the one that was opened or read last
+abbrev pub IsLastOf : Option Source → Option Source → Ended → Option Source → Type 0
+IsLastOf task plan ended.TaskNotOpened last = last ≡ task
+IsLastOf task plan ended.PlanNotOpened last = last ≡ plan
+IsLastOf task plan _ last = (last ≡ task) ⊎ (last ≡ plan)

@@ -1,8 +1,8 @@
 // The arguments of the command line, as a job.
-ghost use Rattle.std.specs.Prelude.{◌≡◌, ◌<◌, ℕ, Bool, List, length, Some, IfErr, IfOk, MatchResult};
+ghost use Rattle.std.specs.Prelude.{◌≡◌, ◌<◌, ℕ, Bool, List, length, Some, IfOk, MatchResult};
 ghost use Rattle.sas_words.specs.Calls.{IsFor, IsMemory, bytes_of_words, words_in};
 ghost use Rattle.sas_words.specs.Usage.{IsAccepted, IsCall};
-ghost use Rattle.sas_tool.specs.Jobs.{Asks, IsAsked, IsInputTwice, IsRefusedFor, IsSource, source_name};
+ghost use Rattle.sas_tool.specs.Jobs.{Asks, IsAsked, IsInputTwice, IsRefusedFor, IsSource, asks_why, question_name, request_name, source_name};
 
 use crate::{Question, Request};
 use sas_words::{Call, Named, WordsFault, call_of};
@@ -76,9 +76,8 @@ pub fn command(alloc: Global, words: &[String]) -> Result<Job, WordsFault>
 impl Job {
     /// Returns the job, unless both of its sources are standard input.
     fn with_one_input(self) -> Result<Job, WordsFault>
-        ensures ok { IfOk result (λ job. (job ≡ self) × (IsInputTwice self → ⊥)) }
-        ensures twice { IfErr result (λ fault. (fault ≡ WordsFault.InputTwice)
-            × IsInputTwice self) }
+        ensures { MatchResult result (λ job. (job ≡ self) × (IsInputTwice self → ⊥))
+            (λ fault. (fault ≡ WordsFault.InputTwice) × IsInputTwice self) }
     {
         match &self {
             Job::Files {
@@ -120,21 +119,27 @@ fn job_of(call: Call) -> Job
 fn question_of(request: Named, why: bool) -> Option<Question>
     ensures { IsAsked request why result }
 {
-    let asked = match request {
-        Named::Plans => return None,
-        Named::Trace => return Some(Question::Trace),
-        Named::Plan => Request::Plan,
-        Named::Mutex => Request::Mutex,
-        Named::Show => Request::Show,
-        Named::Check => Request::Check,
-        Named::Print => Request::Print,
-        Named::Steps => Request::Steps,
-    };
-    Some(if why {
-        Question::Explanation(asked)
+    match request {
+        Named::Plan => Some(question_about(Request::Plan, why)),
+        Named::Plans => None,
+        Named::Trace => Some(Question::Trace),
+        Named::Mutex => Some(question_about(Request::Mutex, why)),
+        Named::Show => Some(question_about(Request::Show, why)),
+        Named::Check => Some(question_about(Request::Check, why)),
+        Named::Print => Some(question_about(Request::Print, why)),
+        Named::Steps => Some(question_about(Request::Steps, why)),
+    }
+}
+
+fn question_about(request: Request, why: bool) -> Question
+    ensures name { question_name result ≡ request_name request }
+    ensures why { asks_why result ≡ why }
+{
+    if why {
+        Question::Explanation(request)
     } else {
-        Question::Answer(asked)
-    })
+        Question::Answer(request)
+    }
 }
 
 /// Returns the source that a word names, if there is one.

@@ -1,7 +1,8 @@
 // The files of a system, and how the inputs of the program are opened.
 ghost use Rattle.std.specs.Prelude.{◌≡◌, ℕ, List};
 ghost use Rattle.sas_lines.specs.Inputs.{left_of};
-ghost use Rattle.sas_tool.specs.Files.{Held, Opens, input_left, source_held, word_held};
+ghost use Rattle.sas_tool.specs.Files.{Opens, input_left, source_held};
+ghost use Rattle.sas_tool.specs.Held.{Held, word_held};
 
 use crate::arguments::Source;
 use crate::streams::{Replacements, replace_closed};
@@ -40,7 +41,7 @@ pub struct SystemFiles<'r, R, I, O, E> {
 }
 
 impl<'r, R: Files, I: AsFd, O: AsFd, E: AsFd> NamedFiles for SystemFiles<'r, R, I, O, E> {
-    ghost use Rattle.sas_tool.specs.Files.{unknown};
+    ghost use Rattle.sas_tool.specs.Held.{unknown};
 
     type File = R::File;
 
@@ -54,39 +55,6 @@ impl<'r, R: Files, I: AsFd, O: AsFd, E: AsFd> NamedFiles for SystemFiles<'r, R, 
 
     fn open_file(&self, name: &str) -> Option<R::File> {
         fs::open(self.rt, name).ok()
-    }
-}
-
-/// Two files in memory. There are no others.
-#[derive(Clone, Copy)]
-pub struct FilesInMemory<'f> {
-    pub first: (&'f str, &'f [u8]),
-    pub second: (&'f str, &'f [u8]),
-}
-
-impl<'f> NamedFiles for FilesInMemory<'f> {
-    ghost use Rattle.std.specs.Prelude.{if◌then◌else◌, bytes_eq};
-    ghost use Rattle.sas_tool.specs.Files.{absent, holds};
-
-    type File = &'f [u8];
-
-    type Ready = ();
-
-    ghost held = { λ files name. if bytes_eq name files.first.0.now then holds files.first.1.now
-        else (if bytes_eq name files.second.0.now then holds files.second.1.now else absent) };
-
-    fn ready(&self) -> Option<()> {
-        Some(())
-    }
-
-    fn open_file(&self, name: &str) -> Option<&'f [u8]> {
-        if name == self.first.0 {
-            return Some(self.first.1);
-        }
-        if name == self.second.0 {
-            return Some(self.second.1);
-        }
-        None
     }
 }
 

@@ -4,13 +4,15 @@
 mod arguments;
 mod endings;
 mod files;
+mod memory;
 mod plan_files;
 mod program;
 mod runs;
 mod streams;
 mod until_end;
 
-pub use files::{FilesInMemory, Inputs, NamedFiles};
+pub use files::{Inputs, NamedFiles};
+pub use memory::{FilesInMemory, answer_in_memory};
 pub use program::{answer_words, start};
 // For tests: what words request, and how the program ends.
 #[doc(hidden)]

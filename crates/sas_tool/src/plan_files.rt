@@ -1,13 +1,16 @@
 // Many plan files, opened one after another.
-ghost use Rattle.std.specs.Prelude.{◌≡◌, ◌↔◌, ◌≤◌, All, IsTrue, false};
+ghost use Rattle.std.specs.Prelude.{◌≡◌, ◌↔◌, ◌≤◌, ◌++◌, [], All, IsTrue, false, codes, slice_index_or};
 ghost use Rattle.sas_requests.specs.Inputs.{IsLabel};
+ghost use Rattle.sas_words.specs.Calls.{bytes_of_words};
+ghost use Rattle.sas_tool.specs.Endings.{Puts};
 ghost use Rattle.sas_tool.specs.Labels.{times_named};
+ghost use Rattle.sas_tool.specs.PlansEndings.{fault_words, plans_status, plans_text};
 ghost use Rattle.std.specs.String.{string_bytes};
 
 use crate::arguments::Source;
 use crate::endings::{
-    Ended, FAULT, INPUT_TWICE, INVALID_ARGUMENTS, NOT_READY, TASK_NOT_OPENED, finish, put, put_line,
-    stop,
+    Ended, FAULT, INPUT_TWICE, INVALID_ARGUMENTS, NOT_READY, TASK_NOT_OPENED, finish, put,
+    put_line, stop,
 };
 use crate::files::{Inputs, NamedFiles};
 use crate::{Status, judge};
@@ -27,7 +30,8 @@ impl<'p, N: NamedFiles, I: Read + Copy + Drop> PlanInputs for PlanFiles<'p, N, I
     ghost use Rattle.std.specs.Prelude.{◌≡◌, [], slice_index_or};
     ghost use Rattle.sas_lines.specs.Inputs.{left_of};
     ghost use Rattle.sas_words.specs.Calls.{bytes_of_words};
-    ghost use Rattle.sas_tool.specs.Files.{Opens, bytes_if_known, word_held};
+    ghost use Rattle.sas_tool.specs.Files.{Opens, bytes_if_known};
+    ghost use Rattle.sas_tool.specs.Held.{word_held};
 
     type Input = OpenInput<N::File, I>;
 
@@ -52,7 +56,8 @@ impl<'p, N: NamedFiles, I: Read + Copy + Drop> PlanInputs for PlanFiles<'p, N, I
     }
 
     fn open(&mut self, number: usize) -> Option<OpenInput<N::File, I>> {
-        self.inputs.open_word(self.labels[number].as_str())
+        let labels = self.labels;
+        self.inputs.open_word(labels[number].as_str())
     }
 }
 
@@ -129,15 +134,19 @@ fn judge_plans<T: Read + Drop, N: NamedFiles, I: Read + Copy + Drop, W: Write>(
 }
 
 /// Ends with the exit status of a run over plans with these labels, after its line on standard error, if there is one.
-pub fn finish_plans<E: Write>(
-    errors: &mut Watched<E>,
-    ended: PlansEnded,
-    labels: &[String],
-) -> u8 {
+pub fn finish_plans<E: Write>(errors: &mut Watched<E>, ended: PlansEnded, labels: &[String]) -> u8
+    ensures status { result ≡ plans_status ended }
+    ensures text { Puts E.contents (plans_text (bytes_of_words labels.now) ended)
+        errors.old errors.new }
+{
     match ended {
         PlansEnded::NotReady => stop(errors, FAULT, NOT_READY),
         PlansEnded::NoLabel => {
-            stop(errors, INVALID_ARGUMENTS, "sas: a plan's name has a line end")
+            stop(
+                errors,
+                INVALID_ARGUMENTS,
+                "sas: a plan's name has a line end",
+            )
         }
         PlansEnded::InputTwice => stop(errors, INVALID_ARGUMENTS, INPUT_TWICE),
         PlansEnded::TaskNotOpened => stop(errors, FAULT, TASK_NOT_OPENED),
@@ -157,18 +166,36 @@ fn stop_at<E: Write>(
     fault: InputFault,
     labels: &[String],
     number: usize,
-) -> u8 {
-    let message = match fault {
+) -> u8
+    ensures status { result ≡ 3 }
+    ensures text { Puts E.contents (fault_words fault
+        ++ (slice_index_or (bytes_of_words labels.now) number [] ++ codes "\n"))
+        errors.old errors.new }
+{
+    put(errors, words_of(fault).as_bytes());
+    put_line(errors, label_at(labels, number));
+    FAULT
+}
+
+/// Returns the words that the label of a plan follows, if it wasn't read.
+fn words_of(fault: InputFault) -> &'static str
+    ensures { result.now ≡ fault_words fault }
+{
+    match fault {
         InputFault::NotOpened => "sas: cannot open the plan: ",
         InputFault::Read => "sas: read failed: ",
         InputFault::TooLong => "sas: input too long: ",
-    };
-    put(errors, message.as_bytes());
-    match labels.get(number) {
-        Some(label) => put_line(errors, label.as_bytes()),
-        None => put_line(errors, b""),
     }
-    FAULT
+}
+
+/// Returns the label with this number.
+fn label_at(labels: &[String], number: usize) -> &[u8]
+    ensures { result.now ≡ slice_index_or (bytes_of_words labels.now) number [] }
+{
+    match labels.get(number) {
+        Some(label) => label.as_bytes(),
+        None => b"",
+    }
 }
 
 /// Returns whether none of the labels has a line end.

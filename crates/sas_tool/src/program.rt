@@ -1,21 +1,24 @@
 // The program: its arguments, its streams and how it ends.
-ghost use Rattle.std.specs.Prelude.{◌≡◌, ◌≢◌, false, ℕ, Bool, List, [], ◌∷◌, Some, IsOkAnd, codes};
+ghost use Rattle.std.specs.Prelude.{◌≡◌, ◌≢◌, false, ℕ, List, [], ◌∷◌, Some, codes};
+ghost use Rattle.std.specs.Result.{IsOkAnd};
 ghost use Rattle.std.specs.Io.KnownBytes.{Appends};
 ghost use Rattle.sas_words.specs.Calls.{bytes_of_words};
+ghost use Rattle.sas_words.specs.Grammar.{plan_words, task_words};
 ghost use Rattle.sas_words.specs.Usage.{IsCall};
-ghost use Rattle.sas_tool.specs.Calls.{Does};
-ghost use Rattle.sas_tool.specs.Files.{holds, word_held};
-ghost use Rattle.sas_tool.specs.Runs.{Says};
+ghost use Rattle.sas_tool.specs.Does.{Does, Reports, words_held};
+ghost use Rattle.sas_tool.specs.Endings.{Puts};
+ghost use Rattle.sas_tool.specs.Held.{holds, word_held};
+ghost use Rattle.sas_tool.specs.Jobs.{Asks, asks_why, question_name};
+ghost use Rattle.sas_tool.specs.Says.{Says};
 
+use crate::Question;
 use crate::arguments::{Job, command};
 use crate::endings::{
-    Ended, FAULT, INPUT_TWICE, INVALID_ARGUMENTS, NO, OUT_OF_MEMORY, WRITE_FAILED, YES, finish, stop,
+    FAULT, INPUT_TWICE, INVALID_ARGUMENTS, NO, OUT_OF_MEMORY, WRITE_FAILED, YES, finish, stop,
 };
 use crate::files::{Inputs, NamedFiles, SystemFiles};
 use crate::plan_files::{finish_plans, run_plans};
 use crate::runs::{Sources, run_files};
-use crate::{Question, ToolFault};
-use clap::Error;
 use sas_lines::Watched;
 use sas_words::WordsFault;
 use std::alloc::Global;
@@ -64,7 +67,7 @@ pub fn start<R: AllocGlobal + Env + Files + Print + Eprint, I: AsFd + Read + Cop
     }
 }
 
-/// Answers the call that the words of the command line are, and returns the exit status.
+/// Answers the call that the words of the command line are, and returns the exit status. Other words are handed back as a fault.
 pub fn answer_words<N: NamedFiles, I: Read + Copy + Drop, W: Write, E: Write>(
     alloc: Global,
     words: &[String],
@@ -73,29 +76,78 @@ pub fn answer_words<N: NamedFiles, I: Read + Copy + Drop, W: Write, E: Write>(
     errors: &mut Watched<E>,
 ) -> Result<u8, WordsFault>
     requires out { out.old.failed ≡ false }
+    // At a call for `plan` over two files that hold b and c, the exit status says whether the plan is valid.
+    ensures headline { (t p b c before : List ℕ)
+        → IsCall (bytes_of_words words.now) (codes "plan") false (t ∷ p ∷ [])
+        → word_held (N.held inputs.entry.files.now) (I.remaining inputs.entry.standard) t ≡ holds b
+        → word_held (N.held inputs.entry.files.now) (I.remaining inputs.entry.standard) p ≡ holds c
+        → W.contents out.old.device ≡ Some before
+        → IsOkAnd result (Says b c
+        (Appends (W.contents out.old.device) (W.contents out.new.device))) }
+    // At a call for a question over these files, it is answered, unless both are standard input.
+    ensures does { (question : Question) (files : List (List ℕ))
+        → IsCall (bytes_of_words words.now) (question_name question) (asks_why question) files
+        → files ≢ codes "-" ∷ codes "-" ∷ []
+        → IsOkAnd result (Does question
+        (words_held (N.held inputs.entry.files.now) (I.remaining inputs.entry.standard))
+        (task_words (question_name question) files) (plan_words (question_name question) files)
+        (W.contents out.old.device) (W.contents out.new.device) (out.new ≡ out.old)
+        (λ text. Puts E.contents text errors.old errors.new)) }
 {
     match command(alloc, words) {
-        Ok(Job::Files {
+        Ok(job) => Ok(answer_job(alloc, &job, inputs, out, errors)),
+        Err(fault) => report_fault(fault, errors),
+    }
+}
+
+/// Ends where a call can't be answered. A fault of words that are none is handed back.
+fn report_fault<E: Write>(fault: WordsFault, errors: &mut Watched<E>) -> Result<u8, WordsFault>
+    ensures { Reports (λ text. Puts E.contents text errors.old errors.new) result fault }
+{
+    match fault {
+        WordsFault::Memory => Ok(stop(errors, FAULT, OUT_OF_MEMORY)),
+        WordsFault::InputTwice => Ok(stop(errors, INVALID_ARGUMENTS, INPUT_TWICE)),
+        other => Err(other),
+    }
+}
+
+/// Does what a job requests, and returns the exit status.
+fn answer_job<N: NamedFiles, I: Read + Copy + Drop, W: Write, E: Write>(
+    alloc: Global,
+    job: &Job,
+    inputs: Inputs<'_, N, I>,
+    out: &mut Watched<W>,
+    errors: &mut Watched<E>,
+) -> u8
+    requires out { out.old.failed ≡ false }
+    ensures { (question : Question) (files : List (List ℕ))
+        → Asks (question_name question) (asks_why question) files job.now
+        → Does question (words_held (N.held inputs.entry.files.now) (I.remaining inputs.entry.standard))
+        (task_words (question_name question) files) (plan_words (question_name question) files)
+        (W.contents out.old.device) (W.contents out.new.device) (out.new ≡ out.old)
+        (λ text. Puts E.contents text errors.old errors.new) result }
+{
+    match job {
+        Job::Files {
             question,
             task,
             plan,
-        }) => {
-            let sources = Sources {
-                task: &task,
-                plan: &plan,
-            };
-            let run = run_files(alloc, inputs, question, sources, out);
-            let why = matches!(question, Question::Explanation(_));
-            Ok(finish(errors, run.ended, why, run.last))
+        } => {
+            let run = run_files(alloc, inputs, *question, Sources { task, plan }, out);
+            finish(errors, run.ended, is_for_reasons(*question), run.last)
         }
-        Ok(Job::Plans { task, labels }) => {
-            let ended = run_plans(alloc, inputs, &task, labels.as_slice(), out);
-            Ok(finish_plans(errors, ended, labels.as_slice()))
+        Job::Plans { task, labels } => {
+            let ended = run_plans(alloc, inputs, task, labels.as_slice(), out);
+            finish_plans(errors, ended, labels.as_slice())
         }
-        Err(WordsFault::Memory) => Ok(stop(errors, FAULT, OUT_OF_MEMORY)),
-        Err(WordsFault::InputTwice) => Ok(stop(errors, INVALID_ARGUMENTS, INPUT_TWICE)),
-        Err(fault) => Err(fault),
     }
+}
+
+/// Returns whether a question is for reasons, too.
+fn is_for_reasons(question: Question) -> bool
+    ensures { result ≡ asks_why question }
+{
+    matches!(question, Question::Explanation(_))
 }
 
 /// Ends where the words are no call: with the text of the parser, or with the version.

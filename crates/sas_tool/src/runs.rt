@@ -1,7 +1,7 @@
 // A run over a task, a plan or both.
 ghost use Rattle.std.specs.Prelude.{◌≡◌, false};
 ghost use Rattle.sas_tool.specs.Files.{left_until_end, source_held};
-ghost use Rattle.sas_tool.specs.Runs.{IsAnswered, Ran};
+ghost use Rattle.sas_tool.specs.Runs.{IsAnswered, IsLastOf, Ran};
 
 use crate::arguments::Source;
 use crate::endings::Ended;
@@ -35,10 +35,11 @@ pub fn run_files<'s, N: NamedFiles, I: Read + Copy + Drop, W: Write>(
     out: &mut Watched<W>,
 ) -> Run<'s>
     requires out { out.old.failed ≡ false }
-    ensures { let held = source_held (N.held inputs.files.now) (I.remaining inputs.standard) in
-        Ran question (held sources.task.now) (held sources.plan.now)
+    ensures ran { let held = source_held (N.held inputs.entry.files.now) (I.remaining inputs.entry.standard) in
+        Ran question (held sources.entry.task.now) (held sources.entry.plan.now)
         (W.contents out.old.device) (W.contents out.new.device) (out.new ≡ out.old)
         result.ended }
+    ensures last { IsLastOf sources.entry.task.now sources.entry.plan.now result.ended result.last.now }
 {
     let Some(ready) = inputs.files.ready() else {
         return Run {
@@ -60,10 +61,11 @@ fn run_ready<'s, N: NamedFiles, I: Read + Copy + Drop, W: Write>(
     out: &mut Watched<W>,
 ) -> Run<'s>
     requires out { out.old.failed ≡ false }
-    ensures { let held = source_held (N.held inputs.files.now) (I.remaining inputs.standard) in
-        Ran question (held sources.task.now) (held sources.plan.now)
+    ensures ran { let held = source_held (N.held inputs.entry.files.now) (I.remaining inputs.entry.standard) in
+        Ran question (held sources.entry.task.now) (held sources.entry.plan.now)
         (W.contents out.old.device) (W.contents out.new.device) (out.new ≡ out.old)
         result.ended }
+    ensures last { IsLastOf sources.entry.task.now sources.entry.plan.now result.ended result.last.now }
 {
     let Some(task) = inputs.open(sources.task) else {
         return Run {

@@ -1,0 +1,4 @@
+mod Running
+mod Putting
+mod Jobbing
+mod Answering
