@@ -18,7 +18,7 @@ from harness import differs
 
 TOP = os.path.dirname(os.path.dirname(os.path.abspath(__file__)))
 PAGES = ("docs/READING.md", "docs/PROMISES.md")
-STARTS = 14
+STARTS = 16
 # what rests on these files has to be believed for `plan valid`, in at most so many lines
 THEOREM, MOST = ("crates/sas_words/specs/Usage.antt", "crates/sas_tool/specs/Held.antt", "crates/sas_tool/specs/Says.antt"), 640
 # a heading of a page; a file that the page names; one with its number of lines; one in bold, with which a section starts

@@ -15,7 +15,8 @@ use Rattle.sas_words.specs.Grammar.{plan_words, task_words}
 use Rattle.sas_tool.specs.Endings.{error_text, status_of}
 use Rattle.sas_tool.specs.Files.{source_held}
 use Rattle.sas_tool.specs.Held.{Held, held_if_known}
-use Rattle.sas_tool.specs.Jobs.{Asks, IsRefusedFor, IsSource, asks_why, question_name, request_name}
+use Rattle.sas_tool.specs.Jobs.{Asks, IsRefusedFor}
+use Rattle.sas_tool.specs.Sources.{IsSource, asks_why, question_name, request_name}
 use Rattle.sas_tool.specs.Runs.{IsLastOf, Ran}
 use Rattle.sas_tool.specs.Says.{Says}
 use Rattle.sas_tool.specs.declared.arguments.Job.TheVariants.{Files}
@@ -71,7 +72,7 @@ no_plans q e = true≢false (sym ((bytes_eq-Decides (question_name q) (codes "pl
 
 -- ---- sources, by their words
 
-differs : (a b : List ℕ) → a ≢ b → bytes_eq a b ≡ false
+pub differs : (a b : List ℕ) → a ≢ b → bytes_eq a b ≡ false
 differs a b other = go (bytes_eq a b) refl
   where
     go : (x : Bool) → bytes_eq a b ≡ x → x ≡ false

@@ -9,7 +9,8 @@ use Rattle.sas_words.specs.declared.calls.Named.{Named}
 use Rattle.sas_words.specs.declared.calls.Named.TheVariants as named
 use Rattle.sas_words.specs.declared.calls.WordsFault.{WordsFault}
 use Rattle.sas_words.specs.declared.calls.WordsFault.TheVariants as fault
-use Rattle.sas_tool.specs.Jobs.{Asks, IsAsked, IsInputTwice, IsRefusedFor, IsSource, asks_why, question_name}
+use Rattle.sas_tool.specs.Jobs.{Asks, IsAsked, IsInputTwice, IsRefusedFor}
+use Rattle.sas_tool.specs.Sources.{IsSource, asks_why, question_name}
 use Rattle.sas_tool.specs.declared.arguments.Job.{Job}
 use Rattle.sas_tool.specs.declared.arguments.Job.TheVariants.{Files, Plans}
 

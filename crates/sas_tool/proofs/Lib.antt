@@ -2,3 +2,4 @@ mod Running
 mod Putting
 mod Jobbing
 mod Answering
+mod Judging

@@ -7,7 +7,7 @@ use Rattle.sas_words.specs.declared.calls.WordsFault.TheVariants as fault
 use Rattle.sas_requests.specs.declared.question.Question.{Question}
 use Rattle.sas_tool.specs.Endings.{error_text, status_of}
 use Rattle.sas_tool.specs.Held.{Held, holds, word_held}
-use Rattle.sas_tool.specs.Jobs.{IsSource, asks_why}
+use Rattle.sas_tool.specs.Sources.{IsSource, asks_why}
 use Rattle.sas_tool.specs.Runs.{Ran}
 use Rattle.sas_tool.specs.declared.arguments.Source.{Source}
 use Rattle.sas_tool.specs.declared.endings.Ended.{Ended}

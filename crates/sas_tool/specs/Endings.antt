@@ -4,7 +4,7 @@ use Rattle.std.specs.Io.KnownBytes.{Appends}
 use Rattle.sas_lines.specs.Device.{Device}
 use Rattle.sas_answers.specs.Shown.{shown_name}
 use Rattle.sas_answers.specs.declared.ending.ToolFault.TheVariants.{Read, TooLong}
-use Rattle.sas_tool.specs.Jobs.{source_name}
+use Rattle.sas_tool.specs.Sources.{source_name}
 use Rattle.sas_tool.specs.Statuses.{error_line, exit_status}
 use Rattle.sas_tool.specs.declared.arguments.Source.{Source}
 use Rattle.sas_tool.specs.declared.endings.Ended.{Ended}

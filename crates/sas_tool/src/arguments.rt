@@ -2,7 +2,8 @@
 ghost use Rattle.std.specs.Prelude.{◌≡◌, ◌<◌, ℕ, Bool, List, length, Some, IfOk, MatchResult};
 ghost use Rattle.sas_words.specs.Calls.{IsFor, IsMemory, bytes_of_words, words_in};
 ghost use Rattle.sas_words.specs.Usage.{IsAccepted, IsCall};
-ghost use Rattle.sas_tool.specs.Jobs.{Asks, IsAsked, IsInputTwice, IsRefusedFor, IsSource, asks_why, question_name, request_name, source_name};
+ghost use Rattle.sas_tool.specs.Jobs.{Asks, IsAsked, IsInputTwice, IsRefusedFor};
+ghost use Rattle.sas_tool.specs.Sources.{IsSource, asks_why, question_name, request_name, source_name};
 
 use crate::{Question, Request};
 use sas_words::{Call, Named, WordsFault, call_of};

@@ -1,9 +1,15 @@
 // Many plan files, opened one after another.
-ghost use Rattle.std.specs.Prelude.{◌≡◌, ◌↔◌, ◌≤◌, ◌++◌, [], All, IsTrue, false, codes, slice_index_or};
-ghost use Rattle.sas_requests.specs.Inputs.{IsLabel};
+ghost use Rattle.std.specs.Prelude.{◌≡◌, ◌↔◌, ◌≤◌, ◌++◌, ℕ, List, [], Some, All, IfOk, IsTrue, false, codes, slice_index_or};
+ghost use Rattle.std.specs.Io.KnownBytes.{Appends};
+ghost use Rattle.sas_answers.specs.Ending.{Ends};
+ghost use Rattle.sas_requests.specs.Inputs.{IsLabel, tool_result};
+ghost use Rattle.sas_requests.specs.Judged.{JudgeOut, PlansHeadline};
+ghost use Rattle.sas_tool.specs.Files.{source_held};
+ghost use Rattle.sas_tool.specs.Held.{word_held};
+ghost use Rattle.sas_tool.specs.PlansRuns.{AllHold, PlansRan};
 ghost use Rattle.sas_words.specs.Calls.{bytes_of_words};
 ghost use Rattle.sas_tool.specs.Endings.{Puts};
-ghost use Rattle.sas_tool.specs.Labels.{times_named};
+ghost use Rattle.sas_tool.specs.Labels.{is_input, times_named};
 ghost use Rattle.sas_tool.specs.PlansEndings.{fault_words, plans_status, plans_text};
 ghost use Rattle.std.specs.String.{string_bytes};
 
@@ -82,6 +88,11 @@ pub fn run_plans<N: NamedFiles, I: Read + Copy + Drop, W: Write>(
     out: &mut Watched<W>,
 ) -> PlansEnded
     requires out { out.old.failed ≡ false }
+    ensures { let held = N.held inputs.entry.files.now in
+        let standard = I.remaining inputs.entry.standard in
+        PlansRan (bytes_of_words labels.now) (2 ≤ times_named (is_input task.now) labels.now)
+        (source_held held standard task.now) (word_held held standard)
+        (W.contents out.old.device) (W.contents out.new.device) (out.new ≡ out.old) result }
 {
     let Some(ready) = inputs.files.ready() else {
         return PlansEnded::NotReady;
@@ -100,11 +111,16 @@ fn run_ready<N: NamedFiles, I: Read + Copy + Drop, W: Write>(
     out: &mut Watched<W>,
 ) -> PlansEnded
     requires out { out.old.failed ≡ false }
+    ensures { let held = N.held inputs.entry.files.now in
+        let standard = I.remaining inputs.entry.standard in
+        PlansRan (bytes_of_words labels.now) (2 ≤ times_named (is_input task.now) labels.now)
+        (source_held held standard task.now) (word_held held standard)
+        (W.contents out.old.device) (W.contents out.new.device) (out.new ≡ out.old) result }
 {
     if !are_label_texts(labels) {
         return PlansEnded::NoLabel;
     }
-    if name_input_twice(labels, *task == Some(Source::Input)) {
+    if name_input_twice(labels, is_standard_input(task)) {
         return PlansEnded::InputTwice;
     }
     match inputs.open(task) {
@@ -125,6 +141,19 @@ fn judge_plans<T: Read + Drop, N: NamedFiles, I: Read + Copy + Drop, W: Write>(
 ) -> Result<Status, JudgeFault>
     requires labels { All (λ label. IsLabel (string_bytes label)) plans.labels.now }
     requires out { out.old.failed ≡ false }
+    ensures output { let labels = bytes_of_words plans.entry.labels.now in
+        (b : List ℕ) (cs : List (List ℕ)) → T.remaining task ≡ Some b
+        → AllHold (word_held (N.held plans.entry.inputs.files.now)
+        (I.remaining plans.entry.inputs.standard)) labels cs
+        → Ends (JudgeOut labels b cs)
+        (Appends (W.contents out.old.device) (W.contents out.new.device)) (tool_result result) }
+    ensures headline { let labels = bytes_of_words plans.entry.labels.now in
+        IfOk result (λ status. (b before : List ℕ) (cs : List (List ℕ)) → T.remaining task ≡ Some b
+        → AllHold (word_held (N.held plans.entry.inputs.files.now)
+        (I.remaining plans.entry.inputs.standard)) labels cs
+        → W.contents out.old.device ≡ Some before
+        → PlansHeadline labels b cs
+        (Appends (W.contents out.old.device) (W.contents out.new.device)) status) }
 {
     let mut task = Watched::new(task);
     let mut plans = plans;
@@ -196,6 +225,13 @@ fn label_at(labels: &[String], number: usize) -> &[u8]
         Some(label) => label.as_bytes(),
         None => b"",
     }
+}
+
+/// Returns whether a source is standard input.
+fn is_standard_input(source: &Option<Source>) -> bool
+    ensures { result ≡ is_input source.now }
+{
+    matches!(source, Some(Source::Input))
 }
 
 /// Returns whether none of the labels has a line end.

@@ -8,7 +8,9 @@ ghost use Rattle.sas_words.specs.Usage.{IsCall};
 ghost use Rattle.sas_tool.specs.Does.{Does, Reports, words_held};
 ghost use Rattle.sas_tool.specs.Endings.{Puts};
 ghost use Rattle.sas_tool.specs.Held.{holds, word_held};
-ghost use Rattle.sas_tool.specs.Jobs.{Asks, asks_why, question_name};
+ghost use Rattle.sas_tool.specs.Jobs.{Asks};
+ghost use Rattle.sas_tool.specs.Sources.{asks_why, question_name};
+ghost use Rattle.sas_tool.specs.PlansRuns.{PlansDo};
 ghost use Rattle.sas_tool.specs.Says.{Says};
 
 use crate::Question;
@@ -93,6 +95,13 @@ pub fn answer_words<N: NamedFiles, I: Read + Copy + Drop, W: Write, E: Write>(
         (task_words (question_name question) files) (plan_words (question_name question) files)
         (W.contents out.old.device) (W.contents out.new.device) (out.new ≡ out.old)
         (λ text. Puts E.contents text errors.old errors.new)) }
+    // At a call for `plans`, the plans are judged, unless standard input is named twice or a label has a line end.
+    ensures plans { (t : List ℕ) (labels : List (List ℕ))
+        → IsCall (bytes_of_words words.now) (codes "plans") false (t ∷ labels)
+        → IsOkAnd result (PlansDo
+        (word_held (N.held inputs.entry.files.now) (I.remaining inputs.entry.standard)) t labels
+        (W.contents out.old.device) (W.contents out.new.device) (out.new ≡ out.old)
+        (λ text. Puts E.contents text errors.old errors.new)) }
 {
     match command(alloc, words) {
         Ok(job) => Ok(answer_job(alloc, &job, inputs, out, errors)),
@@ -120,11 +129,16 @@ fn answer_job<N: NamedFiles, I: Read + Copy + Drop, W: Write, E: Write>(
     errors: &mut Watched<E>,
 ) -> u8
     requires out { out.old.failed ≡ false }
-    ensures { (question : Question) (files : List (List ℕ))
+    ensures does { (question : Question) (files : List (List ℕ))
         → Asks (question_name question) (asks_why question) files job.now
         → Does question (words_held (N.held inputs.entry.files.now) (I.remaining inputs.entry.standard))
         (task_words (question_name question) files) (plan_words (question_name question) files)
         (W.contents out.old.device) (W.contents out.new.device) (out.new ≡ out.old)
+        (λ text. Puts E.contents text errors.old errors.new) result }
+    ensures plans { (t : List ℕ) (labels : List (List ℕ))
+        → Asks (codes "plans") false (t ∷ labels) job.now
+        → PlansDo (word_held (N.held inputs.entry.files.now) (I.remaining inputs.entry.standard))
+        t labels (W.contents out.old.device) (W.contents out.new.device) (out.new ≡ out.old)
         (λ text. Puts E.contents text errors.old errors.new) result }
 {
     match job {
@@ -137,8 +151,9 @@ fn answer_job<N: NamedFiles, I: Read + Copy + Drop, W: Write, E: Write>(
             finish(errors, run.ended, is_for_reasons(*question), run.last)
         }
         Job::Plans { task, labels } => {
-            let ended = run_plans(alloc, inputs, task, labels.as_slice(), out);
-            finish_plans(errors, ended, labels.as_slice())
+            let names = labels.as_slice();
+            let ended = run_plans(alloc, inputs, task, names, out);
+            finish_plans(errors, ended, names)
         }
     }
 }

@@ -1,7 +1,7 @@
 use Rattle.std.proofs.Common.{◌<◌, ◌∙◌, length, Some, None, refl, ap, subst, arith}
 use Rattle.std.proofs.lemmas.List.{length-map}
 use Rattle.std.specs.String.{string_bytes}
-use Rattle.sas_tool.specs.Jobs.{IsSource}
+use Rattle.sas_tool.specs.Sources.{IsSource}
 use Rattle.sas_tool.proofs.Jobbing.{asks_files, asks_many}
 use Rattle.sas_tool.proofs.arguments.job_of.Goals as goal
 

@@ -1,7 +1,7 @@
 use Rattle.std.proofs.Common.{◌∙◌, ◌++◌, ap, subst, sym, codes}
 use Rattle.sas_answers.specs.Shown.{shown_name}
 use Rattle.sas_tool.specs.Endings.{Puts, name_text}
-use Rattle.sas_tool.specs.Jobs.{source_name}
+use Rattle.sas_tool.specs.Sources.{source_name}
 use Rattle.sas_tool.proofs.Putting.{puts_both}
 use Rattle.sas_tool.proofs.endings.put_name.Goals as goal
 
