@@ -100,7 +100,7 @@ def mandoc_cases():
 
 def diagnostic_cases():
     """Yields the lines on standard error, as the code has them."""
-    code = text_of(f"{TOP}/crates/sas_tool/src/program.rt") + text_of(f"{TOP}/crates/sas_tool/src/plan_files.rt")
+    code = "".join(text_of(f"{TOP}/crates/sas_tool/src/{it}.rt") for it in ("program", "endings", "plan_files"))
     messages = set(re.findall(r'"(sas: [^"]*[^": ])', code))
     page, guide = text_of(f"{TOP}/{PAGE}"), text_of(f"{TOP}/{GUIDE}")
     named = set(re.findall(r'^\.It "(sas: .*)"$', page, re.MULTILINE))
@@ -137,7 +137,7 @@ def version_cases(sas):
     version = printed(sas, "--version")[1].split()[-1]
     for file, pattern in (
         ("CHANGELOG.md", r"^## (\S+)"),
-        ("crates/sas_tool/src/arguments.rt", r'^const VERSION: &str = "(.*)";$'),
+        ("crates/sas_words/src/grammar.rt", r'^const VERSION: &str = "(.*)";$'),
         ("library/sas.h", r'^#define SAS_VERSION "(.*)"$'),
         ("library/sas.pc", r"^Version: (.*)$"),
         ("library/sasConfigVersion.cmake", r'^set\(PACKAGE_VERSION "(.*)"\)$'),

@@ -18,9 +18,9 @@ from harness import differs
 
 TOP = os.path.dirname(os.path.dirname(os.path.abspath(__file__)))
 PAGES = ("docs/READING.md", "docs/PROMISES.md")
-STARTS = 12
-# what rests on this file has to be believed for `plan valid`, in at most so many lines
-THEOREM, MOST = "crates/sas_requests/specs/Headline.antt", 560
+STARTS = 16
+# what rests on these files has to be believed for `plan valid`, in at most so many lines
+THEOREM, MOST = ("crates/sas_words/specs/Usage.antt", "crates/sas_tool/specs/Held.antt", "crates/sas_tool/specs/Says.antt"), 640
 # a heading of a page; a file that the page names; one with its number of lines; one in bold, with which a section starts
 HEADING = re.compile(r"^## (.*)$", re.MULTILINE)
 FILE = re.compile(r"`(crates/[^`]*)`")
@@ -96,7 +96,8 @@ def wrong_quotes(reading):
 
 def wrong_sum(reading):
     """Returns what is wrong with the number of lines that READING.md gives for `plan valid`."""
-    lines, said = sum(map(size, closure(THEOREM))), [int(it) for it in SUM.findall(reading)]
+    files = {file for start in THEOREM for file in closure(start)}
+    lines, said = sum(map(size, files)), [int(it) for it in SUM.findall(reading)]
     return ([] if said == [lines] else [f"{lines} lines, not {said}"]) + ([f"{lines} lines, more than {MOST}"] if lines > MOST else [])
 
 
@@ -117,7 +118,7 @@ def tests():
     yield "the number of files with which sections start", differs(len(starts), STARTS)
     quotes = list(wrong_quotes(reading))
     yield from ((f"READING.md, the quote of {path}", wrong) for path, wrong in quotes)
-    yield "READING.md quotes the theorem", [] if THEOREM in dict(quotes) else [f"it doesn't quote {THEOREM}"]
+    yield "READING.md quotes the theorem", [it for it in (THEOREM[0], THEOREM[-1]) if it not in dict(quotes)]
     yield "READING.md, the lines for `plan valid`", wrong_sum(reading)
     yield "files that aren't there", [it for it in FILE.findall(reading) if not os.path.exists(f"{TOP}/{it}")]
 

@@ -107,7 +107,7 @@ def bytes_of(path):
 
 def version_of():
     """Returns the version that the code says."""
-    code = bytes_of(f"{TOP}/crates/sas_tool/src/arguments.rt").decode()
+    code = bytes_of(f"{TOP}/crates/sas_words/src/grammar.rt").decode()
     return re.search(r'^const VERSION: &str = "(.*)";$', code, re.MULTILINE)[1]
 
 

@@ -18,11 +18,3 @@ error_line (Err Memory) = Some (codes "sas: out of memory")
 error_line (Err Read) = Some (codes "sas: read failed")
 error_line (Err TooLong) = Some (codes "sas: input too long")
 error_line (Err (Write written)) = Some (codes "sas: write failed")
-
--- the input that this line is about, if the input that was read last is `last`
-abbrev pub input_of_line : {A : Type 0} → Result Status ToolFault → Option A → Option A
-input_of_line (Ok status) last = None
-input_of_line (Err Memory) last = None
-input_of_line (Err Read) last = last
-input_of_line (Err TooLong) last = last
-input_of_line (Err (Write written)) last = None

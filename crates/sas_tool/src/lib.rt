@@ -2,18 +2,25 @@
 #![tactic(auto)]
 
 mod arguments;
+mod endings;
+mod files;
+mod memory;
 mod plan_files;
 mod program;
+mod runs;
 mod streams;
 mod until_end;
 
-pub use program::start;
+pub use files::{Inputs, NamedFiles};
+pub use memory::{FilesInMemory, answer_in_memory};
+pub use program::{answer_words, start};
 // For tests: what words request, and how the program ends.
 #[doc(hidden)]
-pub use arguments::{Job, Source, WordsFault, command};
+pub use arguments::{Job, Source, command};
 #[doc(hidden)]
-pub use program::ending;
+pub use endings::ending;
 pub use sas_requests::{
     InputFault, JudgeFault, PlanInputs, Question, Request, Status, ToolFault, explain,
     explain_laws, judge, judge_laws, run, run_laws, trace, trace_output_laws,
 };
+pub use sas_words::WordsFault;

@@ -1,40 +1,57 @@
-// The plan files that the arguments name, opened one after another.
-ghost use Rattle.std.specs.Prelude.{◌↔◌, ◌≤◌, All, IsTrue};
-ghost use Rattle.sas_requests.specs.Inputs.{IsLabel};
-ghost use Rattle.sas_tool.specs.Labels.{times_named};
+// Many plan files, opened one after another.
+ghost use Rattle.std.specs.Prelude.{◌≡◌, ◌↔◌, ◌≤◌, ◌++◌, ℕ, List, [], Some, All, IfOk, IsTrue, false, codes, slice_index_or};
+ghost use Rattle.std.specs.Io.KnownBytes.{Appends};
+ghost use Rattle.sas_answers.specs.Ending.{Ends};
+ghost use Rattle.sas_requests.specs.Inputs.{IsLabel, tool_result};
+ghost use Rattle.sas_requests.specs.Judged.{JudgeOut, PlansHeadline};
+ghost use Rattle.sas_tool.specs.Files.{source_held};
+ghost use Rattle.sas_tool.specs.Held.{word_held};
+ghost use Rattle.sas_tool.specs.PlansRuns.{AllHold, PlansRan};
+ghost use Rattle.sas_words.specs.Calls.{bytes_of_words};
+ghost use Rattle.sas_tool.specs.Endings.{Puts};
+ghost use Rattle.sas_tool.specs.Labels.{is_input, times_named};
+ghost use Rattle.sas_tool.specs.PlansEndings.{fault_words, plans_status, plans_text};
 ghost use Rattle.std.specs.String.{string_bytes};
 
-use sas_lines::OpenInput;
-use sas_requests::{PlanInputs, is_label};
-use std::fs;
-use std::io::Read;
-use std::rt::Files;
-
-/// The argument that names standard input.
-pub const STANDARD_INPUT: &str = "-";
+use crate::arguments::Source;
+use crate::endings::{
+    Ended, FAULT, INPUT_TWICE, INVALID_ARGUMENTS, NOT_READY, TASK_NOT_OPENED, finish, put,
+    put_line, stop,
+};
+use crate::files::{Inputs, NamedFiles};
+use crate::{Status, judge};
+use sas_lines::{OpenInput, Watched};
+use sas_requests::{InputFault, JudgeFault, PlanInputs, is_label};
+use std::alloc::Global;
+use std::io::{Read, Write};
 
 /// Plan files, by the arguments that name them, which are their labels.
 #[derive(Clone, Copy)]
-pub struct PlanFiles<'p, R, I> {
-    pub rt: &'p R,
-    pub input: I,
-    pub labels: &'p [String],
+struct PlanFiles<'p, N, I> {
+    inputs: Inputs<'p, N, I>,
+    labels: &'p [String],
 }
 
-impl<'p, R: Files, I: Read + Copy + Drop> PlanInputs for PlanFiles<'p, R, I> {
-    ghost use Rattle.std.specs.Prelude.{◌≡◌, [], None, slice_index_or};
-    ghost use Rattle.sas_tool.specs.Labels.{OpensAs, bytes_of_labels};
+impl<'p, N: NamedFiles, I: Read + Copy + Drop> PlanInputs for PlanFiles<'p, N, I> {
+    ghost use Rattle.std.specs.Prelude.{◌≡◌, [], slice_index_or};
+    ghost use Rattle.sas_lines.specs.Inputs.{left_of};
+    ghost use Rattle.sas_words.specs.Calls.{bytes_of_words};
+    ghost use Rattle.sas_tool.specs.Files.{Opens, bytes_if_known};
+    ghost use Rattle.sas_tool.specs.Held.{word_held};
 
-    type Input = OpenInput<R::File, I>;
+    type Input = OpenInput<N::File, I>;
 
-    ghost labels = { λ plans. bytes_of_labels plans.labels.now };
+    ghost labels = { λ plans. bytes_of_words plans.labels.now };
 
-    // What a file holds isn't known before it is read.
-    ghost bytes = { λ plans number. None };
+    ghost bytes = { λ plans number. bytes_if_known
+        (word_held (N.held plans.inputs.files.now) (I.remaining plans.inputs.standard)
+        (slice_index_or (bytes_of_words plans.labels.now) number [])) };
 
-    // The arguments stay as they were. Which files can be opened isn't known before, but that standard input can.
+    // The files stay as they were.
     ghost open_gives = { λ before number given after. (after ≡ before)
-        × OpensAs (slice_index_or (bytes_of_labels before.labels.now) number []) given };
+        × Opens (left_of N.File.remaining I.remaining)
+        (word_held (N.held before.inputs.files.now) (I.remaining before.inputs.standard)
+        (slice_index_or (bytes_of_words before.labels.now) number [])) given };
 
     fn count(&self) -> usize {
         self.labels.len()
@@ -44,20 +61,181 @@ impl<'p, R: Files, I: Read + Copy + Drop> PlanInputs for PlanFiles<'p, R, I> {
         self.labels[number].as_bytes()
     }
 
-    fn open(&mut self, number: usize) -> Option<OpenInput<R::File, I>> {
-        let label = self.labels[number].as_str();
-        if label == STANDARD_INPUT {
-            return Some(OpenInput::Standard(self.input));
+    fn open(&mut self, number: usize) -> Option<OpenInput<N::File, I>> {
+        let labels = self.labels;
+        self.inputs.open_word(labels[number].as_str())
+    }
+}
+
+/// How a run over many plans ended.
+#[derive(Clone, Copy)]
+pub enum PlansEnded {
+    /// A standard stream that is closed couldn't be replaced.
+    NotReady,
+    /// A label has a line end.
+    NoLabel,
+    InputTwice,
+    TaskNotOpened,
+    Judged(Result<Status, JudgeFault>),
+}
+
+/// Opens a task, and judges the plans of these labels.
+pub fn run_plans<N: NamedFiles, I: Read + Copy + Drop, W: Write>(
+    alloc: Global,
+    inputs: Inputs<'_, N, I>,
+    task: &Option<Source>,
+    labels: &[String],
+    out: &mut Watched<W>,
+) -> PlansEnded
+    requires out { out.old.failed ≡ false }
+    ensures { let held = N.held inputs.entry.files.now in
+        let standard = I.remaining inputs.entry.standard in
+        PlansRan (bytes_of_words labels.now) (2 ≤ times_named (is_input task.now) labels.now)
+        (source_held held standard task.now) (word_held held standard)
+        (W.contents out.old.device) (W.contents out.new.device) (out.new ≡ out.old) result }
+{
+    let Some(ready) = inputs.files.ready() else {
+        return PlansEnded::NotReady;
+    };
+    let ended = run_ready(alloc, inputs, task, labels, out);
+    drop(ready);
+    ended
+}
+
+/// Does so once files may be opened. No plan is opened before its turn.
+fn run_ready<N: NamedFiles, I: Read + Copy + Drop, W: Write>(
+    alloc: Global,
+    inputs: Inputs<'_, N, I>,
+    task: &Option<Source>,
+    labels: &[String],
+    out: &mut Watched<W>,
+) -> PlansEnded
+    requires out { out.old.failed ≡ false }
+    ensures { let held = N.held inputs.entry.files.now in
+        let standard = I.remaining inputs.entry.standard in
+        PlansRan (bytes_of_words labels.now) (2 ≤ times_named (is_input task.now) labels.now)
+        (source_held held standard task.now) (word_held held standard)
+        (W.contents out.old.device) (W.contents out.new.device) (out.new ≡ out.old) result }
+{
+    if !are_label_texts(labels) {
+        return PlansEnded::NoLabel;
+    }
+    if name_input_twice(labels, is_standard_input(task)) {
+        return PlansEnded::InputTwice;
+    }
+    match inputs.open(task) {
+        Some(task) => {
+            let plans = PlanFiles { inputs, labels };
+            PlansEnded::Judged(judge_plans(alloc, task, plans, out))
         }
-        match fs::open(self.rt, label) {
-            Ok(file) => Some(OpenInput::File(file)),
-            Err(_) => None,
+        None => PlansEnded::TaskNotOpened,
+    }
+}
+
+/// Judges plans of a task that is open.
+fn judge_plans<T: Read + Drop, N: NamedFiles, I: Read + Copy + Drop, W: Write>(
+    alloc: Global,
+    task: T,
+    plans: PlanFiles<'_, N, I>,
+    out: &mut Watched<W>,
+) -> Result<Status, JudgeFault>
+    requires labels { All (λ label. IsLabel (string_bytes label)) plans.labels.now }
+    requires out { out.old.failed ≡ false }
+    ensures output { let labels = bytes_of_words plans.entry.labels.now in
+        (b : List ℕ) (cs : List (List ℕ)) → T.remaining task ≡ Some b
+        → AllHold (word_held (N.held plans.entry.inputs.files.now)
+        (I.remaining plans.entry.inputs.standard)) labels cs
+        → Ends (JudgeOut labels b cs)
+        (Appends (W.contents out.old.device) (W.contents out.new.device)) (tool_result result) }
+    ensures headline { let labels = bytes_of_words plans.entry.labels.now in
+        IfOk result (λ status. (b before : List ℕ) (cs : List (List ℕ)) → T.remaining task ≡ Some b
+        → AllHold (word_held (N.held plans.entry.inputs.files.now)
+        (I.remaining plans.entry.inputs.standard)) labels cs
+        → W.contents out.old.device ≡ Some before
+        → PlansHeadline labels b cs
+        (Appends (W.contents out.old.device) (W.contents out.new.device)) status) }
+{
+    let mut task = Watched::new(task);
+    let mut plans = plans;
+    let result = judge(alloc, &mut task, &mut plans, out);
+    drop(task);
+    result
+}
+
+/// Ends with the exit status of a run over plans with these labels, after its line on standard error, if there is one.
+pub fn finish_plans<E: Write>(errors: &mut Watched<E>, ended: PlansEnded, labels: &[String]) -> u8
+    ensures status { result ≡ plans_status ended }
+    ensures text { Puts E.contents (plans_text (bytes_of_words labels.now) ended)
+        errors.old errors.new }
+{
+    match ended {
+        PlansEnded::NotReady => stop(errors, FAULT, NOT_READY),
+        PlansEnded::NoLabel => {
+            stop(
+                errors,
+                INVALID_ARGUMENTS,
+                "sas: a plan's name has a line end",
+            )
+        }
+        PlansEnded::InputTwice => stop(errors, INVALID_ARGUMENTS, INPUT_TWICE),
+        PlansEnded::TaskNotOpened => stop(errors, FAULT, TASK_NOT_OPENED),
+        PlansEnded::Judged(Ok(status)) => finish(errors, Ended::Answered(Ok(status)), false, &None),
+        PlansEnded::Judged(Err(JudgeFault::Tool(fault))) => {
+            finish(errors, Ended::Answered(Err(fault)), false, &None)
+        }
+        PlansEnded::Judged(Err(JudgeFault::Plan { number, fault })) => {
+            stop_at(errors, fault, labels, number)
         }
     }
 }
 
+/// Ends where the plan with this number wasn't read.
+fn stop_at<E: Write>(
+    errors: &mut Watched<E>,
+    fault: InputFault,
+    labels: &[String],
+    number: usize,
+) -> u8
+    ensures status { result ≡ 3 }
+    ensures text { Puts E.contents (fault_words fault
+        ++ (slice_index_or (bytes_of_words labels.now) number [] ++ codes "\n"))
+        errors.old errors.new }
+{
+    put(errors, words_of(fault).as_bytes());
+    put_line(errors, label_at(labels, number));
+    FAULT
+}
+
+/// Returns the words that the label of a plan follows, if it wasn't read.
+fn words_of(fault: InputFault) -> &'static str
+    ensures { result.now ≡ fault_words fault }
+{
+    match fault {
+        InputFault::NotOpened => "sas: cannot open the plan: ",
+        InputFault::Read => "sas: read failed: ",
+        InputFault::TooLong => "sas: input too long: ",
+    }
+}
+
+/// Returns the label with this number.
+fn label_at(labels: &[String], number: usize) -> &[u8]
+    ensures { result.now ≡ slice_index_or (bytes_of_words labels.now) number [] }
+{
+    match labels.get(number) {
+        Some(label) => label.as_bytes(),
+        None => b"",
+    }
+}
+
+/// Returns whether a source is standard input.
+fn is_standard_input(source: &Option<Source>) -> bool
+    ensures { result ≡ is_input source.now }
+{
+    matches!(source, Some(Source::Input))
+}
+
 /// Returns whether none of the labels has a line end.
-pub fn are_label_texts(labels: &[String]) -> bool
+fn are_label_texts(labels: &[String]) -> bool
     ensures { IsTrue result ↔ All (λ label. IsLabel (string_bytes label)) labels.now }
 {
     for label in labels {
@@ -69,12 +247,12 @@ pub fn are_label_texts(labels: &[String]) -> bool
 }
 
 /// Returns whether standard input is named twice: by the task and a label, or by two labels.
-pub fn name_input_twice(labels: &[String], by_task: bool) -> bool
+fn name_input_twice(labels: &[String], by_task: bool) -> bool
     ensures { IsTrue result ↔ (2 ≤ times_named by_task labels.now) }
 {
     let mut named = by_task;
     for label in labels {
-        if label.as_str() == STANDARD_INPUT {
+        if label.as_str() == "-" {
             if named {
                 return true;
             }

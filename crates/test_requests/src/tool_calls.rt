@@ -17,7 +17,7 @@ fn words_in(alloc: Global, bytes: &[u8]) -> Result<Vec<String>, AllocError> {
 /// labels that are exchanged, and a refusal of words that are allowed.
 pub fn say_job(rt: &HostRuntime, bytes: &[u8]) -> Option<()> {
     let words = words_in(rt.alloc(), bytes).ok()?;
-    match command(rt.alloc(), words) {
+    match command(rt.alloc(), words.as_slice()) {
         Ok(job) => say_parts(rt, &job),
         Err(fault) => say(rt, why(&fault)),
     }

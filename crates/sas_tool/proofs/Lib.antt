@@ -1,0 +1,5 @@
+mod Running
+mod Putting
+mod Jobbing
+mod Answering
+mod Judging

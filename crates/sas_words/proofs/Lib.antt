@@ -1,0 +1,9 @@
+mod Turns
+mod Options
+mod Machines
+mod OneFile
+mod TwoFiles
+mod ManyFiles
+mod Requests
+mod Understood
+mod Readings
