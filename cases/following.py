@@ -133,7 +133,7 @@ def turning_task(chance):
     basic = on_layers(task, lambda layer: layer is None)
     readable = chance.sample(basic, len(basic) - chance.choice((0, 1, 2)))
     news = {var: other_value(chance, task["ranges"][var], task["defaults"][var]) for var in derived}
-    task["rules"] = list(rules_of(chance, task, basic, news))
+    task["rules"] = list(rules_of(chance, task, readable, news))
     chance.shuffle(task["rules"])
     task["operators"] = [*turns_of(chance, task, news), *asks_of(task, derived)]
     return task, derived
