@@ -9,15 +9,16 @@ With n blocks it has 2 n + 1 variables, 2 n + 1 groups, each of n + 1 facts, and
 from math import sqrt
 
 from mixing import mixed
+from sas_text import Domain
 
 EMPTY = (0, 0)
 HELD = 0
 
 
-class Blocks:
+class Blocks(Domain):
     """The task with so many blocks."""
 
-    # for each unit of size, how many blocks that makes; bytes by what a pair of blocks takes in a file of 200 MB
+    # bytes by what a pair of blocks takes in a file of 200 MB
     UNITS = {
         "blocks": lambda blocks: blocks,
         "MB": lambda megabytes: sqrt(megabytes * 1e6 / 223),
@@ -27,7 +28,7 @@ class Blocks:
     LEAST = 3
 
     def __init__(self, blocks):
-        self.objects = blocks
+        super().__init__(blocks)
         self.table = blocks
 
     def counts(self):
@@ -77,15 +78,15 @@ class Blocks:
     def operators(self):
         """Yields the operators, sorted by their first word."""
         for block in range(self.objects):
-            yield pick_up(block), [], self.taken(block, self.table)
+            yield named("pick-up", block), [], self.taken(block, self.table)
         for block in range(self.objects):
-            yield put_down(block), [], self.laid(block, self.table)
+            yield named("put-down", block), [], self.laid(block, self.table)
         for block, other in self.pairs():
             on = self.on(block, other)[1]
-            yield stack(block, other), [], [(1 + other, 0, 1)] + self.laid(block, on)
+            yield named("stack", block, other), [], [(1 + other, 0, 1)] + self.laid(block, on)
         for block, other in self.pairs():
             on = self.on(block, other)[1]
-            yield unstack(block, other), [], [(1 + other, -1, 0)] + self.taken(block, on)
+            yield named("unstack", block, other), [], [(1 + other, -1, 0)] + self.taken(block, on)
 
     def taken(self, block, old):
         """Returns the effects of taking a clear block from this position."""
@@ -95,9 +96,6 @@ class Blocks:
         """Returns the effects of laying a block there."""
         return [(0, -1, 0), (1 + block, -1, 0), (1 + self.objects + block, HELD, new)]
 
-    def rules(self):
-        return []
-
     def plan(self, steps):
         """Yields the steps of a plan: that many, one more where the number is odd; or the steps of one tower if these
         are more.
@@ -105,89 +103,33 @@ class Blocks:
         Towers in mixed order are built and taken apart as often as that fits, so that all operators take part; then the
         tower of the goal is built, and its topmost block is taken off and laid back.
         """
-        world = World(self.objects)
         made = 0
-        for step in self.towers(world, steps):
+        for step in self.towers(steps):
             yield step
             made += 1
-        while made < steps:
-            yield world.unstack(0, 1)
-            yield world.stack(0, 1)
-            made += 2
-        assert world.below[:-1] == list(range(1, self.objects))
+        for _ in range(made, steps, 2):
+            yield from (named("unstack", 0, 1), named("stack", 0, 1))
 
-    def towers(self, world, steps):
+    def towers(self, steps):
         height = 2 * (self.objects - 1)
         for turn in range(1, 1 + max(0, (steps - height) // (2 * height))):
             tower = mixed(range(self.objects), turn)
-            yield from world.build(tower)
-            yield from world.take_apart(tower)
-        yield from world.build(list(reversed(range(self.objects))))
+            yield from built(tower)
+            yield from taken_apart(tower)
+        yield from built(list(reversed(range(self.objects))))
 
 
-def pick_up(block):
-    return "pick-up b%d" % (block + 1)
+def named(word, *blocks):
+    """Returns the name of an operator that handles these blocks."""
+    return " ".join([word, *("b%d" % (block + 1) for block in blocks)])
 
 
-def put_down(block):
-    return "put-down b%d" % (block + 1)
+def built(tower):
+    """Yields the steps that build a tower of blocks that lie on the table, from the lowest on."""
+    for other, block in zip(tower, tower[1:]):
+        yield from (named("pick-up", block), named("stack", block, other))
 
 
-def stack(block, other):
-    return "stack b%d b%d" % (block + 1, other + 1)
-
-
-def unstack(block, other):
-    return "unstack b%d b%d" % (block + 1, other + 1)
-
-
-class World:
-    """What lies on what. Each call is a step. A step without a meaning is refused; else the call returns the step's name."""
-
-    TABLE = None
-
-    def __init__(self, blocks):
-        self.below = [self.TABLE] * blocks
-        self.clear = [True] * blocks
-        self.held = None
-
-    def take(self, block):
-        assert self.held is None and self.clear[block]
-        self.held, self.clear[block] = block, False
-
-    def lay(self, block):
-        assert self.held == block
-        self.held, self.clear[block] = None, True
-
-    def pick_up(self, block):
-        assert self.below[block] is self.TABLE
-        self.take(block)
-        return pick_up(block)
-
-    def put_down(self, block):
-        self.lay(block)
-        self.below[block] = self.TABLE
-        return put_down(block)
-
-    def stack(self, block, other):
-        assert self.clear[other]
-        self.lay(block)
-        self.below[block], self.clear[other] = other, False
-        return stack(block, other)
-
-    def unstack(self, block, other):
-        assert self.below[block] == other
-        self.take(block)
-        self.clear[other] = True
-        return unstack(block, other)
-
-    def build(self, tower):
-        """Yields the steps that build a tower of blocks that lie on the table, from the lowest on."""
-        for other, block in zip(tower, tower[1:]):
-            yield self.pick_up(block)
-            yield self.stack(block, other)
-
-    def take_apart(self, tower):
-        for other, block in reversed(list(zip(tower, tower[1:]))):
-            yield self.unstack(block, other)
-            yield self.put_down(block)
+def taken_apart(tower):
+    for other, block in reversed(list(zip(tower, tower[1:]))):
+        yield from (named("unstack", block, other), named("put-down", block))

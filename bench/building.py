@@ -13,7 +13,7 @@ closed, no step changes what a rule reads, though each requires whether a floor 
 With n floors there are 24.1 n variables, 23.8 n operators and 22 n rules.
 """
 from mixing import mixed
-from sas_text import both
+from sas_text import Domain, both
 
 CLOSED, OPEN = 0, 1
 HOLDS, NOT = 0, 1
@@ -22,10 +22,10 @@ ROOMS = 10
 STRETCH = 10
 
 
-class Building:
+class Building(Domain):
     """The task with so many floors, rounded up to a multiple of ten."""
 
-    # for each unit of size, how many floors that makes; bytes by what a floor takes in a file of 22 MB
+    # bytes by what a floor takes in a file of 22 MB
     UNITS = {
         "floors": lambda floors: floors,
         "MB": lambda megabytes: megabytes * 1e6 / 4830,
@@ -35,7 +35,7 @@ class Building:
     LEAST = STRETCH
 
     def __init__(self, floors):
-        self.objects = -(-floors // STRETCH) * STRETCH
+        super().__init__(-(-floors // STRETCH) * STRETCH)
         self.rooms = ROOMS * self.objects
         self.workers = self.objects // STRETCH
 
@@ -80,9 +80,6 @@ class Building:
         yield from (both(2, "dim(floor%d)" % floor) for floor in floors)
         yield from (both(3, "safe(floor%d)" % floor) for floor in floors)
 
-    def groups(self):
-        return []
-
     def initial(self):
         switches = [OPEN] + [CLOSED] * (self.objects + self.rooms - 1)
         return switches + [0] * self.workers + [NOT] * (3 * self.objects + self.rooms)
@@ -95,7 +92,7 @@ class Building:
         switches = [("riser", floor, floor) for floor in range(self.objects)]
         switches += [("switch", room, self.switch(room)) for room in range(self.rooms)]
         for kind, place, var in switches:
-            yield close_switch(kind, place), [], [(var, OPEN, CLOSED)]
+            yield "close %s%d" % (kind, place), [], [(var, OPEN, CLOSED)]
         for kind, place, var in switches:
             yield "open %s%d" % (kind, place), [], [(var, CLOSED, OPEN)]
         for worker in range(self.workers):
@@ -126,7 +123,7 @@ class Building:
         The lowest riser is closed. Then one worker after the other, in mixed order, goes up by a floor, up to the last of its
         floors, and down again.
         """
-        yield close_switch("riser", 0)
+        yield "close riser0"
         workers = mixed(range(self.workers), 1)
         for step in range(steps - 1):
             turn, place = divmod(step, self.workers)
@@ -144,10 +141,6 @@ def bouncing(turn):
     """Returns on which of its floors a worker is that has gone so many steps."""
     place = turn % (2 * (STRETCH - 1))
     return min(place, 2 * (STRETCH - 1) - place)
-
-
-def close_switch(kind, place):
-    return "close %s%d" % (kind, place)
 
 
 def walk(worker, old, new):

@@ -25,7 +25,6 @@ those of glibc 2.33 and later; the table was made on a machine with AVX-512 and 
 
 Needs valgrind (apt-get install valgrind); where it isn't there, --compare says so and ends with status 0.
 """
-import argparse
 import json
 import os
 import re
@@ -52,6 +51,9 @@ TUNABLES = ":".join((
 TABLE = os.path.join(os.path.dirname(os.path.abspath(__file__)), "counts.json")
 SCALE, MAY_DIFFER = 0.04, 0.02
 TIMES = (1, 2, 4)
+HEADS = ["Case", "MB", "million instructions", "a line", "a byte", "a further byte"]
+HEADS += ["and from there on", "growth", "answer"]
+HEADS_BESIDE = ["beside, millions", "ratio", "answers"]
 # what is no longer put down to tables that double and to chance
 LINEAR = 1.15
 
@@ -108,12 +110,6 @@ def case_row(given, case):
     return cells + beside_cells(given, case, inputs[-1], count) if given.beside else cells
 
 
-def heads(beside):
-    cells = ["Case", "MB", "million instructions", "a line", "a byte", "a further byte", "and from there on", "growth"]
-    cells.append("answer")
-    return cells + ["beside, millions", "ratio", "answers"] if beside else cells
-
-
 def counts_at(given, scale):
     """Yields each case with its instructions at a scale, and whether the answer is right."""
     for case in chosen(given.only):
@@ -148,20 +144,9 @@ def write(given):
     return 0
 
 
-def read_words():
-    words = argparse.ArgumentParser(description=__doc__, formatter_class=argparse.RawDescriptionHelpFormatter)
-    words.add_argument("sas")
-    words.add_argument("folder")
-    words.add_argument("--beside", metavar="PROGRAM")
-    words.add_argument("--only", default="", metavar="TEXT")
-    words.add_argument("--scale", type=float, default=0.01, metavar="F")
-    words.add_argument("--compare", action="store_true")
-    words.add_argument("--write", action="store_true")
-    return words.parse_args()
-
-
 def main():
-    given = read_words()
+    flags = {"beside": "", "only": "", "scale": 0.01, "compare": False, "write": False}
+    given = machine.arguments(__doc__, "sas", "folder", **flags)
     if not shutil.which("valgrind"):
         if given.compare:
             print("without valgrind: no instructions are counted\n0 passed, 0 failed")
@@ -169,12 +154,12 @@ def main():
         sys.exit("count.py: valgrind isn't there; on Debian and Ubuntu: apt-get install valgrind")
     if given.compare or given.write:
         sys.exit(compare(given) if given.compare else write(given))
-    print("\n".join(machine.header(given.sas, given.beside)))
     scales = ", ".join("%g" % (given.scale * times) for times in TIMES)
-    print("Counted at the scales %s, small cases at larger ones" % scales, flush=True)
-    print("\n" + machine.table_head(heads(given.beside)), flush=True)
+    note = "Counted at the scales %s, small cases at larger ones" % scales
+    heads = HEADS + HEADS_BESIDE if given.beside else HEADS
+    machine.print_head(heads, given.sas, given.beside, note)
     for case in chosen(given.only):
-        print(machine.row(case_row(given, case)), flush=True)
+        machine.print_row(case_row(given, case))
 
 
 if __name__ == "__main__":

@@ -7,9 +7,7 @@ The inputs are made in FOLDER if they aren't there. For each request the instruc
 ratios of those over the files with CR LF, and over the files in which half of the lines have it, to these. The exit status is 1
 if a ratio is above that of MOST, or an answer isn't right. It needs valgrind.
 """
-import argparse
 import os
-import sys
 from concurrent.futures import ThreadPoolExecutor
 
 import machine
@@ -62,27 +60,17 @@ def case_row(given, case, made, ways):
     ratios = [count.instructions / counts[0].instructions for count in counts[1:]]
     cells = [case.name, "%.1f" % (counts[0].instructions / 1e6),
              *("%.2f" % ratio + ("" if ratio <= MOST[case.request] else " TOO MUCH") for ratio in ratios), word]
-    return machine.row(cells), max(ratios) <= MOST[case.request] and word == "right"
-
-
-def read_words():
-    words = argparse.ArgumentParser(description=__doc__, formatter_class=argparse.RawDescriptionHelpFormatter)
-    words.add_argument("sas")
-    words.add_argument("folder")
-    words.add_argument("--scale", type=float, default=1, metavar="F")
-    return words.parse_args()
+    return cells, max(ratios) <= MOST[case.request] and word == "right"
 
 
 def main():
-    given = read_words()
+    given = machine.arguments(__doc__, "sas", "folder", scale=1.0)
     inputs = input_files(given)
-    print("\n".join(machine.header(given.sas, None)))
     heads = ["Case", "million instructions with LF", "with CR LF, times that", "with both", "answer"]
-    print("\n" + machine.table_head(heads), flush=True)
+    machine.print_head(heads, given.sas)
     with ThreadPoolExecutor(os.cpu_count()) as pool:
-        rows = list(pool.map(lambda case, made: case_row(given, case, *made), CASES, inputs))
-    print("\n".join(row for row, _ in rows))
-    sys.exit(0 if all(is_well for _, is_well in rows) else 1)
+        rows = pool.map(lambda case, made: case_row(given, case, *made), CASES, inputs)
+        machine.print_rows(rows)
 
 
 if __name__ == "__main__":

@@ -10,7 +10,6 @@ what it costs from the first to the second: near 1 is linear, and a square shows
 The exit status is 1 if one grows faster than it may, or an answer isn't right. N families are counted side by side (as many as there are
 processors), which changes no count. It needs valgrind.
 """
-import argparse
 import os
 import sys
 from concurrent.futures import ThreadPoolExecutor
@@ -36,30 +35,18 @@ def family_row(given, family):
     is_well = growth <= family.most and word == "right"
     cells = [family.name, " · ".join("%.2f" % (made.bytes / 1e6) for made in inputs), *("%.2f" % cost for cost in costs),
              "%.2f" % growth + ("" if growth <= family.most else " MORE THAN %.2f" % family.most), word]
-    return machine.row(cells), is_well
-
-
-def read_words():
-    words = argparse.ArgumentParser(description=__doc__, formatter_class=argparse.RawDescriptionHelpFormatter)
-    words.add_argument("sas")
-    words.add_argument("folder")
-    words.add_argument("--only", default="", metavar="TEXT")
-    words.add_argument("--scale", type=int, default=1, metavar="F")
-    words.add_argument("--at-once", type=int, default=os.cpu_count(), metavar="N")
-    return words.parse_args()
+    return cells, is_well
 
 
 def main():
-    given = read_words()
+    flags = {"only": "", "scale": 1, "at_once": os.cpu_count()}
+    given = machine.arguments(__doc__, "sas", "folder", **flags)
     os.makedirs(given.folder, exist_ok=True)
     families = [family for family in FAMILIES if given.only in family.name]
-    print("\n".join(machine.header(given.sas, None)))
     heads = ["Family", "MB", "instructions a further byte", "and from there on", "growth", "answer"]
-    print("\n" + machine.table_head(heads), flush=True)
+    machine.print_head(heads, given.sas)
     with ThreadPoolExecutor(given.at_once) as pool:
-        rows = list(pool.map(lambda family: family_row(given, family), families))
-    print("\n".join(row for row, _ in rows))
-    sys.exit(0 if all(is_well for _, is_well in rows) else 1)
+        machine.print_rows(pool.map(lambda family: family_row(given, family), families))
 
 
 if __name__ == "__main__":

@@ -7,6 +7,7 @@ of one variable), the rooms of the robot, and for each hand what is in it: nothi
 With n balls it has n + 3 variables, n + 3 groups and 8 n + 2 operators.
 """
 from mixing import mixed
+from sas_text import Domain
 
 ROOMS = ("rooma", "roomb")
 HANDS = ("left", "right")
@@ -47,10 +48,10 @@ def move(room):
     return "move %s %s" % (ROOMS[room], ROOMS[1 - room])
 
 
-class Gripper:
+class Gripper(Domain):
     """The task with so many balls."""
 
-    # for each unit of size, how many balls that makes; bytes by what a ball takes in a file of 200 MB
+    # bytes by what a ball takes in a file of 200 MB
     UNITS = {
         "balls": lambda balls: balls,
         "MB": lambda megabytes: megabytes * 1e6 / 938,
@@ -58,9 +59,6 @@ class Gripper:
         "groups": lambda groups: groups - 3,
     }
     LEAST = 2
-
-    def __init__(self, balls):
-        self.objects = balls
 
     def counts(self):
         many = self.objects + 3
@@ -106,65 +104,33 @@ class Gripper:
                 for hand in range(len(HANDS)):
                     yield ball, room, hand
 
-    def rules(self):
-        return []
-
     def plan(self, steps):
         """Yields the steps of a plan: that many, or the steps of one tour if these are more.
 
         All balls are carried over, back and over again as often as that fits; then the robot goes to and fro.
         """
-        world = World(self.objects)
         made = 0
         for turn in range(self.tours(steps)):
-            for step in world.tour(turn):
+            for step in self.tour(turn):
                 yield step
                 made += 1
-        while made < steps:
-            yield world.move()
-            made += 1
-        assert all(room == 1 for room in world.place)
+        for room in range(1, 1 + steps - made):
+            yield move(room % 2)
 
     def tours(self, steps):
         """Returns how many tours fit; an odd number, so that the balls end in the other room."""
         tour = 2 * self.objects + 2 * ((self.objects + 1) // 2)
         return 1 + 2 * max(0, (steps - tour) // (2 * tour))
 
-
-class World:
-    """Where everything is. Each call is a step. A step without a meaning is refused; else the call returns the step's name."""
-
-    def __init__(self, balls):
-        self.robot = 0
-        self.place = [0] * balls
-        self.held = [None, None]
-
-    def move(self):
-        self.robot = 1 - self.robot
-        return move(1 - self.robot)
-
-    def pick(self, ball, hand):
-        assert self.place[ball] == self.robot and self.held[hand] is None
-        self.place[ball], self.held[hand] = None, ball
-        return pick(ball, self.robot, hand)
-
-    def drop(self, ball, hand):
-        assert self.held[hand] == ball
-        self.place[ball], self.held[hand] = self.robot, None
-        return drop(ball, self.robot, hand)
-
     def tour(self, turn):
-        """Carries all balls into the other room, two at a time, and yields the steps; the order and the hands differ from
-        turn to turn."""
-        start = turn % 2
-        hands = (1, 0) if turn // 2 % 2 else (0, 1)
-        order = mixed(range(len(self.place)), turn)
+        """Yields the steps that carry all balls into the other room, two at a time. The order and
+        the hands differ from turn to turn."""
+        start, hands = turn % 2, (1, 0) if turn // 2 % 2 else (0, 1)
+        order = mixed(range(self.objects), turn)
         for first in range(0, len(order), 2):
             pair = list(zip(order[first:first + 2], hands))
-            if self.robot != start:
-                yield self.move()
-            for ball, hand in pair:
-                yield self.pick(ball, hand)
-            yield self.move()
-            for ball, hand in pair:
-                yield self.drop(ball, hand)
+            if first > 0:
+                yield move(1 - start)
+            yield from (pick(ball, start, hand) for ball, hand in pair)
+            yield move(start)
+            yield from (drop(ball, 1 - start, hand) for ball, hand in pair)

@@ -7,7 +7,6 @@ of its operators; beside reading the task, and beside `sas_plan`, which reads bo
 FOLDER is what `make lib` makes, library/out. A small program in C is built over it, with $CC or cc (library.c). Of R rounds the best
 time counts; in each the task is read once and its plan is judged N times. Times are processor time, in microseconds.
 """
-import argparse
 import os
 import shlex
 import subprocess
@@ -28,23 +27,19 @@ def built(library, folder):
 
 
 def main():
-    words = argparse.ArgumentParser(description=__doc__, formatter_class=argparse.RawDescriptionHelpFormatter)
-    words.add_argument("task")
-    words.add_argument("plan")
-    words.add_argument("--library", metavar="FOLDER", default=os.path.join(os.path.dirname(HERE), "library/out"))
-    words.add_argument("--count", type=int, default=1000, metavar="N")
-    words.add_argument("--rounds", type=int, default=10, metavar="R")
-    given = words.parse_args()
+    library = os.path.join(os.path.dirname(HERE), "library/out")
+    given = machine.arguments(__doc__, "task", "plan", library=library, count=1000, rounds=10)
     with tempfile.TemporaryDirectory() as folder:
         command = [built(given.library, folder), given.task, given.plan, str(given.count), str(given.rounds)]
         ran = subprocess.run(command, stdout=subprocess.PIPE, check=False, encoding="utf-8")
     if ran.returncode:
         sys.exit("the plan isn't valid, or the answers differ")
-    read, held, why, trace, by_numbers, both, said = ran.stdout.rstrip("\n").split(" ", 6)
-    for line in machine.header(os.path.join(given.library, "libsas.so"), None):
-        print(line)
-    print(machine.table_head(["Task", "Plan", "Answer", "Read", "A plan of it", "Reasons", "Trace", "By numbers", "`sas_plan`"]))
-    print(machine.row([os.path.basename(given.task), os.path.basename(given.plan), said, read, held, why, trace, by_numbers, both]))
+    read, held, why, trace, by_numbers, both, said = ran.stdout.rstrip("
+").split(" ", 6)
+    heads = ["Task", "Plan", "Answer", "Read", "A plan of it", "Reasons", "Trace", "By numbers", "`sas_plan`"]
+    machine.print_head(heads, os.path.join(given.library, "libsas.so"))
+    names = map(os.path.basename, (given.task, given.plan))
+    machine.print_row([*names, said, read, held, why, trace, by_numbers, both])
 
 
 main()

@@ -9,6 +9,7 @@ With n floors it has n passengers, n + 1 variables, n + 1 groups and n^2 operato
 from math import sqrt
 
 from mixing import mixed
+from sas_text import Domain
 
 LIFT = 0
 WAITS, RIDES, IS_SERVED = 0, 1, 2
@@ -23,10 +24,10 @@ def move(old, new):
     return "%s floor%d floor%d" % ("up" if old < new else "down", old + 1, new + 1)
 
 
-class Lift:
+class Lift(Domain):
     """The task with so many floors."""
 
-    # for each unit of size, how many floors that makes; bytes by what a pair of floors takes in a file of 20 MB
+    # bytes by what a pair of floors takes in a file of 20 MB
     UNITS = {
         "floors": lambda floors: floors,
         "MB": lambda megabytes: sqrt(megabytes * 1e6 / 69),
@@ -34,9 +35,6 @@ class Lift:
         "groups": lambda groups: groups - 1,
     }
     LEAST = 2
-
-    def __init__(self, floors):
-        self.objects = floors
 
     def counts(self):
         many = self.objects + 1
@@ -74,9 +72,6 @@ class Lift:
         for old in floors:
             for new in range(old + 1, self.objects):
                 yield move(old, new), [], [(LIFT, old, new)]
-
-    def rules(self):
-        return []
 
     def plan(self, steps):
         """Yields the steps of a plan: that many, or one more, but at least four for each floor.

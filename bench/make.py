@@ -12,7 +12,6 @@ or floors. MB is 1,000,000 bytes, and about.
 Each input has a folder of its own in FOLDER, with `task.sas`, `plan` where it has one, and `about.json`, which
 describes them. An input that is there already is left as it is; after a change of these scripts remove it.
 """
-import argparse
 import json
 import os
 import re
@@ -21,6 +20,7 @@ import sys
 import zlib
 from collections import namedtuple
 
+import machine
 from blocks import Blocks
 from building import Building
 from cases import chosen, wanted_size, wanted_steps
@@ -118,19 +118,13 @@ def made_line(made):
 
 
 def main():
-    words = argparse.ArgumentParser(description=__doc__, formatter_class=argparse.RawDescriptionHelpFormatter)
-    words.add_argument("folder")
-    words.add_argument("domain", nargs="?", choices=sorted(DOMAINS))
-    words.add_argument("size", nargs="?")
-    words.add_argument("--steps", type=int)
-    words.add_argument("--scale", type=float, default=1)
-    words.add_argument("--only", default="")
-    given = words.parse_args()
+    flags = {"steps": 0, "scale": 1.0, "only": ""}
+    given = machine.arguments(__doc__, "folder", "domain?", "size?", **flags)
     if given.domain:
-        if not given.size:
-            words.error("a domain needs a size")
+        if given.domain not in DOMAINS or not given.size:
+            sys.exit("make.py: a size is needed, and a domain: " + ", ".join(sorted(DOMAINS)))
         domain = domain_of(given.domain, *size_and_unit(given.domain, given.size))
-        print(made_line(made_input(given.folder, given.domain, domain, given.steps)))
+        print(made_line(made_input(given.folder, given.domain, domain, given.steps or None)))
         return
     inputs = (case_input(given.folder, case, given.scale) for case in chosen(given.only))
     # two cases may have one input

@@ -8,40 +8,31 @@ as many names, and for traces the tasks of gripper and blocks with plans of a mi
 and the most memory. What is written goes to /dev/null. The exit status is 1 if `plans` takes more than a fiftieth of the runs
 of `plan`, or a trace more than 2.5 times its `plan` or more than 1.2 times its memory.
 """
-import argparse
 import itertools
 import os
-import sys
-import time
 
 import machine
 from cases import Case
 from make import case_input
+from run import measured
 
-STEPS, PLANS = 100, 1000
+STEPS = 100
 LARGE = Case("plans gripper, 20 MB", "plan", "gripper", 20, "MB", 1)
 TRACES = [
     Case("trace gripper, 100k operators, 1M steps", "plan", "gripper", 100000, "operators", 1000000, True),
     Case("trace blocks, 20k operators, 1M steps", "plan", "blocks", 20000, "operators", 1000000, True),
 ]
 MOST, MOST_TIME, MOST_MEMORY = 1 / 50, 2.5, 1.2
-
-
-def timed(commands):
-    """Returns how long the commands take in turn, in seconds, and the most memory that one had, in MB."""
-    most, began = 0, time.perf_counter()
-    quiet = [(os.POSIX_SPAWN_OPEN, 1, os.devnull, os.O_WRONLY, 0)]
-    for command in commands:
-        child = os.posix_spawn(command[0], command, os.environ, file_actions=quiet)
-        _, _, usage = os.wait4(child, 0)
-        most = max(most, usage.ru_maxrss)
-    return time.perf_counter() - began, most * 1024 / 1e6
+# how long a command may take, in seconds
+LIMIT = 600
 
 
 def best(commands, rounds):
-    """Returns the best time and the most memory of so many rounds."""
-    times, memories = zip(*(timed(commands) for _ in range(rounds)))
-    return min(times), max(memories)
+    """Returns how long the commands take in turn, in seconds, and the most memory that one had, in
+    MB, of so many rounds."""
+    runs = [[measured(command, LIMIT) for command in commands] for _ in range(rounds)]
+    seconds = min(sum(run.seconds for run in ran) for ran in runs)
+    return seconds, max(run.peak for ran in runs for run in ran)
 
 
 def short_plans(made, count):
@@ -62,32 +53,21 @@ def rows(given):
     together, memory = best([[given.sas, "plans", made.task, *plans]], given.rounds)
     each, most = best([[given.sas, "plan", made.task, plan] for plan in plans], 1)
     cells = [f"{LARGE.name}, {given.plans} plans of {STEPS} steps", "%.3f" % together, "%.1f" % memory, "%.3f" % each, "%.1f" % most]
-    yield machine.row([*cells, "%.4f" % (together / each)]), together / each <= MOST
+    yield [*cells, "%.4f" % (together / each)], together / each <= MOST
     for case in TRACES:
         made = case_input(given.folder, case, given.scale)
         traced, memory = best([[given.sas, "trace", made.task, made.plan]], given.rounds)
         judged, most = best([[given.sas, "plan", made.task, made.plan]], given.rounds)
         cells = [case.name, "%.3f" % traced, "%.1f" % memory, "%.3f" % judged, "%.1f" % most, "%.2f" % (traced / judged)]
-        yield machine.row(cells), traced <= MOST_TIME * judged and memory <= MOST_MEMORY * most
+        yield cells, traced <= MOST_TIME * judged and memory <= MOST_MEMORY * most
 
 
 def main():
-    words = argparse.ArgumentParser(description=__doc__, formatter_class=argparse.RawDescriptionHelpFormatter)
-    words.add_argument("sas")
-    words.add_argument("folder")
-    words.add_argument("--scale", type=float, default=1, metavar="F")
-    words.add_argument("--plans", type=int, default=PLANS, metavar="N")
-    words.add_argument("--rounds", type=int, default=5, metavar="R")
-    given = words.parse_args()
+    given = machine.arguments(__doc__, "sas", "folder", scale=1.0, plans=1000, rounds=5)
     given.sas = os.path.abspath(given.sas)
-    for line in machine.header(given.sas, None):
-        print(line)
-    print(machine.table_head(["Case", "Time", "Memory, MB", "`plan`, in all", "Memory, MB", "Ratio of times"]), flush=True)
-    found = []
-    for row, well in rows(given):
-        print(row, flush=True)
-        found.append(well)
-    sys.exit(0 if all(found) else 1)
+    heads = ["Case", "Time", "Memory, MB", "`plan`, in all", "Memory, MB", "Ratio of times"]
+    machine.print_head(heads, given.sas)
+    machine.print_rows(rows(given))
 
 
 main()

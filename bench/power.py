@@ -12,20 +12,18 @@ blackout. The rules stand from the far end on, so that whoever goes through them
 
 With n columns it has 3 n - 1 lines, an operator to open and one to close each of them, and about 6 n rules.
 """
-from collections import deque
-
 from mixing import mixed
-from sas_text import both
+from sas_text import Domain, both
 
 MAIN = 0
 CLOSED, OPEN = 0, 1
 DISTRICT = 100
 
 
-class Power:
+class Power(Domain):
     """The task with a ladder of so many columns."""
 
-    # for each unit of size, how many columns that makes; bytes by what a column takes in a file of 30 MB
+    # bytes by what a column takes in a file of 30 MB
     UNITS = {
         "columns": lambda columns: columns,
         "MB": lambda megabytes: megabytes * 1e6 / 1171,
@@ -35,7 +33,7 @@ class Power:
     LEAST = 2
 
     def __init__(self, columns):
-        self.objects = columns
+        super().__init__(columns)
         self.lines = lines_of_ladder(columns)
         self.buses = 2 * columns
         self.districts = max(1, columns // DISTRICT)
@@ -68,9 +66,6 @@ class Power:
         yield from (both(1, "dark(district%d)" % district) for district in range(self.districts))
         yield both(2, "blackout()")
 
-    def groups(self):
-        return []
-
     def initial(self):
         switches = [OPEN] + [CLOSED] * (len(self.lines) - 2) + [OPEN]
         return switches + [1] * (self.buses + self.districts + 1)
@@ -81,9 +76,9 @@ class Power:
     def operators(self):
         """Yields the operators, sorted by their first word."""
         for line in range(len(self.lines)):
-            yield close_switch(line), [], [(line, OPEN, CLOSED)]
+            yield "close-switch line%d" % line, [], [(line, OPEN, CLOSED)]
         for line in range(len(self.lines)):
-            yield open_switch(line), [], [(line, CLOSED, OPEN)]
+            yield "open-switch line%d" % line, [], [(line, CLOSED, OPEN)]
 
     def rules(self):
         """Yields the rules. Each sets its variable from 1, the default of all of them, to 0."""
@@ -104,34 +99,17 @@ class Power:
         After the main switch is closed, one line after the other is opened and closed again; the rings keep the net fed. The
         last line's switch is closed first where the number is even.
         """
-        closed = [value == CLOSED for value in self.initial()[:len(self.lines)]]
         if steps > 0 and steps % 2 == 0:
-            yield switched(closed, len(closed) - 1)
-        yield switched(closed, MAIN)
+            yield "close-switch line%d" % (len(self.lines) - 1)
+        yield "close-switch line%d" % MAIN
         for line in self.maintained(max(0, steps - 1) // 2):
-            yield switched(closed, line)
-            yield switched(closed, line)
-        assert len(self.fed_buses(closed)) == self.buses
+            yield "open-switch line%d" % line
+            yield "close-switch line%d" % line
 
     def maintained(self, many):
         """Returns so many lines, in mixed order, without the main line and the last one."""
         lines = mixed(range(1, len(self.lines) - 1), 1)
         return (lines[place % len(lines)] for place in range(many))
-
-    def fed_buses(self, closed):
-        """Returns the buses that are fed with these switches closed, by going from bus to bus."""
-        ties = {bus: [] for bus in range(self.buses)}
-        for line, (bus, other) in enumerate(self.lines):
-            if closed[line] and line != MAIN:
-                ties[bus].append(other)
-                ties[other].append(bus)
-        fed = {0} if closed[MAIN] else set()
-        waiting = deque(fed)
-        while waiting:
-            new = [bus for bus in ties[waiting.popleft()] if bus not in fed]
-            fed.update(new)
-            waiting.extend(new)
-        return fed
 
 
 def lines_of_ladder(columns):
@@ -143,17 +121,3 @@ def lines_of_ladder(columns):
             lines += [(upper - 2, upper), (upper - 1, upper + 1)]
         lines.append((upper, upper + 1))
     return lines
-
-
-def close_switch(line):
-    return "close-switch line%d" % line
-
-
-def open_switch(line):
-    return "open-switch line%d" % line
-
-
-def switched(closed, line):
-    """Turns a switch, and returns the name of that step."""
-    closed[line] = not closed[line]
-    return close_switch(line) if closed[line] else open_switch(line)

@@ -10,7 +10,6 @@ words, an older build for example. It runs in turn with ./sas, and for times and
 In front of the rounds each program runs once to be compared with the answer that is expected (answers.py); by then the input
 is in the cache of the system. A run past S seconds is stopped; a program that is stopped there isn't run in the rounds.
 """
-import argparse
 import os
 import signal
 import subprocess
@@ -25,16 +24,13 @@ from make import case_input
 LAUNCH = os.path.join(os.path.dirname(os.path.abspath(__file__)), "launch.py")
 PIECE = 1 << 20
 
+HEADS = ["Case", "MB", "s", "MB/s", "peak MB", "`cat` s", "`wc -l` s", "answer"]
+HEADS_BESIDE = ["beside s", "time ratio", "beside peak MB", "memory ratio", "answers"]
+
 # seconds, peak (in MB) and status are None where the command was stopped, output where nothing looked at it
 Run = namedtuple("Run", "seconds peak status output")
 Best = namedtuple("Best", "seconds peak")
 NOTHING = Best(None, None)
-
-
-def launcher(command, report, stdout):
-    """Starts the command under launch.py, in a process group of its own, so that both can be stopped together."""
-    return subprocess.Popen([sys.executable, "-I", "-S", LAUNCH, str(report), *command], stdin=subprocess.DEVNULL,
-                            stdout=stdout, pass_fds=[report], start_new_session=True)
 
 
 def stop(process):
@@ -60,7 +56,11 @@ def finish(process, limit):
 def measured(command, limit, compared=False):
     """Runs a command once. Its output is thrown away, or made into a digest to compare it by."""
     source, report = os.pipe()
-    process = launcher(command, report, subprocess.PIPE if compared else subprocess.DEVNULL)
+    stdout = subprocess.PIPE if compared else subprocess.DEVNULL
+    # in a process group of its own, so that both can be stopped together
+    streams = {"stdin": subprocess.DEVNULL, "stdout": stdout, "pass_fds": [report]}
+    launched = [sys.executable, "-I", "-S", LAUNCH, str(report), *command]
+    process = subprocess.Popen(launched, start_new_session=True, **streams)
     os.close(report)
     try:
         output = finish(process, limit)
@@ -78,14 +78,9 @@ def measured(command, limit, compared=False):
 
 def commands_of(given, case, files):
     """Returns what runs in turn in each round, under a name."""
-    commands = {"sas": [given.sas, case.request, *files]}
-    if given.beside:
-        commands["beside"] = [given.beside, case.request, *files]
-    commands["cat"] = ["cat", *files]
-    commands["wc"] = ["wc", "-l", *files]
-    return commands
-
-
+    beside = {"beside": [given.beside, case.request, *files]} if given.beside else {}
+    floors = {"cat": ["cat", *files], "wc": ["wc", "-l", *files]}
+    return {"sas": [given.sas, case.request, *files], **beside, **floors}
 def best_runs(commands, rounds, limit, stopped):
     """Returns, of each command, the best time and the most memory of its runs to the end. Those named `stopped` aren't
     run."""
@@ -127,11 +122,6 @@ def ratio(mine, other):
     return None if mine is None or other is None else mine / other
 
 
-def heads(beside):
-    cells = ["Case", "MB", "s", "MB/s", "peak MB", "`cat` s", "`wc -l` s", "answer"]
-    return cells + ["beside s", "time ratio", "beside peak MB", "memory ratio", "answers"] if beside else cells
-
-
 def case_row(given, case):
     """Measures a case, and returns its row of the table."""
     made = case_input(given.folder, case, given.scale)
@@ -151,27 +141,15 @@ def case_row(given, case):
     return cells
 
 
-def read_words():
-    words = argparse.ArgumentParser(description=__doc__, formatter_class=argparse.RawDescriptionHelpFormatter)
-    words.add_argument("sas")
-    words.add_argument("folder")
-    words.add_argument("--beside", metavar="PROGRAM")
-    words.add_argument("--rounds", type=int, default=7)
-    words.add_argument("--only", default="", metavar="TEXT")
-    words.add_argument("--scale", type=float, default=1, metavar="F")
-    words.add_argument("--limit", type=int, default=600, metavar="S")
-    return words.parse_args()
-
-
 def main():
-    given = read_words()
-    floor = measured(["true"], given.limit)
-    print("\n".join(machine.header(given.sas, given.beside)))
-    print("Best of %d rounds at scale %g; memory below some %.0f MB is not measured" % (
-        given.rounds, given.scale, floor.peak), flush=True)
-    print("\n" + machine.table_head(heads(given.beside)), flush=True)
+    flags = {"beside": "", "rounds": 7, "only": "", "scale": 1.0, "limit": 600}
+    given = machine.arguments(__doc__, "sas", "folder", **flags)
+    note = "Best of %d rounds at scale %g; memory below some %.0f MB is not measured"
+    note %= given.rounds, given.scale, measured(["true"], given.limit).peak
+    heads = HEADS + HEADS_BESIDE if given.beside else HEADS
+    machine.print_head(heads, given.sas, given.beside, note)
     for case in chosen(given.only):
-        print(machine.row(case_row(given, case)), flush=True)
+        machine.print_row(case_row(given, case))
     print("\nAfter: " + machine.load())
 
 

@@ -1,9 +1,11 @@
 """The text of a task file (`output.sas`, version 3), section by section, as the translator of Fast Downward writes it.
 
-A domain is an object with these members. Facts are pairs (VARIABLE, VALUE), and an effect is (VARIABLE, OLD, NEW),
-where -1 is no old value; its conditions, where it has some, come after these three. Everything is under metric 0, so each
-operator's cost line is 1.
+A domain is a class of these members. Facts are pairs (VARIABLE, VALUE). An effect is (VARIABLE,
+OLD, NEW), where -1 is no old value, and its conditions, if any. All is under metric 0, and each
+cost line is 1.
 
+    UNITS                   for each unit of size how many things that makes
+    LEAST                   the least number of things
     objects                 how many things its size counts
     counts()                how many `variables`, `groups`, `operators` and `rules` it has
     variables()             of each variable its layer (-1 for none) and the names of its values
@@ -16,6 +18,21 @@ operator's cost line is 1.
 """
 
 HEAD = "begin_version\n3\nend_version\nbegin_metric\n0\nend_metric\n"
+
+
+class Domain:
+    """A domain without groups and rules."""
+
+    LEAST = 1
+
+    def __init__(self, objects):
+        self.objects = objects
+
+    def groups(self):
+        return []
+
+    def rules(self):
+        return []
 
 
 def both(layer, atom):
@@ -52,14 +69,6 @@ def rule_text(_, rule):
     return "begin_rule\n%s%d %d %d\nend_rule\n" % (fact_lines(conditions), *effect)
 
 
-def state_text(values):
-    return "begin_state\n" + "".join(["%d\n" % value for value in values]) + "end_state\n"
-
-
-def goal_text(facts):
-    return "begin_goal\n" + fact_lines(facts) + "end_goal\n"
-
-
 def listed(count, items, text):
     """Yields a count and the text of each item, piece by piece; the count has to be theirs."""
     yield "%d\n" % count
@@ -76,8 +85,8 @@ def task_pieces(domain):
     yield HEAD
     yield from listed(counts["variables"], domain.variables(), variable_text)
     yield from listed(counts["groups"], domain.groups(), group_text)
-    yield state_text(domain.initial())
-    yield goal_text(domain.goal())
+    yield "begin_state\n" + "".join(["%d\n" % value for value in domain.initial()]) + "end_state\n"
+    yield "begin_goal\n" + fact_lines(domain.goal()) + "end_goal\n"
     yield from listed(counts["operators"], domain.operators(), operator_text)
     yield from listed(counts["rules"], domain.rules(), rule_text)
 

@@ -12,7 +12,7 @@ On each table the blocks are a tower at first, and in the end. With n tables the
 rules.
 """
 from mixing import mixed
-from sas_text import both
+from sas_text import Domain, both
 
 BLOCKS = 3
 TABLE = BLOCKS - 1
@@ -52,20 +52,16 @@ def move(table, block, old, new):
     return "move table%d block%d %s %s" % (table, block, place_name(block, old), place_name(block, new))
 
 
-class Tables:
+class Tables(Domain):
     """The task with so many tables."""
 
-    # for each unit of size, how many tables that makes; bytes by what a table takes in a file of 21 MB
+    # bytes by what a table takes in a file of 21 MB
     UNITS = {
         "tables": lambda tables: tables,
         "MB": lambda megabytes: megabytes * 1e6 / 4500,
         "rules": lambda rules: rules / 21,
         "operators": lambda operators: operators / 18,
     }
-    LEAST = 1
-
-    def __init__(self, tables):
-        self.objects = tables
 
     def counts(self):
         return {"variables": VARIABLES * self.objects, "groups": 0, "operators": 18 * self.objects, "rules": 21 * self.objects}
@@ -73,9 +69,6 @@ class Tables:
     def variables(self):
         for table in range(self.objects):
             yield from variables_of(table)
-
-    def groups(self):
-        return []
 
     def initial(self):
         return [*TOWER, *[1] * (VARIABLES - BLOCKS)] * self.objects
@@ -149,16 +142,7 @@ RULES = list(rules_of_table())
 
 def rebuilt(table, blocks):
     """Yields the steps that take so many blocks off the tower of a table, and lay them back."""
-    places = list(TOWER)
     for block in range(blocks):
-        yield moved(table, places, block, TABLE)
+        yield move(table, block, TOWER[block], TABLE)
     for block in reversed(range(blocks)):
-        yield moved(table, places, block, TOWER[block])
-
-
-def moved(table, places, block, new):
-    """Moves a block, and returns the name of that step. One without a meaning is refused."""
-    old, under = places[block], {others(it)[place] for it, place in enumerate(places) if place != TABLE}
-    assert old != new and block not in under and (new == TABLE or others(block)[new] not in under)
-    places[block] = new
-    return move(table, block, old, new)
+        yield move(table, block, TABLE, TOWER[block])

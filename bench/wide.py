@@ -2,31 +2,24 @@
 
 With n lamps there are n variables and eight operators, each of n effects. There are no groups and no prevail conditions.
 """
-from sas_text import both
+from sas_text import Domain, both
 
 ON, OFF = 0, 1
 SWITCHES = 4
 WORDS = ("turn-on", "turn-off")
 
 
-class Wide:
+class Wide(Domain):
     """The task with so many lamps."""
 
-    # for each unit of size, how many lamps that makes; bytes by what a lamp takes in a file of a MB
+    # bytes by what a lamp takes in a file of a MB
     UNITS = {"effects": lambda effects: effects, "MB": lambda megabytes: megabytes * 1e6 / 188}
-    LEAST = 1
-
-    def __init__(self, lamps):
-        self.objects = lamps
 
     def counts(self):
         return {"variables": self.objects, "groups": 0, "operators": len(WORDS) * SWITCHES, "rules": 0}
 
     def variables(self):
         yield from (both(-1, "on(lamp%d)" % lamp) for lamp in range(self.objects))
-
-    def groups(self):
-        return []
 
     def initial(self):
         return [OFF] * self.objects
@@ -38,9 +31,6 @@ class Wide:
         for value, word in enumerate(WORDS):
             for switch in range(SWITCHES):
                 yield "%s switch%d" % (word, switch + 1), [], [(lamp, -1, value) for lamp in range(self.objects)]
-
-    def rules(self):
-        return []
 
     def plan(self, steps):
         """Yields the steps of a plan: that many, at least one. The last one turns the lamps on."""

@@ -11,8 +11,8 @@ aarch64-linux-gnu-gcc and its C library build, and qemu-aarch64-static runs. Whe
 second isn't, nothing is run; a line that begins with `without` says so. Two crates are proved again, in two to three minutes each, and what
 is run takes some minutes of a processor.
 
-Each test that fails has a line, and the last line is 'N passed, M failed'. The exit status is 0 where none failed. No proof sees the code
-in C that stands beside the crates there, nor what the toolchain and the cross compiler make of them.
+No proof sees the code in C that stands beside the crates there, nor what the toolchain and the
+cross compiler make of them.
 """
 import functools
 import os
@@ -26,7 +26,7 @@ from harness import differs, ended, is_there
 from library_calls import linked_tests
 from library_wrappers import held_prints
 from release import is_static, pack, packing_tests
-from texts import TOP, as_bytes, bytes_of
+from texts import TOP, as_bytes, bytes_of, put
 
 sys.path.insert(0, TOP)
 import build as proving  # the file at the top
@@ -99,8 +99,7 @@ def wrong_held(held, sas, case):
     with tempfile.TemporaryDirectory() as place:
         files = [os.path.join(place, it) for it in ("t.sas", "p.txt")]
         for path in files:
-            with open(path, "wb") as file:
-                file.write(as_bytes(case["files"][os.path.basename(path)]))
+            put(path, as_bytes(case["files"][os.path.basename(path)]))
         return differs(ended(*held, *files), held_prints(sas, *files))
 
 
@@ -116,7 +115,6 @@ def driver_tests(released, place):
 
 
 def emulated_tests(released, sas, place):
-    """Yields all that is run under the emulator."""
     run.SECONDS = SECONDS
     judged = run.judged(os.path.join(released, "sas"), [EMULATOR], one_of=ONE_OF)
     yield from ((f"{EMULATOR}: {name}", found) for name, found in judged)
@@ -124,20 +122,18 @@ def emulated_tests(released, sas, place):
     yield from driver_tests(released, place)
 
 
-def tests(sas):
-    """Yields all of these, as far as what builds and runs programs for ARM is there."""
+def tests(sas, place):
     if not is_there(COMPILER):
         return
     if not os.path.isdir(SYSROOT):
         print(f"without {SYSROOT}")
         return
-    with tempfile.TemporaryDirectory() as place:
-        released = os.path.join(place, "release")
-        yield from build_tests()
-        yield from packing_tests(place, PLATFORM)
-        yield from file_tests(released, place)
-        if is_there(EMULATOR):
-            yield from emulated_tests(released, sas, place)
+    released = os.path.join(place, "release")
+    yield from build_tests()
+    yield from packing_tests(place, PLATFORM)
+    yield from file_tests(released, place)
+    if is_there(EMULATOR):
+        yield from emulated_tests(released, sas, place)
 
 
 if __name__ == "__main__":

@@ -3,10 +3,10 @@
 
     python3 cases/bad_edits.py
 
-The crate is made by `rt new` in a temporary folder. It has an edit of each kind that there is: one that a promise refuses, one that is
-still proved, one that can't be read, and several that aren't edits of the crate. What the gate says of the lines that `rt ci` prints has to
-name all but the first, and `build.py --edit` has to come to the same of each. That takes one to two minutes. Each test that fails has a
-line, and the last line is 'N passed, M failed'. The exit status is 0 where none failed.
+The crate is made by `rt new` in a temporary folder. It has an edit of each kind that there is: one
+that a promise refuses, one that is still proved, one that can't be read, and several that aren't
+edits of the crate. What the gate says of the lines that `rt ci` prints has to name all but the
+first, and `build.py --edit` has to come to the same of each. That takes one to two minutes.
 
 The words, and the code that judges edits, are the toolchain's. Where a later one has others, the gate would no longer notice an edit that
 isn't one any more.
@@ -18,13 +18,12 @@ import re
 import shutil
 import subprocess
 import sys
-import tempfile
 
 import gate
 import harness
 from harness import differs
 from release import files_below
-from texts import TOP, bytes_of, text_of
+from texts import TOP, bytes_of, put, text_of
 
 CODE = """
 /// Returns half of a number.
@@ -54,12 +53,6 @@ EDITS = {
 }
 
 
-def put(path, text):
-    """Writes a file."""
-    with open(path, "w", encoding="utf-8") as file:
-        file.write(text)
-
-
 def make_crate(top):
     """Makes a repository with one crate in a folder, with the edits."""
     folder = f"{top}/crates/tiny"
@@ -70,8 +63,7 @@ def make_crate(top):
     put(f"{top}/crates.txt", "tiny:\n")
     put(f"{top}/HANDLES", "Handles allowed: none.\n")
     put(f"{folder}/src/lib.rt", text_of(f"{folder}/src/lib.rt").replace("{◌≡◌}", "{◌≡◌, ◌≤◌}") + CODE)
-    with open(f"{folder}/proofs/notes", "wb") as file:
-        file.write(b"x \xff\n")
+    put(f"{folder}/proofs/notes", b"x \xff\n")
     os.mkdir(f"{folder}/must-fail")
     for name, (path, old, new, _) in EDITS.items():
         put(f"{folder}/must-fail/{name}", f"file: {path}\nold: {old}\nnew: {new}\n")
@@ -96,12 +88,10 @@ def gate_tests(top):
 
 
 def build(top, *words):
-    """Runs a copy of build.py over the crate, and returns its exit status and what it printed."""
     return harness.printed(sys.executable, f"{top}/build.py", "tiny", *words)
 
 
 def held(folder):
-    """Returns all files of a folder, with what they hold."""
     return {path: bytes_of(folder, path) for path in files_below(folder)}
 
 
@@ -128,12 +118,10 @@ def build_tests(top):
     yield "build.py, a crate that isn't proved itself", differs(status, STATUSES[UNREAD]) + ([] if UNREAD in said else [said])
 
 
-def tests():
-    """Yields all of these, over one crate."""
-    with tempfile.TemporaryDirectory() as top:
-        make_crate(top)
-        yield from gate_tests(top)
-        yield from build_tests(top)
+def tests(place):
+    make_crate(place)
+    yield from gate_tests(place)
+    yield from build_tests(place)
 
 
 if __name__ == "__main__":

@@ -45,7 +45,6 @@ class Browser:
         self.act({"type": "key", "id": "keys", "actions": actions})
 
     def click(self, x, y):
-        """Clicks at a place of the window."""
         self.point(x, y, {"type": "pointerDown", "button": 0}, {"type": "pointerUp", "button": 0})
 
     def point(self, x, y, *then):
@@ -59,7 +58,6 @@ class Browser:
         self.act({"type": "key", "id": "keys", "actions": [held, wait, free]}, {"type": "wheel", "id": "wheel", "actions": [wait, turn]})
 
     def picture(self):
-        """Returns a PNG file of what is in the window."""
         return base64.b64decode(self.command("TakeScreenshot", "GET", "screenshot", None))
 
     def printed(self):

@@ -18,10 +18,9 @@ calls.json: for each program what its calls print, in groups of the same call.
 The calls of `run` and `judge` are made once more with writers of each room up to the length of the answer, and with plans that can't
 be opened or that fail after each of their bytes.
 
-The calls over the files of tasks.json, lines.json, plans.json, verdicts.json and groups.json are made here, and those over
-the tasks of layered.py, walks.py, following.py, grouped.py and large.py, and over devices that go on after a failure.
-texts.py defines what a text is. Each case that fails has a line, and the last line is 'N passed, M failed'. The exit status is
-0 where none failed.
+The calls over the files of tasks.json, lines.json, plans.json, verdicts.json and groups.json are
+made here, and those over the tasks of layered.py, walks.py, following.py, grouped.py and large.py,
+and over devices that go on after a failure. texts.py defines what a text is.
 """
 import functools
 import itertools
@@ -36,8 +35,8 @@ from large import plan_text, wide_groups, wide_plans, wide_task
 from layered import settled_tasks, spoiled_tasks
 from oracles.refusals import answer_of_call
 from oracles.steps import initial, state_line, verdict
-from oracles.tasks import text_of
-from texts import as_bytes, changed_lines, early_end, table
+from oracles.tasks import text_of, with_ends
+from texts import as_bytes, changed_lines, early_end, made_by, table
 from walks import walked_calls, walked_plans
 from why import written_plans
 
@@ -52,7 +51,7 @@ LONGEST, SMALL = 8000, 600
 SHORT, NEAR = 2000, 20
 # where the pieces of a long answer end
 PIECES = (0, 60_089, 65_536)
-CORE, FILES, VERDICTS, REQUESTS = "test_core", "test_files", "test_verdicts", "test_requests"
+FILES, VERDICTS, REQUESTS = "test_files", "test_verdicts", "test_requests"
 EVALUATORS = ("rounds", "worklist")
 # the ways to read a file; the last two keep no text of it
 TASK_WAYS, TASK_REQUESTS = ("task", "task-text", "outline", "flat-task"), ("print", "show", "check", "mutex")
@@ -68,7 +67,6 @@ ANSWER = re.compile(rb"((?:open \d+\n)*)Ok\((?:Yes|No)\)\n(.*)\n", re.DOTALL)
 
 
 def case(program, call, given, answer, about=""):
-    """Returns a call of a program."""
     return {
         "program": program,
         "name": f"{call}, {about}",
@@ -134,7 +132,6 @@ def broken_cases(call, given, answer):
 
 
 def answer_of_fault(said):
-    """Returns the line that reports a fault."""
     place, word = said.split(": ")
     return f"{place}: {word.title().replace(' ', '')}\n"
 
@@ -145,7 +142,6 @@ def read_as(way, text):
 
 
 def over(request, file):
-    """Returns what a request over one file is given."""
     return [b"|", file, b"|"] if request in PLAN_REQUESTS else [b"||", file]
 
 
@@ -257,7 +253,6 @@ def wide_cases():
 
 
 def listed(plans):
-    """Returns the list of these plans, which `judge` is given, with their numbers as labels."""
     return "&".join(f"{number}:{plan}" for number, plan in enumerate(plans))
 
 
@@ -318,63 +313,41 @@ def why_cases():
     """Yields the plans of why.json, with reasons. They could show a text that isn't that of the program."""
     for name, task, plan, lines in written_plans():
         status = "Yes" if lines[0].startswith("plan valid") else "No"
-        answer = "".join(f"{line}\n" for line in (f"Ok({status})", *lines, ""))
+        answer = with_ends([f"Ok({status})", *lines, ""])
         yield case(REQUESTS, "run plan-why", ["|", plan, "|", task], answer, name)
 
 
-def step_cases():
-    """Yields calls of runners on tasks made at random, through each evaluator. They could show a wrong definition of
-    steps."""
+def random_calls():
+    """Yields calls over tasks made at random, and over those of groups.json: what has the task, the
+    call, what it is given beside it, what the program prints, and a name. They could show a wrong
+    definition of settled states, layered tasks, steps or kept groups, a state that rests on the one
+    before it, and faults in another order."""
+    for number, made in enumerate(settled_tasks()):
+        states = ";".join(" ".join(map(str, values)) for values in made["states"])
+        answer = with_ends(map(state_line, made["settled"]))
+        for way in EVALUATORS:
+            yield made, f"settle {way}", states, answer, f"random task {number}"
+    for number, made in enumerate(spoiled_tasks()):
+        yield made, "layered", "", f"{made['fault'] or 'layered'}\n", f"random task {number}"
     for made in walked_calls():
         for way in EVALUATORS:
-            yield case(VERDICTS, f"steps {way}", [made["calls"], "|", made["task"]], made["answers"], made["name"])
-
-
-def following_cases():
-    """Yields long runs over tasks made at random: those that go on from the state before, and, step by step, those that settle each
-    state by itself. They could show a state that rests on the one before it."""
+            yield made, f"steps {way}", made["calls"], made["answers"], made["name"]
     for made in called_runs():
-        for call, (words, answer) in made["calls"].items():
-            yield case(VERDICTS, call, [words, "|", made["task"]], answer, made["name"])
-
-
-def group_cases():
-    """Yields the groups of each task that isn't too long, and of those made at random: the joint verdicts, and each by
-    itself. They could show a definition of kept groups by which too few are shown."""
+        yield from ((made, call, *given, made["name"]) for call, given in made["calls"].items())
     for made in (*table("groups.json"), *grouped_tasks()):
         if len(as_bytes(made["task"])) <= LONGEST:
-            yield case(VERDICTS, "check-groups", ["|", made["task"]], made["call"], made["name"])
+            yield made, "check-groups", "", made["call"], made["name"]
 
 
-def numbers(values):
-    """Returns the values of a state, in a line."""
-    return " ".join(map(str, values))
-
-
-def settled_cases():
-    """Yields states of tasks made at random, settled in turn by each evaluator. They could show a wrong definition of
-    settled states, and a state that rests on the one before it."""
-    for number, made in enumerate(settled_tasks()):
-        given = [";".join(map(numbers, made["states"])), "|", made["task"]]
-        answer = "".join(f"state {numbers(values)}\n" for values in made["settled"])
-        for way in EVALUATORS:
-            yield case(VERDICTS, f"settle {way}", given, answer, f"random task {number}")
-
-
-def layer_cases():
-    """Yields the layers of tasks made at random. They could show a wrong definition of layered tasks, and faults in another
-    order."""
-    for number, made in enumerate(spoiled_tasks()):
-        answer = f"{made['fault'] or 'layered'}\n"
-        yield case(VERDICTS, "layered", ["|", made["task"]], answer, f"random task {number}")
+def random_cases():
+    for made, call, given, answer, name in random_calls():
+        yield case(VERDICTS, call, [given, "|", made["task"]], answer, name)
 
 
 def cases():
-    """Returns all calls."""
-    files = (*task_cases(), *line_cases(), *plan_cases(), *verdict_cases(), *why_cases())
-    devices = (*script_cases(), *cut_plan_cases(), *wide_cases())
-    random = (*settled_cases(), *layer_cases(), *step_cases(), *following_cases(), *group_cases())
-    return [*written_cases(), *files, *devices, *random]
+    files = task_cases, line_cases, plan_cases, verdict_cases, why_cases
+    devices = script_cases, cut_plan_cases, wide_cases
+    return list(made_by(written_cases, *files, *devices, random_cases))
 
 
 def batches(calls):
@@ -404,7 +377,6 @@ def answers(programs, batch):
 
 
 def faults(programs, batch):
-    """Returns what is wrong with the answers of a program to a batch of calls."""
     printed = answers(programs, batch)
     if isinstance(printed, str):
         return [[printed] for _ in batch]

@@ -9,8 +9,7 @@ that are hard are added to its own. Its script is also run without a folder, and
 and the message. Slurm is started here: munged, slurmctld and slurmd, with one node, over the loopback address. All that they write is in
 a folder that is removed; they are ended, and so is what they have started. Only root can do so.
 
-For what isn't there it prints a line that begins with `without`. Each test that fails has a line, and the last line is 'N passed, M
-failed'. The exit status is 0 where none failed.
+For what isn't there it prints a line that begins with `without`.
 
 No proof reads a document. A recipe that leaves out a plan or a run, or writes where it shouldn't, would be found here alone.
 """
@@ -30,7 +29,7 @@ import harness
 from harness import differs, ended, is_there
 from pages import GUIDE
 from shown import commands_in, lines_of
-from texts import TOP
+from texts import CASES, TOP, put, text_of
 
 TITLE = "## Run many tasks on a cluster"
 # what judge.sh leaves in the folder of a run
@@ -54,29 +53,6 @@ STATUSES = {"a": "1", "b": "0", "c": "1", "d": "3"} | dict(zip(ADDED, ("1", "0",
 # how long a command may take, and how long the node and a job array, in seconds
 SECONDS, UP, DONE = 60, 60, 120
 DAEMONS = ("munged", "slurmctld", "slurmd")
-CONFIG = """\
-ClusterName=guide
-SlurmctldHost={host}({address})
-SlurmctldPort={ports[0]}
-SlurmdPort={ports[1]}
-SlurmUser=root
-{mark}CommunicationParameters=NoInAddrAny,NoCtldInAddrAny
-AuthType=auth/munge
-AuthInfo=socket={place}/munge.socket
-CredType=cred/munge
-ProctrackType=proctrack/pgid
-TaskPlugin=task/none
-SelectType=select/cons_tres
-SelectTypeParameters=CR_CPU
-SchedulerParameters=batch_sched_delay=0,sched_min_interval=0
-SlurmdParameters=config_overrides
-StateSaveLocation={place}/state
-SlurmdSpoolDir={place}/spool
-SlurmctldPidFile={place}/slurmctld.pid
-SlurmdPidFile={place}/slurmd.pid
-NodeName={host} NodeAddr={address} CPUs=4 RealMemory=4000
-PartitionName=all Nodes={host} Default=YES
-"""
 
 
 class Guide:
@@ -98,7 +74,6 @@ class Guide:
         add_runs(place)
 
     def command(self, words):
-        """Returns the command of the section that begins with these words."""
         return next(it["command"] for it in self.commands if it["command"].startswith(words))
 
     def named(self, word):
@@ -111,23 +86,19 @@ class Guide:
         return ended("bash", "-c", command, **more).stdout.decode()
 
     def left(self):
-        """Returns what is left in the folder of each run: its files, and None where one isn't there."""
         return {run: {name: held(self.place, "runs", run, name) for name in LEFT} for run in STATUSES}
 
     def clean(self):
-        """Removes what was left."""
         for run in STATUSES:
             for name in LEFT:
                 with contextlib.suppress(FileNotFoundError):
                     os.remove(os.path.join(self.place, "runs", run, name))
 
     def folders(self):
-        """Returns how many folders the list of the guide has."""
         return held(self.place, "folders").count("\n")
 
 
 def environment():
-    """Returns the environment, without what a job of another Slurm is told."""
     return {name: it for name, it in os.environ.items() if not name.startswith(("SLURM", "SBATCH", "SQUEUE", "SINFO", "MUNGE"))}
 
 
@@ -141,7 +112,6 @@ def held(*path):
 
 
 def add_runs(place):
-    """Makes the folders of runs that the guide doesn't have."""
     for run, plans in ADDED.items():
         os.mkdir(os.path.join(place, "runs", run))
         files = {name: f"{it}.plan" for name, it in plans.items()} | ({"output.sas": "fuses.sas"} if STATUSES[run] else {})
@@ -150,7 +120,6 @@ def add_runs(place):
 
 
 def differ(got, expected):
-    """Returns the runs in whose folders something else is left."""
     return [f"{run}: {got[run]}, not {it}" for run, it in expected.items() if got[run] != it]
 
 
@@ -257,7 +226,9 @@ def slurm_tests(guide, expected):
     with slurm() as env:
         found = wait_for(lambda: guide.run("sinfo -h -o %T", **env) == "idle\n", UP)
         if found:
-            print(f"without Slurm: its node isn't up here: {found}: {logs(env)}")
+            place = os.path.dirname(env["SLURM_CONF"])
+            logs = {it: (held(place, f"{it}.out") or "")[-500:] for it in DAEMONS}
+            print(f"without Slurm: its node isn't up here: {found}: {logs}")
             return
         yield "Slurm, the largest array", differs(guide.run(guide.named("scontrol"), **env).split()[-1:], ["1001"])
         command, count = guide.named("sbatch"), guide.folders()
@@ -276,7 +247,6 @@ def slurm_tests(guide, expected):
 
 
 def of_jobs(command, jobs):
-    """Returns the guide's command for an array of so many jobs."""
     return re.sub(r"--array=1-.*%", f"--array=1-{jobs}%", command)
 
 
@@ -288,12 +258,6 @@ def wait_for(is_so, seconds):
             return []
         time.sleep(0.2)
     return [f"not in {seconds} s"]
-
-
-def logs(env):
-    """Returns the ends of what the daemons wrote."""
-    place = os.path.dirname(env["SLURM_CONF"])
-    return {it: (held(place, f"{it}.out") or "")[-500:] for it in DAEMONS}
 
 
 def config_of(place):
@@ -311,7 +275,8 @@ def config_of(place):
         for it in found:
             it.bind((address, 0))
         ports = [it.getsockname()[1] for it in found]
-    return CONFIG.format(place=place, host=host, address=address, mark=mark, ports=ports)
+    it = {"place": place, "host": host, "address": address, "mark": mark, "ports": ports}
+    return text_of(os.path.join(CASES, "slurm.conf")).format(**it)
 
 
 @contextlib.contextmanager
@@ -322,8 +287,7 @@ def slurm():
         os.chmod(place, 0o755)
         for name in ("state", "spool"):
             os.mkdir(os.path.join(place, name))
-        with open(f"{place}/slurm.conf", "w", encoding="utf-8") as file:
-            file.write(config_of(place))
+        put(f"{place}/slurm.conf", config_of(place))
         with open(f"{place}/munge.key", "wb", opener=lambda path, flags: os.open(path, flags, 0o600)) as file:
             file.write(os.urandom(128))
         at = {"socket": "munge.socket", "key-file": "munge.key", "pid-file": "munged.pid", "seed-file": "munge.seed"}
@@ -340,7 +304,6 @@ def slurm():
 
 
 def started(place, name, *words):
-    """Starts a daemon, which writes into its folder alone."""
     env = {**environment(), "SLURM_CONF": f"{place}/slurm.conf"}
     with open(f"{place}/{name}.out", "wb") as out:
         streams = {"stdin": subprocess.DEVNULL, "stdout": out, "stderr": out, "start_new_session": True}
@@ -362,21 +325,19 @@ def end_all(place, running):
                 os.kill(int(path.split("/")[2]), signal.SIGKILL)
 
 
-def tests(sas):
-    """Yields all of these, over the runs of the guide."""
+def tests(sas, place):
     # what is started is ended also where this is
     signal.signal(signal.SIGTERM, lambda *_: sys.exit(1))
     # the daemons are there, on some systems not on the PATH
     os.environ["PATH"] += ":/usr/sbin:/sbin"
-    with tempfile.TemporaryDirectory() as place:
-        guide = Guide(place, sas)
-        yield from thousands_tests(guide)
-        yield from xargs_tests(guide)
-        expected = guide.left()
-        yield from script_tests(guide)
-        yield from status_tests(guide)
-        yield from parallel_tests(guide, expected)
-        yield from slurm_tests(guide, expected)
+    guide = Guide(place, sas)
+    yield from thousands_tests(guide)
+    yield from xargs_tests(guide)
+    expected = guide.left()
+    yield from script_tests(guide)
+    yield from status_tests(guide)
+    yield from parallel_tests(guide, expected)
+    yield from slurm_tests(guide, expected)
 
 
 if __name__ == "__main__":

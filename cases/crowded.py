@@ -6,7 +6,6 @@ from large import task_with
 
 
 def broken(operator):
-    """The verdict on a group that falls by this operator."""
     return f"Broken {{ operator: {operator} }}"
 
 
@@ -16,7 +15,6 @@ def facts_task(count, **parts):
 
 
 def setting(var, value=0):
-    """An effect without conditions that sets a variable to this value."""
     return [], var, -1, value
 
 
@@ -123,7 +121,6 @@ def effects_beside(size):
 
 
 def effects_alone(size):
-    """Effects where there is no group."""
     return effects_task(size, []), []
 
 

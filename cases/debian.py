@@ -8,20 +8,18 @@ machine's version counts as installed; nothing is loaded, and nothing of this ma
 tried, and where apt-get isn't, or the user isn't root, the package is packed alone. `lintian` is used where it is there. A line that begins
 with `without` says so.
 
-Each test that fails has a line, and the last line is 'N passed, M failed'. The exit status is 0 where none failed. No proof sees what is
-in a package.
+No proof sees what is in a package.
 """
 import gzip
 import os
 import re
-import tempfile
 
 import harness
 from harness import c_compiler, differs, ended, is_there
 from pages import link_cases
 from release import BILL, INSTALLED, LIBRARY, NOTES, PYTHON, REPORT, bill_tests, files_below, mark_tests
 from release import named_files, pack_twice, python_tests
-from texts import TOP, text_of
+from texts import TOP, put, text_of
 
 LIBRARIES, PACKAGES = "lib/x86_64-linux-gnu", "lib/python3/dist-packages"
 DOCUMENTS = "usr/share/doc/sas"
@@ -94,9 +92,8 @@ def system(place):
     for it in ("var/cache/apt/archives/partial", "etc/apt/preferences.d", "etc/apt/apt.conf.d"):
         os.makedirs(os.path.join(root, it))
     version = ended("dpkg-query", "-W", "-f", "${Version}", "libc6")[1].decode()
-    with open(f"{root}/var/lib/dpkg/status", "w", encoding="utf-8") as file:
-        file.write(C_LIBRARY.format(version))
-    open(f"{root}/var/lib/dpkg/info/libc6.list", "w", encoding="utf-8").close()
+    put(f"{root}/var/lib/dpkg/status", C_LIBRARY.format(version))
+    put(f"{root}/var/lib/dpkg/info/libc6.list", "")
     options = [f"Dir={root}", f"Dir::State::status={root}/var/lib/dpkg/status", f"DPkg::Options::=--root={root}"]
     # the system has no shell for the scripts of a package
     options += ["DPkg::Options::=--force-script-chrootless"]
@@ -144,12 +141,10 @@ def library_tests(root, place):
     yield "held.c", differs(ended(built, *files, cwd=TOP), (0, b"examples/fuses.plan: plan valid: 4 steps, cost 4\n", b""))
 
 
-def tests(sas):
-    """Yields all of these, where what packs and reads packages is there."""
+def tests(sas, place):
     if all([is_there(it) for it in ("dpkg-deb", "readelf")]):
-        with tempfile.TemporaryDirectory() as place:
-            yield from packing_tests(place, sas)
-            yield from install_tests(place, sas)
+        yield from packing_tests(place, sas)
+        yield from install_tests(place, sas)
 
 
 if __name__ == "__main__":

@@ -18,7 +18,7 @@ from layered import other_value
 from oracles.axioms import settled
 from oracles.reasons import Run
 from oracles.steps import changed, cost_of, initial, meant, state_line
-from oracles.tasks import plan_text, text_of
+from oracles.tasks import plan_text, text_of, with_ends
 
 SEED = 31
 # how many tasks, and of how many steps the runs over them are: those of the program, and those of calls, which print each state
@@ -45,7 +45,6 @@ class States(dict):
         return self[values]
 
     def after(self, state, operator):
-        """Returns the state after a step of this operator."""
         basic = (layer is None for layer in self.task["layers"])
         return self[tuple(value if is_basic else 0 for value, is_basic in zip(changed(state, operator), basic))]
 
@@ -111,7 +110,6 @@ def effects_on(chance, task, var, derived):
 
 
 def turns_of(chance, task, news):
-    """Yields the operators `turn`."""
     basic, derived = on_layers(task, lambda layer: layer is None), sorted(news)
     for name in TURNS:
         for count in (2, 1, 1, 0):
@@ -122,7 +120,6 @@ def turns_of(chance, task, news):
 
 
 def asks_of(task, derived):
-    """Yields the operators `ask`."""
     for var in derived:
         for value in range(task["ranges"][var]):
             yield f"ask {var} {value}", [(var, value)], [], 1
@@ -136,7 +133,7 @@ def turning_task(chance):
     basic = on_layers(task, lambda layer: layer is None)
     readable = chance.sample(basic, len(basic) - chance.choice((0, 1, 2)))
     news = {var: other_value(chance, task["ranges"][var], task["defaults"][var]) for var in derived}
-    task["rules"] = list(rules_of(chance, task, basic, news))
+    task["rules"] = list(rules_of(chance, task, readable, news))
     chance.shuffle(task["rules"])
     task["operators"] = [*turns_of(chance, task, news), *asks_of(task, derived)]
     return task, derived
@@ -196,17 +193,14 @@ def run_over(task, names, steps):
 
 
 def names_of(task, run):
-    """Returns the names of the steps of a run."""
     return [task["operators"][operator][0] for operator, _ in run]
 
 
 def cost_of_run(task, run):
-    """Returns what the steps of a run cost."""
     return sum(cost_of(task, operator) for operator, _ in run)
 
 
 def wrong_fact(chance, task, derived, state):
-    """Returns a fact on a derived variable that doesn't hold."""
     var = chance.choice(derived)
     return var, other_value(chance, task["ranges"][var], state[var])
 
@@ -226,21 +220,17 @@ def said_of_run(chance, task, derived, run):
     yield [*goal[:var], (var, value), *goal[var + 1 :]], names, run, cost, f"plan invalid: goal fact {var} not reached"
 
 
-def is_lively(derived, run):
-    """Returns whether at least half of the derived variables have different values in a run."""
-    return sum(len({state[var] for _, state in run}) > 1 for var in derived) * 2 >= len(derived)
-
-
 def lively_task(chance):
-    """Returns a task in which most derived variables change."""
+    """Returns a task in which at least half of the derived variables change."""
     while True:
         task, derived = turning_task(chance)
-        if is_lively(derived, run_over(task, turning_names(chance, derived), 100)):
+        run = run_over(task, turning_names(chance, derived), 100)
+        changing = [var for var in derived if len({state[var] for _, state in run}) > 1]
+        if len(changing) * 2 >= len(derived):
             return task, derived
 
 
 def made_runs(chance, tasks, steps):
-    """Yields tasks, each with its derived variables and a run over it."""
     for _ in range(tasks):
         task, derived = lively_task(chance)
         yield task, derived, run_over(task, turning_names(chance, derived), steps)
@@ -279,22 +269,19 @@ def long_plans():
             }
 
 
-def lines_of(lines):
-    """Returns lines, each ended by LF."""
-    return "".join(f"{line}\n" for line in lines)
-
-
 def walked(task, run):
     """Returns what the call `plan reporting` prints of a run: the initial state, which is settled twice, then the states that are
     settled, and then what `plan` prints."""
     first, chosen = state_line(initial(task)), " ".join(str(operator) for operator, _ in run)
     states = [state_line(state) for _, state in run]
-    return lines_of([first, first, first, *states, f"operators {chosen}", f"cost {cost_of_run(task, run)}"])
+    last = [f"operators {chosen}", f"cost {cost_of_run(task, run)}"]
+    return with_ends([first, first, first, *states, *last])
 
 
 def stepped(task, run):
     """Returns what the call `steps` prints of a run."""
-    return lines_of([state_line(initial(task)), *(line for _, state in run for line in ("Ok(())", state_line(state)))])
+    lines = [line for _, state in run for line in ("Ok(())", state_line(state))]
+    return with_ends([state_line(initial(task)), *lines])
 
 
 def called_runs():

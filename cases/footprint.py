@@ -8,16 +8,15 @@ table says for what was added, and by the bytes of its names, but by no more tha
 too: a table that says far more than is taken is wrong. The inputs are so large that the peak is above that of the process that starts the
 program, which the system counts, too.
 
-Each run that fails has a line, and the last line is 'N passed, M failed'. The exit status is 0 where none failed. No proof is about memory.
-A program that stores something twice, or keeps what it no longer needs, would be found here alone.
+No proof is about memory. A program that stores something twice, or keeps what it no longer needs,
+would be found here alone.
 """
 import os
 import sys
-import tempfile
 from collections import Counter, namedtuple
 
 import harness
-from texts import TOP, text_of
+from texts import TOP, put, text_of
 
 sys.path.insert(0, os.path.join(TOP, "bench"))
 from run import measured
@@ -56,12 +55,10 @@ def table():
 
 
 def names(count):
-    """Returns so many names of operators."""
     return [b"%0*d" % (NAME, place) for place in range(count)]
 
 
 def variables(count, values=2, layer=-1):
-    """Returns so many variables, each with so many values."""
     text = b"begin_variable\nv\n%d\n%d\n%send_variable\n" % (layer, values, b"a\n" * values)
     return Part(count, text * count, Counter({"variable": count, "value of a variable": count * values, "name": count * (1 + values)}))
 
@@ -74,7 +71,6 @@ def groups(count, each):
 
 
 def goal(count):
-    """Returns so many goal facts, which don't hold."""
     return Part(count, b"0 1\n" * count, Counter({"goal fact": count}))
 
 
@@ -95,7 +91,6 @@ def rules(count, conditions=0):
 
 
 def steps(count):
-    """Returns the steps of a plan, so many, which name different operators."""
     return Part(count, b"".join(b"(%s)\n" % name for name in names(count)), Counter({"step of a plan": count, "name": count * NAME}))
 
 
@@ -112,7 +107,6 @@ def input_of(plan=Part(), **parts):
 
 
 def with_rules(part):
-    """Returns the input with these rules."""
     basic, derived = variables(1), variables(1, layer=0)
     return input_of(variables=Part(2, basic.text + derived.text, basic.holds + derived.holds), rules=part)
 
@@ -149,10 +143,7 @@ INPUTS = (
 
 def peak_of(program, request, made, folder):
     """Returns the most memory that a run over an input had, in bytes."""
-    paths = [os.path.join(folder, "task"), os.path.join(folder, "plan")]
-    for path, text in zip(paths, made):
-        with open(path, "wb") as file:
-            file.write(text)
+    paths = [put(f"{folder}/task", made.task), put(f"{folder}/plan", made.plan)]
     words = request.split()
     return measured([program, *words, *paths[: 2 if words[0] in OVER_PLANS else 1]], SECONDS).peak * 1e6
 
@@ -171,14 +162,13 @@ def grown(program, request, figures, sizes, folder):
     return [f"it grows by {(second - first) / 1e6:.1f} MB, not by {said / 1e6:.1f}, as the guide says"]
 
 
-def tests(sas):
-    """Yields each request over each input that it is given."""
+def tests(sas, place):
     figures = table()
-    with tempfile.TemporaryDirectory() as folder:
-        for made in INPUTS:
-            sizes = [made.input(SIZE), made.input(2 * SIZE)]
-            for request in made.requests or figures:
-                yield f"{made.name}, {request}", grown(sas, request, figures[request.split()[0]], sizes, folder)
+    for made in INPUTS:
+        sizes = [made.input(SIZE), made.input(2 * SIZE)]
+        for request in made.requests or figures:
+            wrong = grown(sas, request, figures[request.split()[0]], sizes, place)
+            yield f"{made.name}, {request}", wrong
 
 
 if __name__ == "__main__":

@@ -19,7 +19,9 @@ import sys
 import time
 from concurrent.futures import ThreadPoolExecutor
 
-TOP = os.path.dirname(os.path.dirname(os.path.abspath(__file__)))
+from harness import ended
+from texts import TOP, put
+
 sys.path.insert(1, TOP)
 import build as proving  # the file at the top
 
@@ -104,10 +106,7 @@ def counts_of(commands):
 
 def printed(*command):
     """Returns what a command prints, without the line's end, or nothing where it isn't there."""
-    try:
-        return subprocess.run(command, capture_output=True, check=False, encoding="utf-8").stdout.strip()
-    except OSError:
-        return ""
+    return ended(*command).stdout.decode().strip()
 
 
 def commit():
@@ -141,8 +140,7 @@ def main():
     last = f"{passed} passed, {failed} failed"
     # a record of files that changed while they were tried would be none
     if commit() == began_at:
-        with open(RECORD, "w", encoding="utf-8") as file:
-            file.write(f"{began_at}\n{printed('rt', 'version')}\n{last}\n")
+        put(RECORD, f"{began_at}\n{printed('rt', 'version')}\n{last}\n")
     print("\n".join([*wrong_edits, last]))
     sys.exit(1 if failed else 0)
 

@@ -7,6 +7,7 @@ from layered import any_fact, other_value, random_task
 from oracles.families import before_operators, is_invariant, line_of, reachable, verdicts
 from oracles.group_reasons import with_all_reasons
 from oracles.tasks import text_of
+from texts import case
 from walks import basic_task, random_facts, random_operator
 
 SEED = 7
@@ -68,7 +69,6 @@ def careful_operator(chance, task, g):
 
 
 def group_operator(chance, task):
-    """Returns an operator that sets facts of some group, or any operator."""
     facts = two_facts(chance, task)
     if facts is None or chance.random() < 0.15:
         return random_operator(chance, task)
@@ -78,7 +78,6 @@ def group_operator(chance, task):
 
 
 def grouped_task(chance):
-    """Returns a task with groups that overlap, and with operators."""
     while True:
         task = random_task(chance) if chance.random() < 0.3 else basic_task(chance)
         if len(task["ranges"]) <= 4:
@@ -89,7 +88,6 @@ def grouped_task(chance):
 
 
 def judged(name, task, joint, alone):
-    """Returns the task as a text, with the verdicts on its groups."""
     return {
         "name": name,
         "task": text_of(task),
@@ -116,10 +114,6 @@ def reason_cases():
     """Yields the tasks that are made at random, with `--why`. They could show a wrong definition of the reasons, in a
     case that no one thought of."""
     for made in grouped_tasks():
-        yield {
-            "name": f"{made['name']}, with reasons",
-            "words": ["mutex", "--why", "t.sas"],
-            "files": {"t.sas": made["task"]},
-            "output": with_all_reasons(made["output"], made["task"]),
-            "status": made["status"],
-        }
+        output, files = with_all_reasons(made["output"], made["task"]), {"t.sas": made["task"]}
+        words = ["mutex", "--why", "t.sas"]
+        yield case(f"{made['name']}, with reasons", words, output, made["status"], files=files)

@@ -8,12 +8,11 @@ oracles compute. Growth is what a further byte costs from the second size to the
 Near 1 is linear, and a square shows as 2. Instructions are counted by valgrind, so the load of the machine and its speed don't count.
 Without valgrind only the answers are tried.
 
-Each test that fails has a line, and the last line is 'N passed, M failed'. The exit status is 0 where none failed. No proof is about time.
+No proof is about time.
 """
 import functools
 import os
 import sys
-import tempfile
 
 import harness
 from hard import FAMILIES, compare_small, input_of
@@ -28,19 +27,16 @@ TIMES = (1, 2, 4)
 
 
 def wrong_answer(made, status, output):
-    """Returns what is wrong with an answer, of which the digest is given."""
     return harness.differs((status, output), (made.status, digest([made.output])))
 
 
 def answer_tests(sas, family, inputs):
-    """Yields the answers where no instructions are counted."""
     for times, made in zip(TIMES, inputs):
         ran = harness.ended(sas, *made.words)
         yield f"{family.name} of {times * family.size}", wrong_answer(made, ran.returncode, digest([ran.stdout]))
 
 
 def counted_tests(sas, family, inputs):
-    """Yields the answers, and the growth."""
     counts = [counted([sas, *made.words]) for made in inputs]
     for times, made, count in zip(TIMES, inputs, counts):
         yield f"{family.name} of {times * family.size}", wrong_answer(made, count.status, count.output)
@@ -50,17 +46,14 @@ def counted_tests(sas, family, inputs):
 
 
 def judged(sas, folder, family):
-    """Returns the tests of a family."""
     compare_small(family)
     inputs = [input_of(family, times * family.size, folder) for times in TIMES]
     return list((counted_tests if is_there("valgrind") else answer_tests)(sas, family, inputs))
 
 
-def tests(sas):
-    """Yields the tests of all families."""
-    with tempfile.TemporaryDirectory() as folder:
-        for _, found in harness.side_by_side(functools.partial(judged, sas, folder), FAMILIES):
-            yield from found
+def tests(sas, place):
+    for _, found in harness.side_by_side(functools.partial(judged, sas, place), FAMILIES):
+        yield from found
 
 
 if __name__ == "__main__":

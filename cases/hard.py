@@ -3,6 +3,7 @@
 No proof speaks of time, so a program that takes the square is proved, too. growth.py tries each family at small sizes: the answer, and
 that instructions grow as the input does. bench/families.py measures them at larger sizes.
 """
+import functools
 import os
 from collections import namedtuple
 
@@ -13,47 +14,38 @@ import plenty
 from large import plan_text, task_with
 from oracles.families import line_of, verdicts
 from oracles.reasons import reasons
-from oracles.tasks import text_of
+from oracles.tasks import text_of, with_ends
 from oracles.traces import traced
+from texts import as_bytes, put
 
-# A family: what it could show, the words of its request, and how it is made: for a number of things, a task, the names of a plan's steps
-# and its cost, or None where no plan is read, and the lines that are printed. How many things it has at its first size, and how many times
-# as much a further byte may cost where the size is twice as large: of a square it costs twice as much.
-Family = namedtuple("Family", "name shows words make size most", defaults=[1.15])
+# A family: what it could show, the words of its request, and how it is made: a maker returns for a
+# number of things a task and what `whole` takes beside it. How many things it has at its first
+# size, and how many times as much a further byte may cost where the size is twice as large; of a
+# square it costs twice as much.
+Family = namedtuple("Family", "name shows words make whole size most", defaults=[1.15])
 # an input in a folder: the words of the request, how many bytes its files have, what is printed, and the exit status
 Input = namedtuple("Input", "words bytes output status")
 SQUARE = 2.3
 # the size at which answers are compared with what the oracles compute, and the most groups for that, as these try each set of groups
 SMALL, MOST_GROUPS = 7, 8
 
-
-def of_groups(make):
-    """Returns how a family is made for `mutex`, by a task and the verdicts on its groups."""
-
-    def made(size):
-        task, said = make(size)
-        return task, None, None, [line_of(place, it).removesuffix("\n") for place, it in enumerate(said)]
-
-    return made
+# What a family has, made of what its maker returns: the task, the names of a plan's steps and its
+# cost, or None where no plan is read, and the lines that are printed.
 
 
-def of_steps(make):
-    """Returns how a family is made for `plan`, by a task and the steps of a valid plan."""
-
-    def made(size):
-        task, names = make(size)
-        return task, names, len(names), [plenty.valid_line(names)]
-
-    return made
+def of_groups(task, said):
+    return task, None, None, [line_of(*it).removesuffix("\n") for it in enumerate(said)]
 
 
-def of_trace(make):
-    """Returns how a family is made for `trace`, by a task, the steps of a valid plan, and the lines."""
+def of_steps(task, names):
+    return task, names, len(names), [plenty.valid_line(names)]
 
-    def made(size):
-        task, names, lines = make(size)
-        return task, names, len(names), lines
 
+def of_trace(task, names, lines):
+    return task, names, len(names), lines
+
+
+def as_made(*made):
     return made
 
 
@@ -64,21 +56,26 @@ def conditions(size):
     return task_with([2, 2], operators=[("go", [], [effect] * each, 1)]), None, None, ["task layered"]
 
 
-def group_family(make, shows, size, **more):
-    """Returns a family of crowded.py."""
-    return Family(f"mutex, {make.__name__.replace('_', ' ')}", shows, ["mutex"], of_groups(make), size, **more)
+def still(size):
+    return plenty.still_trace(size, size)
 
 
-def plan_family(make, shows, size):
-    """Returns a family of idle.py."""
-    return Family(f"plan, {make.__name__.replace('_', ' ')}", shows, ["plan"], of_steps(make), size)
+def storms(size):
+    return plenty.storm_trace(size, 10, size // 2)
 
 
-def why_family(make, shows, size):
-    """Returns a family of lengthy.py."""
-    return Family(f"plan --why, {make.__name__.replace('_', ' ')}", shows, ["plan", "--why"], make, size)
+def family(words, whole, make, shows, size, **more):
+    """Returns the family of a maker, which is named after it."""
+    name = f"{' '.join(words)}, {make.__name__.replace('_', ' ')}"
+    return Family(name, shows, words, make, whole, size, **more)
 
 
+def why_families(size, *makers):
+    return [family(["plan", "--why"], as_made, make, EACH_CAUSE, size) for make in makers]
+
+
+group_family = functools.partial(family, ["mutex"], of_groups)
+plan_family = functools.partial(family, ["plan"], of_steps)
 EACH_FACT = "going through the facts of a group as they are listed, at each effect"
 EACH_GROUP = "going through all groups of a fact for each operator that requires it, or as each of them falls"
 EACH_EFFECT = "noting anew for each effect what is known"
@@ -114,35 +111,20 @@ FAMILIES = [
     plan_family(idle.nets, "going through all rules at each step, or at each one after a step that changed nearly all", 50),
     plan_family(idle.named_alike, EACH_NAME, 1000),
     plan_family(idle.named_the_same, "trying all operators of a name at each step", 1000),
-    Family("check, conditions", "going through all effects for each condition", ["check"], conditions, 10_000),
-    *(
-        why_family(make, EACH_CAUSE, size)
-        for make, size in (
-            (lengthy.long_blocked, 5000),
-            (lengthy.long_missed, 5000),
-            (lengthy.long_unknown, 5000),
-            (lengthy.long_settled, 5000),
-            (lengthy.long_changed, 500),
-            (lengthy.beside, 500),
-            (lengthy.chain_up, 500),
-            (lengthy.chain_down, 500),
-            (lengthy.chain_again, 500),
-            (lengthy.chain_of_layers, 500),
-            (lengthy.tree_down, 511),
-            (lengthy.tree_up, 511),
-            (lengthy.chain_dark, 500),
-            (lengthy.rules_again, 1000),
-            (lengthy.no_rules_again, 1000),
-            (lengthy.many_blocked, 500),
-            (lengthy.many_blocked_derived, 500),
-            (lengthy.many_preconditions, 2000),
-            (lengthy.many_effects, 1000),
-            (lengthy.many_named, 1000),
-            (lengthy.many_alike, 500),
-        )
-    ),
-    Family("trace, still", EACH_LINE, ["trace"], of_trace(lambda size: plenty.still_trace(size, size)), 1500),
-    Family("trace, storms", EACH_LINE, ["trace"], of_trace(lambda size: plenty.storm_trace(size, 10, size // 2)), 400),
+    family(["check"], as_made, conditions, "going through all effects for each condition", 10_000),
+    *why_families(5000, lengthy.long_blocked, lengthy.long_missed, lengthy.long_unknown),
+    *why_families(5000, lengthy.long_settled),
+    *why_families(500, lengthy.long_changed, lengthy.beside, lengthy.chain_up, lengthy.chain_down),
+    *why_families(500, lengthy.chain_again, lengthy.chain_of_layers),
+    *why_families(511, lengthy.tree_down, lengthy.tree_up),
+    *why_families(500, lengthy.chain_dark),
+    *why_families(1000, lengthy.rules_again, lengthy.no_rules_again),
+    *why_families(500, lengthy.many_blocked, lengthy.many_blocked_derived),
+    *why_families(2000, lengthy.many_preconditions),
+    *why_families(1000, lengthy.many_effects, lengthy.many_named),
+    *why_families(500, lengthy.many_alike),
+    family(["trace"], of_trace, still, EACH_LINE, 1500),
+    family(["trace"], of_trace, storms, EACH_LINE, 400),
 ]
 
 
@@ -153,14 +135,14 @@ def status_of(lines):
 
 def compare_small(family):
     """Compares the answer at a small size with what the oracles compute."""
-    task, names, cost, lines = family.make(SMALL)
+    task, names, cost, lines = family.whole(*family.make(SMALL))
     if family.words == ["plan", "--why"]:
         fault, after = reasons(task, names, cost)
         expected = [fault, *after]
     elif names is not None:
         expected = traced(task, names, cost)[-len(lines) :]
     elif family.words == ["mutex"] and len(task["groups"]) <= MOST_GROUPS:
-        expected = [line_of(place, it).removesuffix("\n") for place, it in enumerate(verdicts(task)[0])]
+        expected = of_groups(task, verdicts(task)[0])[-1]
     else:
         return
     assert expected == lines, (family.name, expected, lines)
@@ -168,11 +150,9 @@ def compare_small(family):
 
 def input_of(family, size, folder):
     """Writes the files of a family with so many things, and returns the input."""
-    task, names, cost, lines = family.make(size)
+    task, names, cost, lines = family.whole(*family.make(size))
     texts = [text_of(task), *([] if names is None else [plan_text(names, cost)])]
-    paths = [os.path.join(folder, f"{family.name}, {size}.{kind}") for kind in ("sas", "plan")[: len(texts)]]
-    for path, text in zip(paths, texts):
-        with open(path, "w", encoding="latin-1") as file:
-            file.write(text)
-    output = "".join(f"{line}\n" for line in lines).encode("latin-1")
+    front = os.path.join(folder, f"{family.name}, {size}")
+    paths = [put(f"{front}.{kind}", as_bytes(text)) for kind, text in zip(("sas", "plan"), texts)]
+    output = as_bytes(with_ends(lines))
     return Input([*family.words, *paths], sum(map(len, texts)), output, status_of(lines))

@@ -10,6 +10,7 @@ import shutil
 import signal
 import subprocess
 import sys
+import tempfile
 from collections import deque, namedtuple
 from concurrent.futures import ThreadPoolExecutor
 
@@ -27,10 +28,14 @@ Ended = namedtuple("Ended", "returncode stdout stderr")
 
 def main(tests):
     """Runs the tests of a script, and ends with status 0 where none failed. The words of the command line are what the function takes: a
-    path for each parameter, any words for the rest, and a flag for each parameter that is named."""
+    path for each parameter, any words for the rest, and a flag for each parameter that is named.
+    `place` is an empty folder, which is removed in the end."""
     about = sys.modules[tests.__module__].__doc__
     parser = argparse.ArgumentParser(description=about, formatter_class=argparse.RawDescriptionHelpFormatter)
-    for name, it in inspect.signature(tests).parameters.items():
+    parameters = inspect.signature(tests).parameters
+    for name, it in parameters.items():
+        if name == "place":
+            continue
         if it.kind == it.KEYWORD_ONLY:
             parser.add_argument(f"--{name}", metavar=name.upper())
         elif it.kind == it.VAR_POSITIONAL:
@@ -41,9 +46,11 @@ def main(tests):
     # a shell that begins this in the background has these ignored, and so would have what it runs
     signal.signal(signal.SIGINT, signal.default_int_handler)
     signal.signal(signal.SIGHUP, signal.SIG_DFL)
-    given = inspect.signature(tests).bind_partial()
-    given.arguments.update(vars(parser.parse_args()))
-    end(tests(*given.args, **given.kwargs))
+    given, words = inspect.signature(tests).bind_partial(), vars(parser.parse_args())
+    # a browser that ends may still write into it
+    with tempfile.TemporaryDirectory(ignore_cleanup_errors=True) as place:
+        given.arguments.update({"place": place, **words} if "place" in parameters else words)
+        end(tests(*given.args, **given.kwargs))
 
 
 def end(tests):

@@ -15,7 +15,6 @@ LIT = [(MAIN, 1)], FIRST, -1, 1
 
 
 def asking(name, var, value):
-    """An operator that requires a fact, and changes nothing."""
     return name, [(var, value)], [], 1
 
 
@@ -86,7 +85,6 @@ def chain(size):
 
 
 def unruled(size):
-    """Variables without a rule."""
     return idle([0] * (1 + size), [LIT], 8 * size)
 
 

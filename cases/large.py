@@ -12,13 +12,17 @@ Each answer is said here from how the task was made. For narrow tasks it is comp
 from oracles.families import line_of, verdicts
 from oracles.steps import verdict
 from oracles.summaries import summary
-from oracles.tasks import text_of
-from texts import as_bytes, with_line
+from oracles.tasks import text_of, with_ends
+from texts import as_bytes, case, made_by, with_line
 
 WIDTHS = (65, 130, 513, 1_024, 1_025)
 # how many bytes are read at a time, and how many times a wide task is cut elsewhere by that
 READ, CUTS = 65_536, 13
+# how many bytes a file may have that an output goes into
+ROOMS = (512, 51_200, 102_400)
 MANY = 10_001
+# a plan of many a task: the names of its steps, its cost, and what is said of it
+GOES = ["go"], 1, "plan valid: 1 steps, cost 1"
 LINES = 1_000_000
 STEPS = 200_001
 # the most bytes that are read, and the length of the names of operators that fill them
@@ -29,26 +33,28 @@ ALIKE, FACTOR = 100_000, (0x9E3779B97F4A7C15).to_bytes(8, "little").decode("lati
 # the stack that docs/GUIDE.md promises to be enough; with 48 kB some runs fail, as the place of the stack varies
 STACK = 65_536
 MINIMAL = "cases/tasks/minimal.sas"
-
-
-def case(name, words, output, status, **inputs):
-    """A case with this answer."""
-    return {"name": name, "words": words, "output": output, "status": status, **inputs}
+WRITE_FAILED = {"status": 3, "error": "sas: write failed\n"}
 
 
 def over_input(name, request, text, output, status=0):
-    """A case of a request over a file alone, which is standard input."""
     return case(f"{name}, {request}", [request, "-"], output, status, input=text)
 
 
-def over_plan(name, task, names, cost, output, status=0):
-    """A case of a plan with these steps, from standard input."""
-    return case(f"{name}, plan", ["plan", "t.sas", "-"], output, status, files={"t.sas": task}, input=plan_text(names, cost))
+def over_plan(name, task, names, cost, said):
+    inputs = {"files": {"t.sas": task}, "input": plan_text(names, cost)}
+    status, words = int("invalid" in said), ["plan", "t.sas", "-"]
+    return case(f"{name}, plan", words, f"{said}\n", status, **inputs)
 
 
 def plan_text(names, cost):
-    """The file of a plan."""
-    return "".join([*(f"({name})\n" for name in names), f"; cost = {cost} (general cost)\n"])
+    return with_ends([*(f"({name})" for name in names), f"; cost = {cost} (general cost)"])
+
+
+def cut_short(made, rooms):
+    """A case whose output goes into files that may have fewer bytes."""
+    for room in rooms:
+        name, output = f"{made['name']}, into {room} bytes", made["output"][:room]
+        yield {**made, "name": name, "file": room, "output": output, **WRITE_FAILED}
 
 
 def task_with(ranges, **parts):
@@ -72,6 +78,17 @@ def read_cases(name, task, text):
     yield over_input(name, "show", text, summary(task))
     yield over_input(name, "check", text, "task layered\n")
     yield over_input(name, "print", text, text)
+
+
+def each_case(name, task, *plans, groups=None):
+    """The cases of a task, of its groups where these lines are given, and of plans: the names of
+    their steps, their cost, and what is said of them."""
+    text = text_of(task)
+    yield from read_cases(name, task, text)
+    if groups:
+        yield over_input(name, "mutex", text, groups, int("not shown" in groups))
+    for plan in plans:
+        yield over_plan(name, text, *plan)
 
 
 def wide_operators(width):
@@ -102,7 +119,6 @@ def wide_groups(width):
 
 
 def groups_said(width):
-    """What `mutex` says of a wide task."""
     return "".join(line_of(place, said) for place, (_, said) in enumerate(wide_groups(width)))
 
 
@@ -138,7 +154,6 @@ def wide_plans(width):
 
 
 def compare_narrow(width):
-    """Compares what is said of a wide task with what its meaning gives."""
     task = wide_task(width)
     assert verdicts(task) == ([said for _, said in wide_groups(width)],) * 2
     assert all(verdict(task, names, cost)[0] == said for names, cost, said in wide_plans(width))
@@ -154,7 +169,7 @@ def wide_cases():
         yield from read_cases(name, task, text)
         yield over_input(name, "mutex", text, groups_said(width), 1)
         for names, cost, said in wide_plans(width):
-            yield over_plan(f"{name}, {said}", text, names, cost, f"{said}\n", 1 if "invalid" in said else 0)
+            yield over_plan(f"{name}, {said}", text, names, cost, said)
             for ends, plan in ended(plan_text(names, cost)):
                 yield over_input(f"{name}, {ends}", "steps", plan, plan_text(names, cost))
 
@@ -169,19 +184,13 @@ def turning_files(width, length, steps, blocked):
     return text_of(task).encode(), plan_text([*["on", "off"] * (steps // 2), "go"], 0).encode()
 
 
-def shifts(length):
-    """Yields by how many bytes a text of this length, which is shorter than a read, is shifted to be cut elsewhere each time."""
-    for part in range(1, CUTS + 1):
-        yield READ - length * part // (CUTS + 1)
-
-
 def ended(text):
     """Yields a text with other line ends: how they are called, and what the file holds."""
     yield "LF", text
     yield "CR LF", text.replace("\n", "\r\n")
-    yield "CR LF in each third line", "".join(
-        line.replace("\n", "\r\n") if place % 3 == 0 else line for place, line in enumerate(text.splitlines(keepends=True))
-    )
+    lines = text.splitlines(keepends=True)
+    lines[::3] = [line.replace("\n", "\r\n") for line in lines[::3]]
+    yield "CR LF in each third line", "".join(lines)
 
 
 def cut_cases():
@@ -189,8 +198,9 @@ def cut_cases():
     group that is read twice, or not at all, where a piece ends in it, or a line end that counts as part of a line."""
     for width in WIDTHS[:2]:
         task = wide_task(width)
-        groups = groups_said(width)
-        for shift in shifts(len(text_of(task))):
+        groups, length = groups_said(width), len(text_of(task))
+        # by how many bytes a text, shorter than a read, is shifted to be cut elsewhere each time
+        for shift in (READ - length * part // (CUTS + 1) for part in range(1, CUTS + 1)):
             text = text_of(task).replace("var0\n", f"var0{'-' * shift}\n", 1)
             answers = {"print": (text, 0), "show": (summary(task), 0), "check": ("task layered\n", 0), "mutex": (groups, 1)}
             for ends, file in ended(text):
@@ -224,9 +234,7 @@ def full_file_cases():
     task = wide_task(1001)
     text = text_of(task)
     for request, output in (("show", summary(task)), ("print", text)):
-        for room in (512, 51_200, 102_400):
-            inputs = {"input": text, "file": room, "error": "sas: write failed\n"}
-            yield case(f"a file that may have {room} bytes, {request}", [request, "-"], output[:room], 3, **inputs)
+        yield from cut_short(over_input("1001 of everything", request, text, output), ROOMS)
     for length in (1024, 1025):
         task = named_value("a" * (length - BESIDE), False)
         status, said = (0, "") if length == 1024 else (3, "sas: write failed\n")
@@ -260,7 +268,7 @@ def late_cases():
     for width in WIDTHS[:2]:
         lines = text_of(wide_task(width)).splitlines()
         for place, changed, word, after in late_changes(width, lines):
-            text = "".join(f"{line}\n" for line in [*lines[:place], changed, *lines[place + 1 :]])
+            text = with_ends([*lines[:place], changed, *lines[place + 1 :]])
             said = f"line {place + 1 + after}: {word}"
             for request in ("print", "show", "check"):
                 yield over_input(f"{width} of everything, {said}", request, text, f"task refused: {said}\n", 1)
@@ -285,11 +293,10 @@ def digit_cases():
     numbers = [0, *(int(first * size) for size in range(1, 10) for first in ("1", "9")), 1_000_000_000, 2_147_483_647]
     task = task_with([2, *[2] * len(numbers)], layers=[None, *numbers], metric=1)
     task["operators"] = [(f"go {number}", [], [([], 0, -1, 1)], number) for number in numbers]
-    name, text = "numbers of each length", text_of(task)
     cost, names = sum(numbers), [f"go {number}" for number in numbers]
-    yield from read_cases(name, task, text)
-    yield over_plan(name, text, names, cost, f"plan valid: {len(names)} steps, cost {cost}\n")
-    yield over_plan(name, text, names, 0, f"plan invalid: cost is {cost}, not 0\n", 1)
+    valid = names, cost, f"plan valid: {len(names)} steps, cost {cost}"
+    invalid = names, 0, f"plan invalid: cost is {cost}, not 0"
+    yield from each_case("numbers of each length", task, valid, invalid)
 
 
 def long_name_cases():
@@ -297,13 +304,14 @@ def long_name_cases():
     which only the front is compared."""
     long = "a" * PIECE
     operators = [(f"{long}b", [], [([], 0, -1, 1)], 1), (f"{long}c", [(0, 1)], [], 1)]
-    name, task = f"names of {PIECE + 1} bytes", task_with([2], goal=[(0, 1)], operators=operators)
-    text = text_of(task)
-    yield from read_cases(name, task, text)
-    names = [f"{long}b", f"{long}c"]
-    yield over_plan(name, text, names, 2, "plan valid: 2 steps, cost 2\n")
-    yield over_plan(name, text, names[1:], 1, "plan invalid: step 1: not applicable\n", 1)
-    yield over_plan(name, text, [long], 1, "plan invalid: step 1: no operator of that name\n", 1)
+    name, names = f"names of {PIECE + 1} bytes", [f"{long}b", f"{long}c"]
+    yield from each_case(
+        name,
+        task_with([2], goal=[(0, 1)], operators=operators),
+        (names, 2, "plan valid: 2 steps, cost 2"),
+        (names[1:], 1, "plan invalid: step 1: not applicable"),
+        ([long], 1, "plan invalid: step 1: no operator of that name"),
+    )
     yield over_input(name, "steps", plan_text(names, 2), plan_text(names, 2))
 
 
@@ -326,9 +334,9 @@ def alike_name_cases():
     names, text = alike_names(), text_of(alike_task())
     for name, steps in (("names of one digest", names), ("few names of one digest", names[:: ALIKE // 1000])):
         cost = len(steps)
-        yield over_plan(name, text, steps, cost, f"plan valid: {cost} steps, cost {cost}\n")
-    unknown = [names[-1], f"{ALIKE:07} {FACTOR}"]
-    yield over_plan("no name of the digest", text, unknown, 2, "plan invalid: step 2: no operator of that name\n", 1)
+        yield over_plan(name, text, steps, cost, f"plan valid: {cost} steps, cost {cost}")
+    said = "plan invalid: step 2: no operator of that name"
+    yield over_plan("no name of the digest", text, [names[-1], f"{ALIKE:07} {FACTOR}"], 2, said)
 
 
 def piece_cases():
@@ -364,7 +372,6 @@ def longest_cases():
     whole, rest = divmod(LIMIT + 1 - len(front), len(operator))
     inputs = {"streamed": [(front, 1), (operator, whole)], "input": operator[:rest], "memory": 100_000_000}
     yield case("a byte more than may be read", ["show", "--why", "-"], "", 3, error="sas: input too long\n  -\n", **inputs)
-    yield from longest_plan_cases()
 
 
 def longest_plan_cases():
@@ -386,7 +393,7 @@ def long_plan_cases():
     operators = [("turn", [], turn, 1), ("stay", [(0, 1)], [], 1), ("both", [], both, 1)]
     task = text_of(task_with([2], goal=[(0, 1)], operators=operators))
     turns, cost = ["turn"] * STEPS, STEPS
-    said = f"plan valid: {STEPS} steps, cost {STEPS}\n"
+    said = f"plan valid: {STEPS} steps, cost {STEPS}"
     yield over_plan("very many steps", task, turns, cost, said)
     yield over_input("very many steps", "steps", plan_text(turns, cost), plan_text(turns, cost))
     for names, said in (
@@ -395,91 +402,61 @@ def long_plan_cases():
         ([*turns[:100_000], "stay", "none"], "step 100001: not applicable"),
         ([*turns[:100_000], "none", "stay"], "step 100001: no operator of that name"),
     ):
-        yield over_plan(f"very many steps, {said}", task, names, cost, f"plan invalid: {said}\n", 1)
+        yield over_plan(f"very many steps, {said}", task, names, cost, f"plan invalid: {said}")
 
 
-def many_cases():
-    """Tasks with very many groups, goal facts, operators, variables and rules, of which the last one decides. They could show `out
-    of memory` where no allocation was refused, and one of so many that isn't looked at."""
-    yield from many_groups()
-    yield from many_goals()
-    yield from many_operators()
-    yield from many_variables()
-    yield from many_rules()
+# Tasks with very many of one thing, of which the last one decides. They could show `out of memory`
+# where no allocation was refused, and one that isn't looked at.
 
 
 def many_groups():
     """Very many groups: the last one has two facts of the state section."""
-    name, task = f"{MANY} groups", task_with([2, 2], groups=[*[[(0, 0), (0, 1)]] * (MANY - 1), [(0, 0), (1, 0)]])
-    text = text_of(task)
-    yield from read_cases(name, task, text)
-    said = [*["Exclusive"] * (MANY - 1), "Initial"]
-    yield over_input(name, "mutex", text, "".join(line_of(place, it) for place, it in enumerate(said)), 1)
+    task = task_with([2, 2], groups=[*[[(0, 0), (0, 1)]] * (MANY - 1), [(0, 0), (1, 0)]])
+    said = "".join(line_of(*it) for it in enumerate([*["Exclusive"] * (MANY - 1), "Initial"]))
+    yield from each_case(f"{MANY} groups", task, groups=said)
 
 
 def many_goals():
     """Very many goal facts: the last one doesn't hold."""
-    name, task = f"{MANY} goal facts", task_with([2], goal=[*[(0, 0)] * (MANY - 1), (0, 1)])
-    text = text_of(task)
-    yield from read_cases(name, task, text)
-    yield over_plan(name, text, [], 0, f"plan invalid: goal fact {MANY - 1} not reached\n", 1)
+    task = task_with([2], goal=[*[(0, 0)] * (MANY - 1), (0, 1)])
+    missed = [], 0, f"plan invalid: goal fact {MANY - 1} not reached"
+    yield from each_case(f"{MANY} goal facts", task, missed)
 
 
 def many_operators():
     """Very many operators: the last one reaches the goal, and breaks a group."""
     operators = [(f"go {place}", [(0, 1)], [], 1) for place in range(MANY - 1)]
     operators.append(("go", [(0, 0)], [([], 1, 0, 1)], 1))
-    name = f"{MANY} operators"
     task = task_with([2, 2], groups=[[(0, 0), (1, 1)]], goal=[(1, 1)], operators=operators)
-    text = text_of(task)
-    yield from read_cases(name, task, text)
-    yield over_input(name, "mutex", text, f"group 0 not shown: operator {MANY - 1}\n", 1)
-    yield over_plan(name, text, ["go"], 1, "plan valid: 1 steps, cost 1\n")
-    yield over_plan(name, text, ["go 9999"], 1, "plan invalid: step 1: not applicable\n", 1)
-    task["operators"] = [("go", *parts) for _, *parts in operators]
-    text = text_of(task)
-    yield over_plan(f"{name} of one name", text, ["go"], 1, "plan valid: 1 steps, cost 1\n")
-    yield over_plan(f"{name} of one name", text, ["go", "go"], 2, "plan invalid: step 2: not applicable\n", 1)
+    blocked, said = ["go 9999"], f"group 0 not shown: operator {MANY - 1}\n"
+    plans = GOES, (blocked, 1, "plan invalid: step 1: not applicable")
+    yield from each_case(f"{MANY} operators", task, *plans, groups=said)
+    text = text_of({**task, "operators": [("go", *parts) for _, *parts in operators]})
+    for plan in (GOES, (["go", "go"], 2, "plan invalid: step 2: not applicable")):
+        yield over_plan(f"{MANY} operators of one name", text, *plan)
 
 
 def many_variables():
     """Very many variables: an operator sets the last one, by the last but one."""
     last = MANY - 1
-    name = f"{MANY} variables"
     task = task_with([2] * MANY, groups=[[(last - 1, 1), (last, 1)]], goal=[(last, 1)])
     task["operators"] = [("go", [(last - 1, 0)], [([], last, 0, 1)], 1)]
-    text = text_of(task)
-    yield from read_cases(name, task, text)
-    yield over_input(name, "mutex", text, "group 0 exclusive\n")
-    yield over_plan(name, text, ["go"], 1, "plan valid: 1 steps, cost 1\n")
+    yield from each_case(f"{MANY} variables", task, GOES, groups="group 0 exclusive\n")
 
 
 def many_rules():
     """Very many derived variables, each with a rule that requires the one before it, in a file whose rules stand the other way
     round."""
     layers, rules = [None, *[0] * MANY], [([(var - 1, 1)], var, 0, 1) for var in range(MANY, 0, -1)]
-    name, task = f"{MANY} rules", task_with([2] * (MANY + 1), layers=layers, rules=rules, goal=[(MANY, 0), (MANY, 1)])
+    task = task_with([2] * (MANY + 1), layers=layers, rules=rules, goal=[(MANY, 0), (MANY, 1)])
     task["operators"] = [("go", [], [([], 0, -1, 1)], 1)]
-    text = text_of(task)
-    yield from read_cases(name, task, text)
-    yield over_plan(name, text, [], 0, "plan invalid: goal fact 1 not reached\n", 1)
-    yield over_plan(name, text, ["go"], 1, "plan invalid: goal fact 0 not reached\n", 1)
+    missed = "plan invalid: goal fact {} not reached".format
+    yield from each_case(f"{MANY} rules", task, ([], 0, missed(1)), (["go"], 1, missed(0)))
 
 
 def large_cases():
-    """All of these."""
     # the slowest one first
-    yield from longest_cases()
-    yield from wide_cases()
-    yield from cut_cases()
-    yield from late_cases()
-    yield from late_layer_cases()
-    yield from digit_cases()
-    yield from long_name_cases()
-    yield from alike_name_cases()
-    yield from piece_cases()
-    yield from stack_cases()
-    yield from full_file_cases()
-    yield from late_line_cases()
-    yield from long_plan_cases()
-    yield from many_cases()
+    yield from made_by(longest_cases, longest_plan_cases, wide_cases, cut_cases, late_cases)
+    yield from made_by(late_layer_cases, digit_cases, long_name_cases, alike_name_cases)
+    yield from made_by(piece_cases, stack_cases, full_file_cases, late_line_cases, long_plan_cases)
+    yield from made_by(many_groups, many_goals, many_operators, many_variables, many_rules)

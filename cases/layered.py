@@ -6,6 +6,7 @@ import random
 from oracles.axioms import layer_fault, settled
 from oracles.layers import REFUSED, fault_said, with_reasons
 from oracles.tasks import text_of
+from texts import case
 
 SEED = 20
 TASKS = 200
@@ -34,7 +35,6 @@ def random_condition(chance, task, var, news):
 
 
 def any_fact(chance, task):
-    """Returns a fact that exists."""
     on = chance.randrange(len(task["ranges"]))
     return on, chance.randrange(task["ranges"][on])
 
@@ -96,18 +96,14 @@ def spoiled_task(chance):
     return task
 
 
-def random_state(chance, task):
-    """Returns a value for each variable, the derived ones too."""
-    return [chance.randrange(most) for most in task["ranges"]]
-
-
 def settled_tasks():
     """Yields layered tasks, as texts, each with states and what they settle to. They could show a wrong definition of
     settled states, in a case that no one thought of."""
     chance = random.Random(SEED)
     for _ in range(TASKS):
         task = random_task(chance)
-        states = [random_state(chance, task) for _ in range(STATES)]
+        # a value for each variable, the derived ones too
+        states = [[chance.randrange(most) for most in task["ranges"]] for _ in range(STATES)]
         yield {"task": text_of(task), "states": states, "settled": [settled(task, state) for state in states]}
 
 
@@ -127,9 +123,8 @@ def layer_cases():
         if made["fault"] is None:
             continue
         said = f"{REFUSED}{fault_said(made['fault'])}\n"
-        answer = {"files": {"t.sas": made["task"], "p.txt": ""}, "status": 1}
+        files, why = {"t.sas": made["task"], "p.txt": ""}, with_reasons(said, made["task"])
         for words in (["check", "t.sas"], ["mutex", "t.sas"], ["plan", "t.sas", "p.txt"]):
             name = f"spoiled task {number}, {words[0]}"
-            yield {"name": name, "words": words, "output": said, **answer}
-            why = with_reasons(said, made["task"])
-            yield {"name": f"{name} --why", "words": [*words, "--why"], "output": why, **answer}
+            yield case(name, words, said, 1, files=files)
+            yield case(f"{name} --why", [*words, "--why"], why, 1, files=files)

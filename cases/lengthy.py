@@ -3,8 +3,9 @@
 A maker returns for a size the task, the names of a plan's steps, its cost, and what is printed, line by line. hard.py has the makers as
 families, whose size doesn't matter. The cases here have a small stack, a file that is too small, or less memory than a text has bytes.
 """
-from large import STACK, case, plan_text, task_with
-from oracles.tasks import operator_line, text_of, value_name
+from large import STACK, cut_short, plan_text, task_with
+from oracles.tasks import operator_line, text_of, value_name, with_ends
+from texts import case, made_by
 
 # the length of a name, which is shown as a whole, that comes in each of so many causes, or in the line of each of so many rules, and what
 # memory the program has then, in bytes
@@ -20,7 +21,6 @@ def requires(var, value, other, when="the initial state"):
 
 
 def derives(rule, var):
-    """The line of a rule that derives value 1 of a variable."""
     return f"    rule {rule} derives {var} 1 {value_name({}, var, 1)}"
 
 
@@ -52,7 +52,6 @@ def missed(*causes):
 
 
 def turning(name, var):
-    """An operator that turns a switch."""
     return name, [], [([(var, 0)], var, -1, 1), ([(var, 1)], var, -1, 0)], 1
 
 
@@ -260,12 +259,10 @@ def many_alike(size):
 
 
 def made_case(maker, size, **limits):
-    """A case of this size."""
     task, names, cost, lines = maker(size)
-    output = "".join(f"{line}\n" for line in lines)
     inputs = {"files": {"t.sas": text_of(task)}, "input": plan_text(names, cost), **limits}
     name = f"{maker.__name__.replace('_', ' ')} of {size}, plan --why"
-    return case(name, ["plan", "--why", "t.sas", "-"], output, 1, **inputs)
+    return case(name, ["plan", "--why", "t.sas", "-"], with_ends(lines), 1, **inputs)
 
 
 def long_texts():
@@ -297,13 +294,8 @@ def limited_cases():
     derivation is long, and bytes that are missing before those that went out."""
     for maker, size in ((chain_up, MODEST), (chain_down, MODEST), (chain_of_layers, MODEST), (tree_down, MODEST_TREE)):
         yield made_case(maker, size, stack=STACK)
-    made = made_case(chain_up, MODEST, error="sas: write failed\n")
-    for room in (512, 51_200, 1_024_000):
-        limits = {"name": f"{made['name']}, into {room} bytes", "file": room, "output": made["output"][:room], "status": 3}
-        yield {**made, **limits}
+    yield from cut_short(made_case(chain_up, MODEST), (512, 51_200, 1_024_000))
 
 
 def lengthy_cases():
-    """All of these."""
-    yield from long_texts()
-    yield from limited_cases()
+    return made_by(long_texts, limited_cases)

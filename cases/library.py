@@ -9,8 +9,8 @@ import sys
 import tempfile
 
 import harness
-from harness import c_compiler, ended, is_there
-from texts import TOP
+from harness import c_compiler, ended
+from texts import TOP, bytes_of
 
 YES, NO, ROOM_TOO_SHORT, OUT_OF_MEMORY, INPUT_TOO_LONG, NO_TASK = range(6)
 LIMIT = 4_294_967_296
@@ -57,7 +57,10 @@ class Library:
 
 
 def raw(given):
-    """Returns an input as a call is given it: what is held by its address, bytes by theirs and their length."""
+    """Returns an input as a call is given it: what is held by its address, bytes by theirs and
+    their length, and several words of C as they are."""
+    if isinstance(given, tuple):
+        return given
     if isinstance(given, Held):
         return [ctypes.byref(given)]
     return [ctypes.c_char_p(given), ctypes.c_size_t(len(given))]
@@ -75,9 +78,7 @@ def package_in(folder):
 
 
 def read(name):
-    """Returns what a file holds, by its path from the top of the repository."""
-    with open(os.path.join(TOP, name), "rb") as file:
-        return file.read()
+    return bytes_of(TOP, name)
 
 
 def inputs_of(request, task, plan):
@@ -86,22 +87,15 @@ def inputs_of(request, task, plan):
 
 
 def answer_of(sas, request, *files):
-    """Returns the answer of the wrapper in Python to a request."""
     return getattr(sas, "print_task" if request == "print" else request)(*files)
 
 
-def raised(call):
-    """Returns the type of the exception that a call ends with; None where it has none."""
+def fault_of(call):
+    """Returns the exception that a call ends with, or what it returns."""
     try:
-        call()
+        return call()
     except Exception as exception:  # pylint: disable=broad-except
-        return type(exception)
-    return None
-
-
-def compilers(*names):
-    """Returns those of these tools that are there."""
-    return [name for name in names if is_there(name)]
+        return exception
 
 
 def failed(*command, **more):
@@ -135,11 +129,12 @@ def stub_library(library, folder):
     return folder
 
 
-def tests_by(makers, program, folder):
-    """Yields the tests that these functions make over a program and the library in a folder, each kind in a folder of its own."""
+def tests_by(makers, program, folder, load=Library):
+    """Yields the tests that these functions make over a program and what is loaded of the library
+    in a folder, each kind in a folder of its own."""
     # a call that doesn't end would hold the whole gate up
     signal.alarm(LONGEST)
-    library = Library(folder)
+    library = load(folder)
     for make in makers:
         with tempfile.TemporaryDirectory() as place:
             yield from harness.named(make, program, library, place)

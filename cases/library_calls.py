@@ -8,8 +8,6 @@ they could show that no proof does: the proofs don't know the header, nor any po
 
 The compilers are $CC or cc, and of gcc, clang, g++ and clang++ those that are there; `nm` and `readelf` are used where they are. For each
 tool that isn't there it prints a line that begins with `without`.
-
-Each test that fails has a line, and the last line is 'N passed, M failed'. The exit status is 0 where none failed.
 """
 import contextlib
 import ctypes
@@ -24,10 +22,12 @@ from concurrent.futures import ThreadPoolExecutor
 
 import harness
 import run
-from harness import differs, ended
-from library import C_WARNINGS, DOORWAY, FUSES, INPUT_TOO_LONG, LAMPS, LIMIT, NO, OVER_BOTH, REQUESTS, ROOM_TOO_SHORT, YES, Held, answer_of
-from library import compilers, failed, inputs_of, read, tests_by
-from texts import TOP, as_bytes, changed_lines, table
+from harness import differs, ended, is_there
+from library import C_WARNINGS, DOORWAY, FUSES, INPUT_TOO_LONG, LAMPS, LIMIT, NO, OVER_BOTH
+from library import REQUESTS, ROOM_TOO_SHORT, YES, Held, answer_of, failed, inputs_of, read
+from library import tests_by
+from oracles.tasks import with_ends
+from texts import TOP, as_bytes, changed_lines, put, table, text_of
 
 # the words of a case of run.py that say more than the request
 LIMITED = ("memory", "stack", "file", "open", "closed", "output_to", "streamed", "front", "input_ends")
@@ -40,13 +40,9 @@ LANGUAGES_OF_C = (("c", "-std=c99", ("gcc", "clang")), ("cpp", "-std=c++17", ("g
 
 
 def answer_of_program(program, request, *files):
-    """Returns the answer of the program to the same request."""
     word, *flag = request.split("_")
     with tempfile.TemporaryDirectory() as folder:
-        paths = [os.path.join(folder, name) for name, _ in zip("ab", files)]
-        for path, held in zip(paths, files):
-            with open(path, "wb") as file:
-                file.write(held)
+        paths = [put(os.path.join(folder, name), held) for name, held in zip("ab", files)]
         ran = ended(program, word, *("--why" for _ in flag), *paths)
     assert ran.returncode in (0, 1) and not ran.stderr, ran
     return ran.returncode == 0, ran.stdout
@@ -75,14 +71,12 @@ def same_as_case(sas, case):
 
 
 def file_of(case, word):
-    """Returns the file that a word of a case names."""
     if word == "-":
         return as_bytes(case.get("input", ""))
     return as_bytes(case["files"][word]) if "files" in case else read(word)
 
 
 def same_of_held(sas, request, task, plan, expected):
-    """Returns what is wrong with the answer to a request about a plan of a task that is held."""
     try:
         with sas.Task(task) as held:
             return [f"held: {it}" for it in differs(getattr(held, request)(plan), expected)]
@@ -239,13 +233,12 @@ KINDS = {
 def exports():
     """Returns the calls of the library as its crate and its own code in C have them: the declaration of each by its name."""
     found = {}
-    for path in glob.glob(os.path.join(TOP, "library/*.c")):
-        with open(path, encoding="utf-8") as file:
-            found |= {name: f"{whole};" for whole, name in re.findall(r"^(\w.*\b(sas_\w+)\(.*\)) {$", file.read(), re.MULTILINE)}
-    for path in glob.glob(os.path.join(TOP, "crates/sas_c/src/*.rt")):
-        with open(path, encoding="utf-8") as file:
-            code = file.read()
-        for name, given, answer in re.findall(r'pub extern "C" fn (\w+)\((.*?),?\s*\)(?: -> (\w+))?', code, re.DOTALL):
+    for text in map(text_of, glob.glob(os.path.join(TOP, "library/*.c"))):
+        calls = re.findall(r"^(\w.*\b(sas_\w+)\(.*\)) {$", text, re.MULTILINE)
+        found |= {name: f"{whole};" for whole, name in calls}
+    declared_call = r'pub extern "C" fn (\w+)\((.*?),?\s*\)(?: -> (\w+))?'
+    for code in map(text_of, glob.glob(os.path.join(TOP, "crates/sas_c/src/*.rt"))):
+        for name, given, answer in re.findall(declared_call, code, re.DOTALL):
             kinds = [part.split(":", 1)[1].strip() for part in re.split(r",\s*", given)]
             shapes = ", ".join(filter(None, (KINDS[kind] for kind in kinds)))
             found[name] = f"{'enum sas_number' if answer == 'u32' else 'void'} {name}({shapes});"
@@ -254,8 +247,8 @@ def exports():
 
 def declared(path):
     """Returns the names of the calls that a header or a wrapper declares."""
-    with open(path, encoding="utf-8") as file:
-        return set(re.findall(r"\b(sas_\w+)\(", re.sub(r"/\*.*?\*/", "", file.read(), flags=re.DOTALL)))
+    without_comments = re.sub(r"/\*.*?\*/", "", text_of(path), flags=re.DOTALL)
+    return set(re.findall(r"\b(sas_\w+)\(", without_comments))
 
 
 def header_tests(_, library, folder):
@@ -269,9 +262,8 @@ def header_tests(_, library, folder):
     code.append(f"int main(void) {{ sas_task none = SAS_TASK_NONE; return none.is_there || !calls[{len(names) - 1}]; }}")
     for language, standard, made in LANGUAGES_OF_C:
         path = os.path.join(folder, f"declared.{language}")
-        with open(path, "w", encoding="utf-8") as file:
-            file.writelines(f"{line}\n" for line in code)
-        for compiler in compilers(*made):
+        put(path, with_ends(code))
+        for compiler in filter(is_there, made):
             command = [compiler, standard, *C_WARNINGS, "-I", library.folder, path, "-o", f"{path}.out"]
             for linked in ("libsas.a", "libsas.so"):
                 words = [os.path.join(library.folder, linked), f"-Wl,-rpath,{library.folder}"]
@@ -281,7 +273,7 @@ def header_tests(_, library, folder):
 def warning_tests(_, library, __):
     """Yields the code in C and C++ by each compiler. They could show code that a compiler warns of."""
     for language, standard, made in LANGUAGES_OF_C:
-        for compiler in compilers(*made):
+        for compiler in filter(is_there, made):
             for source in SOURCES[language]:
                 command = [compiler, standard, *C_WARNINGS, "-I", library.folder, "-fsyntax-only", os.path.join(TOP, source)]
                 yield f"{source}, by {compiler}", failed(*command)
@@ -298,10 +290,10 @@ def symbols(path, *words):
 def symbol_tests(_, library, __):
     """Yields what the libraries need of others and show to them. They could show a call of the system that the proofs know nothing
     of, a name that is another's in a program that links the library, and a library that is loaded where its instructions aren't known."""
-    if not compilers("nm"):
+    if not is_there("nm"):
         return
     yield from linked_tests(library.folder)
-    if compilers("readelf"):
+    if is_there("readelf"):
         said = ended("readelf", "-n", "-d", os.path.join(library.folder, "libsas.so")).stdout.decode()
         yield "what the loader reads", [it for it in ("x86 ISA needed: x86-64-v2", "soname: [libsas.so.1]") if it not in said]
 
@@ -316,37 +308,15 @@ def linked_tests(folder):
     yield "what libsas.so shows", [] if shown == names else [f"{sorted(shown ^ names)} more or less"]
 
 
-# code in C++ and how it is compiled, each with a part of the compiler's message if it is refused
-DIALECTS = (
-    ("bytes", "-std=c++17", "std::vector<std::byte> it; std::vector<unsigned char> other; return sas::plan(it, other) ? 1 : 0;", None),
-    ("a pointer", "-std=c++17", "sas::Task task; return task.read({nullptr, 0}) ? 1 : 0;", None),
-    ("spans", "-std=c++20", "std::span<const std::byte> it; std::span<char> other; return sas::plan(it, other) ? 1 : 0;", None),
-    ("numbers", "-std=c++17", "std::vector<int> it; return sas::check(it) ? 1 : 0;", "could not convert"),
-    ("operators of 64 bits", "-std=c++17",
-     "sas::Task task; std::vector<std::size_t> it; return task.plan_operators(it, 0) ? 1 : 0;", "sas::Operators"),
-    ("operators of 16 bits", "-std=c++17",
-     "sas::Task task; const std::uint16_t it[] = {1}; return task.plan_operators(it, 0) ? 1 : 0;", "sas::Operators"),
-    ("a limit", "-std=c++17", 'return sas::check_why("", {9999}) || sas::print("", sas::Limit{9999}) ? 1 : 0;', None),
-    ("a limit by its name", "-std=c++20", 'return sas::check_why("", {.max_answer_bytes = 9999}) ? 1 : 0;', None),
-    ("a length for a limit", "-std=c++17", "const std::string it; return sas::steps(it.data(), it.size()) ? 1 : 0;", "sas::Limit"),
-    ("the reason of a temporary", "-std=c++17", 'const auto it = sas::plan("", "").reason(); return it == "line 1: end" ? 0 : 1;', None),
-    ("steps of a temporary", "-std=c++17",
-     'for (auto &it : sas::trace("", "").trace_steps()) return int(it.op); return 0;', "use of deleted function"),
-    ("reasons of a temporary", "-std=c++17", 'return sas::plan_why("", "").reasons().step ? 1 : 0;', "use of deleted function"),
-    ("steps for an algorithm", "-std=c++20", "static_assert(std::input_iterator<sas::Steps>); return 0;", None),
-    ("an answer that isn't used", "-std=c++17", 'sas::check(""); return 0;', "unused-result"),
-    ("an earlier standard", "-std=c++14", "return 0;", "sas.hpp requires C++17"),
-)
-
-
 def dialect_tests(_, library, folder):
-    """Yields what a compiler of C++ takes, and what it refuses. They could show bytes that have to be copied, and an answer that is
-    lost unseen."""
-    path = os.path.join(folder, "dialect.cpp")
-    for name, standard, code, refusal in DIALECTS if compilers("g++") else ():
-        with open(path, "w", encoding="utf-8") as file:
-            file.write("#include <sas.hpp>\n#include <array>\n#include <vector>\n" + "#include <span>\n" * (standard == "-std=c++20"))
-            file.write(f"int main() {{ {code} }}\n")
+    """Yields what a compiler of C++ takes, and what it refuses, with a part of its message. They
+    could show bytes that have to be copied, and an answer that is lost unseen."""
+    path, headers = os.path.join(folder, "dialect.cpp"), ["sas.hpp", "array", "vector"]
+    if not is_there("g++"):
+        return
+    for name, standard, code, refusal in table("library_code.json")["cpp"]:
+        included = [*headers, "span"] if standard == "-std=c++20" else headers
+        put(path, with_ends([*(f"#include <{it}>" for it in included), f"int main() {{ {code} }}"]))
         words = [standard, *C_WARNINGS, "-I", library.folder, path, os.path.join(library.folder, "libsas.a"), "-o", f"{path}.out"]
         wrong = failed("g++", *words)
         if refusal is None:
@@ -374,11 +344,12 @@ def processor_tests(_, __, folder):
         shutil.copy(os.path.join(TOP, name), os.path.join(folder, name))
     # what library/build.py imports is the file of the repository, and what it runs says its arguments
     shutil.copy(os.path.join(TOP, "build.py"), os.path.join(folder, "whole.py"))
-    with open(os.path.join(folder, "build.py"), "w", encoding="utf-8") as file:
-        file.write("import sys\nfrom whole import *\nif __name__ == '__main__':\n    sys.exit(' '.join(sys.argv[1:]))\n")
+    lines = ["import sys", "from whole import *"]
+    lines += ["if __name__ == '__main__':", "    sys.exit(' '.join(sys.argv[1:]))"]
+    put(os.path.join(folder, "build.py"), with_ends(lines))
     env = {name: value for name, value in os.environ.items() if name not in ("MAKEFLAGS", "MFLAGS", "MAKELEVEL", "JOBS", "CC", "AR")}
     calls = [(["JOBS=1"], "1 x86_64-linux"), (["JOBS=3"], "3 x86_64-linux"), ([], f"{int(ended('nproc').stdout)} x86_64-linux")]
-    if compilers("aarch64-linux-gnu-gcc"):
+    if is_there("aarch64-linux-gnu-gcc"):
         calls.append((["JOBS=2", "PLATFORM=aarch64-linux"], "2 aarch64-linux"))
     for words, handed in calls:
         ran = ended("make", "-s", "lib", *words, cwd=folder, env=env)
@@ -387,22 +358,12 @@ def processor_tests(_, __, folder):
 
 
 TESTS = (
-    header_tests,
-    warning_tests,
-    symbol_tests,
-    version_tests,
-    room_tests,
-    longest_tests,
-    dialect_tests,
-    builder_tests,
-    processor_tests,
-    program_tests,
-    case_tests,
+    header_tests, warning_tests, symbol_tests, version_tests, room_tests, longest_tests,
+    dialect_tests, builder_tests, processor_tests, program_tests, case_tests,
 )
 
 
 def tests(program, folder):
-    """Yields all of these."""
     yield from tests_by(TESTS, program, folder)
 
 

@@ -8,13 +8,12 @@ SAS is the program, and LIBRARY the folder that library/build.py made. Each func
 they could show that no proof does: no proof is about two calls at once, about how much memory there is, or about Python.
 
 library.c makes the calls in C, and is built by $CC or cc.
-
-Each test that fails has a line, and the last line is 'N passed, M failed'. The exit status is 0 where none failed.
 """
 import array
 import contextlib
 import copy
 import ctypes
+import functools
 import mmap
 import os
 import pathlib
@@ -27,10 +26,10 @@ from concurrent.futures import ThreadPoolExecutor
 import harness
 from harness import c_compiler, differs, ended
 from large import plan_text, wide_plans, wide_task
-from library import DOORWAY, FUSES, LAMPS, LIMIT, NO, NO_TASK, OVER_BOTH, OVER_HELD, REQUESTS, ROOM_TOO_SHORT, YES, Held, answer_of, raised
-from library import read, tests_by
+from library import DOORWAY, FUSES, LAMPS, LIMIT, NO, NO_TASK, OVER_BOTH, OVER_HELD, REQUESTS
+from library import ROOM_TOO_SHORT, YES, Held, answer_of, fault_of, read, tests_by
 from oracles.tasks import text_of
-from texts import TOP
+from texts import TOP, put
 
 # the most that memory may grow over many plans, in kB
 MOST_MORE = 256
@@ -104,8 +103,10 @@ def typed_tests(sas, task, plan, path):
                 yield f"Python, {name}", [it for answer in answers for it in differs(answer, expected)]
     yield "Python, nothing", [it for view in (bytearray(), memoryview(b"")) for it in differs(sas.plan(view, view), empty)]
     for name, given in (("a text", task.decode()), ("a path", pathlib.Path(path)), ("a path as a text", path)):
-        said = message(lambda given=given: sas.check(given)), message(lambda given=given: sas.Task(task).plan(given))
-        yield f"Python, {name}", differs(said, ('give the bytes: open(path, "rb").read()',) * 2)
+        calls = functools.partial(sas.check, given), functools.partial(sas.Task(task).plan, given)
+        said = [repr(fault_of(call)) for call in calls]
+        expected = repr(TypeError('give the bytes: open(path, "rb").read()'))
+        yield f"Python, {name}", differs(said, [expected] * 2)
 
 
 def raising_tests(sas, task, plan):
@@ -126,7 +127,7 @@ def raising_tests(sas, task, plan):
         ("a task that is copied", TypeError, lambda: copy.copy(sas.Task(task))),
         ("a task that is copied deeply", TypeError, lambda: copy.deepcopy(sas.Task(task))),
     ):
-        yield f"Python, {name}", differs(raised(call), exception)
+        yield f"Python, {name}", differs(type(fault_of(call)), exception)
 
 
 def python_tests(_, library, folder):
@@ -227,32 +228,19 @@ def process_tests(_, library, folder):
     env = {**os.environ, "PYTHONPATH": library.folder}
     files = [os.path.join(TOP, f"{FUSES}.{it}") for it in ("sas", "plan")]
     for name, code in PROCESSES.items():
-        path = os.path.join(folder, "program.py")
-        with open(path, "w", encoding="utf-8") as file:
-            file.write(code)
+        path = put(os.path.join(folder, "program.py"), code)
         # later versions warn of each fork of a process with threads
         ran = ended(sys.executable, "-W", "ignore", path, *files, env=env)
         yield f"Python, {name}", [] if (ran.returncode, ran.stdout, ran.stderr) == (0, b"", b"") else [f"{ran}"]
 
 
 def closed(sas, task):
-    """Returns a task that was held and isn't."""
     held = sas.Task(task)
     held.close()
     return held
 
 
-def message(call):
-    """Returns the message of the TypeError that a call ends with."""
-    try:
-        call()
-    except TypeError as fault:
-        return str(fault)
-    return None
-
-
 def built_driver(library, folder):
-    """Returns library.c, built."""
     path = os.path.join(folder, "library")
     source, archive = os.path.join(TOP, "cases/library.c"), os.path.join(library.folder, "libsas.a")
     command = [*c_compiler(), "-O1", "-I", library.folder, source, archive, "-pthread", "-o", path]
@@ -263,15 +251,9 @@ def built_driver(library, folder):
 
 def several(folder):
     """Returns the files of a task that has several of everything and of plans of it, of which the first one is valid."""
-    task = os.path.join(folder, "several.sas")
-    with open(task, "w", encoding="utf-8") as file:
-        file.write(text_of(wide_task(65)))
-    paths = []
-    for number, (names, cost, _) in enumerate(wide_plans(65)):
-        paths.append(os.path.join(folder, f"several.{number}"))
-        with open(paths[-1], "w", encoding="utf-8") as file:
-            file.write(plan_text(names, cost))
-    return task, *paths
+    plans = enumerate(plan_text(names, cost) for names, cost, _ in wide_plans(65))
+    paths = [put(f"{folder}/several.{number}", plan) for number, plan in plans]
+    return put(f"{folder}/several.sas", text_of(wide_task(65))), *paths
 
 
 def driver_tests(_, library, folder):
@@ -298,17 +280,10 @@ def driver_tests(_, library, folder):
         yield f"{count} plans in each of four threads", [] if said == f"{count} plans in each of 4 threads, 0 wrong\n" else [said]
 
 
-TESTS = (
-    held_tests,
-    python_tests,
-    mixed_tests,
-    process_tests,
-    driver_tests,
-)
+TESTS = (held_tests, python_tests, mixed_tests, process_tests, driver_tests)
 
 
 def tests(program, folder):
-    """Yields all of these."""
     yield from tests_by(TESTS, program, folder)
 
 

@@ -9,11 +9,10 @@ they could show that no proof does: the proofs don't know the wrappers.
 library.cpp and library.rs make calls from these languages, library_stub.c stands in for the library. The compilers are $CC or cc, and of
 gcc, clang, g++, clang++, rustc and cargo those that are there; `valgrind` is used where it is. For each tool that isn't there it prints a
 line that begins with `without`.
-
-Each test that fails has a line, and the last line is 'N passed, M failed'. The exit status is 0 where none failed.
 """
 import copy
 import ctypes
+import functools
 import os
 import pickle
 import re
@@ -21,13 +20,14 @@ import shutil
 import sys
 
 import harness
-from harness import c_compiler, differs, ended
+from harness import c_compiler, differs, ended, is_there
 from large import plan_text, wide_task
-from library import C_WARNINGS, DOORWAY, FUSES, INPUT_TOO_LONG, LAMPS, NO, NO_TASK, OUT_OF_MEMORY, OVER_BOTH, ROOM_TOO_SHORT, YES, answer_of
-from library import compilers, crate, failed, inputs_of, package_in, raised, read, stub_library, tests_by
+from library import C_WARNINGS, DOORWAY, FUSES, INPUT_TOO_LONG, LAMPS, NO, NO_TASK, OUT_OF_MEMORY
+from library import OVER_BOTH, ROOM_TOO_SHORT, YES, answer_of, crate, failed, fault_of, inputs_of
+from library import package_in, read, stub_library, tests_by
 from oracles.tasks import text_of
 from shown import section_of, transcripts
-from texts import TOP
+from texts import CASES, TOP, put, table
 
 # a task that a program whose room is fixed would cut off
 LARGE = 2 << 20
@@ -73,7 +73,6 @@ def answer_tests(_, library, __):
 
 
 def vars_of(it):
-    """Returns the attributes of an exception."""
     return getattr(it, "__dict__", None)
 
 
@@ -103,7 +102,7 @@ def built_examples(library, folder):
         ("held.cpp", ["g++"], ["-std=c++17", *flags, archive]),
         ("held.rs", ["rustc"], ["--edition", "2021", "-O"]),
     ):
-        if compilers(compiler[0]):
+        if is_there(compiler[0]):
             path = os.path.join(folder, source.replace(".", "_"))
             words = words if compiler != ["rustc"] else [*words, *crate(library.folder, folder)]
             wrong = failed(*compiler, os.path.join(examples, source), *words, "-o", path)
@@ -135,7 +134,7 @@ def example_tests(program, library, folder):
         for words in (["none", plans[0]], [fuses, plans[0], "none"]):
             ran = ended(*command, *words, env=env)
             yield f"{name} {' '.join(words)}", [] if ran.returncode == 3 and ran.stderr else [f"{ran}"]
-        if name == "held.c" and compilers("valgrind"):
+        if name == "held.c" and is_there("valgrind"):
             ran = watched(*command, fuses, *plans)
             yield "valgrind held.c", [] if ran.returncode == 1 and not ran.stderr else [f"{ran}"]
 
@@ -160,7 +159,6 @@ def lines_of_wrappers(sas, task, plan):
     by_numbers = sas.Task(task).plan_operators([0], 1) if came else None
 
     def each(name, is_held):
-        """Returns the answers about a plan of a task, in the order of the calls."""
         names = (name, "held plan_why", "held trace")
         answers = [(word, answer_of(sas, it, task, plan) if is_held else None) for word, it in zip(names, OVER_BOTH)]
         return [*answers, ("held operators", by_numbers if is_held else None)]
@@ -178,7 +176,6 @@ def lines_of_wrappers(sas, task, plan):
 
 
 def built_wrapper(language, library, folder):
-    """Returns library.cpp or library.rs, built with the library in a folder."""
     source, path = os.path.join(TOP, f"cases/library.{language}"), os.path.join(folder, f"library_{language}")
     command = []
     if language == "rs":
@@ -192,12 +189,9 @@ def built_wrapper(language, library, folder):
 
 def long_answers(folder):
     """Writes a wide task and a plan whose reasons and trace are longer than the rooms that wrappers begin with, and returns their paths."""
-    width, paths = 500, [os.path.join(folder, "wide.sas"), os.path.join(folder, "wide.plan")]
-    steps = [*(f"next {place}" for place in range(width)), *["turn", "back"] * 20]
-    for path, text in zip(paths, (text_of(wide_task(width)), plan_text(steps, 1))):
-        with open(path, "w", encoding="latin-1") as file:
-            file.write(text)
-    return paths
+    width = 500
+    plan = plan_text([*(f"next {place}" for place in range(width)), *["turn", "back"] * 20], 1)
+    return [put(f"{folder}/wide.sas", text_of(wide_task(width))), put(f"{folder}/wide.plan", plan)]
 
 
 def wrapper_tests(_, library, folder):
@@ -206,14 +200,14 @@ def wrapper_tests(_, library, folder):
     never."""
     pairs = [[os.path.join(TOP, f"{name}.sas"), os.path.join(TOP, f"{FUSES}.plan")] for name in (DOORWAY, LAMPS)]
     for language, compiler in (("cpp", "g++"), ("rs", "rustc")):
-        path = built_wrapper(language, library.folder, folder) if compilers(compiler) else None
+        path = built_wrapper(language, library.folder, folder) if is_there(compiler) else None
         for files in [*pairs, long_answers(folder)] if path else ():
             name = os.path.basename(files[0])
             expected = 0, lines_of_wrappers(library.sas, *map(read, files))[language], b""
             ran = ended(path, *files)
             got = ran.returncode, ran.stdout, ran.stderr
             yield f"library.{language}, {name}", [] if got == expected else [f"{got}, not {expected}"[:5000]]
-            if compilers("valgrind"):
+            if is_there("valgrind"):
                 ran = watched(path, *files)
                 yield f"valgrind library.{language}, {name}", [] if ran.returncode == 0 and not ran.stderr else [f"{ran}"[:5000]]
 
@@ -230,7 +224,7 @@ def number_tests(_, library, folder):
     another."""
     stub = stub_library(library, folder)
     for language, compiler in (("cpp", "g++"), ("rs", "rustc")):
-        path = built_wrapper(language, stub, folder) if compilers(compiler) else None
+        path = built_wrapper(language, stub, folder) if is_there(compiler) else None
         for number, word in ((OUT_OF_MEMORY, "out of memory"), (INPUT_TOO_LONG, "input too long"), (NO_TASK, "no task")):
             # no call of the wrapper in Rust can come to that one
             if path and not (language == "rs" and number == NO_TASK):
@@ -244,7 +238,8 @@ def number_tests(_, library, folder):
     for number, exception in ((OUT_OF_MEMORY, MemoryError), (INPUT_TOO_LONG, sas.InputTooLong), (NO_TASK, sas.NoTask)):
         # the library that is loaded sees no change that Python alone makes of its environment
         ctypes.CDLL(None).setenv(b"STUB", str(number).encode(), 1)
-        came = [raised(lambda it=it: answer_of(sas, it, *inputs_of(it, b"", b""))) for it in IN_ORDER] + [raised(lambda: sas.Task(b""))]
+        calls = [functools.partial(answer_of, sas, it, *inputs_of(it, b"", b"")) for it in IN_ORDER]
+        came = [type(fault_of(call)) for call in (*calls, lambda: sas.Task(b""))]
         yield f"Python, number {number}", [] if set(came) == {exception} else [f"{came}"]
 
 
@@ -254,119 +249,54 @@ def range_tests(_, library, folder):
     path, valid = os.path.join(folder, "ranges"), "plan valid: 4 steps, cost 4"
     none, unknown = "plan invalid: goal fact 0 not reached", "plan invalid: step 4: no operator of that number"
     for compiler, standard, count in (("g++", "-std=c++17", 13), ("g++", "-std=c++20", 17), ("clang++", "-std=c++17", 13)):
-        if compilers(compiler):
+        if is_there(compiler):
             words = [standard, *C_WARNINGS, "-I", library.folder, os.path.join(TOP, "cases/ranges.cpp"), f"{library.folder}/libsas.a"]
             wrong = failed(compiler, *words, "-o", path)
             said = [] if wrong else ended(path, os.path.join(TOP, f"{FUSES}.sas")).stdout.decode().splitlines()
             yield f"ranges.cpp, {compiler} {standard}", wrong or ([] if said == [valid] * count + [unknown, *[none] * 3] else [f"{said}"])
 
 
-# programs that make each call with a limit of 1000 bytes, and print what is thrown or returned, or the status where nothing is
-LIMITED_CPP = """
-#include <sas.hpp>
-#include <iostream>
-#ifdef __cpp_exceptions
-#define TELL(CALL) try { std::cout << (CALL).text; } catch (const std::exception &it) { std::cout << it.what() << '\\n'; }
-#else
-#define TELL(CALL) std::cout << int((CALL).status) << '\\n';
-#endif
-int main() {
-    sas::Task task;
-    const sas::Limit limit{1000};
-    TELL(sas::plan_why("", "", limit)) TELL(sas::trace("", "", limit)) TELL(sas::check_why("", limit)) TELL(sas::mutex("", limit))
-    TELL(sas::mutex_why("", limit)) TELL(sas::show("", limit)) TELL(sas::print("", limit)) TELL(sas::steps("", limit))
-    TELL(task.plan_why("", limit)) TELL(task.trace("", limit))
-}
-"""
-LIMITED_RS = """
-fn tell(answer: Result<sas::Answer, sas::Error>) { println!("{}", answer.unwrap_err()); }
-fn main() {
-    let it = sas::max_answer_bytes(1000);
-    tell(it.plan_why(b"", b"")); tell(it.trace(b"", b"")); tell(it.check_why(b"")); tell(it.mutex(b""));
-    tell(it.mutex_why(b"")); tell(it.show(b"")); tell(it.print(b"")); tell(it.steps(b""));
-}
-"""
-
-
 def limit_tests(_, library, folder):
     """Yields the calls with a limit, over a library whose answers have 2^40 bytes. They could show a room over the limit, and one for an
     answer that nobody gets."""
     stub, path = stub_library(library, folder), os.path.join(folder, "limited")
-    for source, text in (("limited.cpp", LIMITED_CPP), ("limited.rs", LIMITED_RS)):
-        with open(os.path.join(folder, source), "w", encoding="utf-8") as file:
-            file.write(text)
-    said, cpp = f"sas: answer too long: {1 << 40} bytes\n", ["-std=c++17", *C_WARNINGS, "-I", library.folder, f"{folder}/limited.cpp"]
+    said = f"sas: answer too long: {1 << 40} bytes\n"
+    cpp = ["-std=c++17", *C_WARNINGS, "-I", library.folder, f"{CASES}/limited.cpp"]
     for compiler, words, expected in (
         ("g++", [*cpp, f"{stub}/libsas.a"], said * 10),
         ("g++", ["-fno-exceptions", *cpp, f"{stub}/libsas.a"], "5\n" * 10),
-        ("rustc", ["--edition", "2021", "-D", "warnings", f"{folder}/limited.rs"], said * 8),
+        ("rustc", ["--edition", "2021", "-D", "warnings", f"{CASES}/limited.rs"], said * 8),
     ):
-        if compilers(compiler):
+        if is_there(compiler):
             words = [*words, *crate(stub, folder)] if compiler == "rustc" else words
             wrong = failed(compiler, *words, "-o", path)
             ran = wrong or ended(path, env={**os.environ, "STUB": str(ROOM_TOO_SHORT)})
             yield f"limits, {compiler} {words[0]}", wrong or ([] if ran.stdout.decode() == expected else [f"{ran}"])
 
 
-NO_EXCEPTIONS = """
-#include "sas.hpp"
-#include <cstdio>
-int main() {
-    sas::Task task("");
-    const sas::Answer answer = sas::check(""), other = task.plan_operators({1}, 1);
-    std::printf("%d %d %d %d\\n", int(answer.status), int(answer.verdict()), int(other.status), task.is_held());
-}
-"""
-
-
 def no_exception_tests(_, library, folder):
     """Yields the statuses of C++ without exceptions, of a library that only returns a number. They could show one that is taken for
     another."""
-    stub, path = stub_library(library, folder), os.path.join(folder, "statuses.cpp")
-    with open(path, "w", encoding="utf-8") as file:
-        file.write(NO_EXCEPTIONS)
-    for compiler in compilers("g++", "clang++"):
-        words = ["-std=c++17", "-fno-exceptions", *C_WARNINGS, "-I", library.folder, path, f"{stub}/libsas.a", "-o", f"{path}.out"]
+    stub, path = stub_library(library, folder), os.path.join(folder, "statuses")
+    for compiler in filter(is_there, ("g++", "clang++")):
+        flags = ["-std=c++17", "-fno-exceptions", *C_WARNINGS, "-I", library.folder]
+        words = [*flags, f"{CASES}/statuses.cpp", f"{stub}/libsas.a", "-o", path]
         yield f"C++ without exceptions, by {compiler}", failed(compiler, *words)
         # without an answer the verdict is none, the last one
         for number, status, verdict in ((YES, 0, 3), (NO, 1, 4), (OUT_OF_MEMORY, 2, 5), (INPUT_TOO_LONG, 3, 5), (NO_TASK, 4, 5)):
-            said = ended(f"{path}.out", env={**os.environ, "STUB": str(number)}).stdout.decode()
+            said = ended(path, env={**os.environ, "STUB": str(number)}).stdout.decode()
             yield f"C++ without exceptions, number {number}", [] if said == f"{status} {verdict} {status} 0\n" else [said]
-
-
-HOLD, CHECK = 'let mut held = sas::Task::read(b"").unwrap();', 'sas::check(b"")'
-UNUSED = "unused `Answer` that must be used"
-# code in Rust that is refused, each with the code of the error, or what the compiler says of it
-REFUSED_CODE = (
-    ("a task that two threads share", "fn shared<T: Sync>() {} shared::<sas::Task>();", "E0277"),
-    ("a task that is copied", f"{HOLD} let other = held.clone(); drop(other);", "E0599"),
-    ("a task that is used after it was dropped", f'{HOLD} drop(held); let _ = held.plan(b"");', "E0382"),
-    ("an answer that isn't used", f"{CHECK}.unwrap();", UNUSED),
-    ("an answer that isn't used, after ?", f"let judge = || {{ {CHECK}?; Ok::<(), sas::Error>(()) }}; judge().unwrap();", UNUSED),
-    ("an answer that isn't used, of a held task", f"{HOLD} held.plan_operators(&[], 0).unwrap();", UNUSED),
-    ("an answer that isn't used, with a limit", f'{HOLD} held.max_answer_bytes(9).trace(b"").unwrap();', UNUSED),
-    ("a limit without a call", "sas::max_answer_bytes(9);", UNUSED.replace("Answer", "Limited")),
-    ("no other verdict",
-     f"use sas::Verdict::*; match {CHECK}.unwrap().verdict() {{ Valid | Invalid | Refused | Yes | No => {{}} }}", "E0004"),
-    ("no other file", f"use sas::File::*; match {CHECK}.unwrap().refused_file().unwrap() {{ Task | Plan => {{}} }}", "E0004"),
-    ("no other error",
-     f"use sas::Error::*; match {CHECK}.unwrap_err() {{ OutOfMemory | InputTooLong | AnswerTooLong {{ .. }} => {{}} }}", "E0004"),
-    ("no other error of a task",
-     'use sas::ReadError::*; match sas::Task::read(b"").unwrap_err() { Refused(_) | Failed(_) => {} }', "E0004"),
-    ("an answer that is dropped on purpose", f"let _ = {CHECK};", None),
-    ("other verdicts", f"if let Ok(it) = {CHECK} {{ match it.verdict() {{ sas::Verdict::Yes => {{}} _ => {{}} }} }}", None),
-)
 
 
 def refused_code_tests(_, library, folder):
     """Yields code in Rust that a compiler has to refuse, and code that it takes without a warning. They could show a task that two threads
     may use at once, or two that free the same one, an answer that is lost unseen, and code that a later version would break."""
-    if not compilers("rustc"):
+    if not is_there("rustc"):
         return
     words, path = crate(library.folder, folder), os.path.join(folder, "refused.rs")
-    for name, code, error in REFUSED_CODE:
-        with open(path, "w", encoding="utf-8") as file:
-            file.write(f"fn main() {{ {code} }}\n")
+    # a refusal is the code of an error, or what the compiler says of it
+    for name, code, error in table("library_code.json")["rust"]:
+        put(path, f"fn main() {{ {code} }}\n")
         ran = ended("rustc", "--edition", "2021", "-D", "warnings", *words, path, "-o", f"{path}.out")
         found = [code or said for code, said in re.findall(r"^error(?:\[(E\d+)\])?: (.*)$", ran.stderr.decode(), re.MULTILINE)]
         found = [it for it in found if not it.startswith("aborting")]
@@ -379,24 +309,19 @@ PAGE = "docs/LIBRARY.md"
 SECTIONS = {"C": ("c", ".c", "cc"), "C++": ("cpp", ".cpp", "g++"), "Python": ("python", ".py", "python3"), "Rust": ("rust", ".rs", "cargo")}
 
 
-def page_folder(library, place):
-    """Makes a folder with what the commands of the page use."""
-    for name in ("examples", "library/examples", "library/rust"):
-        shutil.copytree(os.path.join(TOP, name), os.path.join(place, name), ignore=shutil.ignore_patterns("target"))
-    shutil.copytree(library.folder, os.path.join(place, "library/out"))
-
-
 def page_tests(_, library, place):
     """Yields the commands of the sections about languages, over the programs that they show, all in one folder. They could show a page
     that is wrong, and a section that another one is in the way of."""
-    page_folder(library, place)
+    names = "examples", "library/examples", "library/rust"
+    copied = {**{name: f"{TOP}/{name}" for name in names}, "library/out": library.folder}
+    for name, folder in copied.items():
+        shutil.copytree(folder, os.path.join(place, name), ignore=shutil.ignore_patterns("target"))
     for section, (mark, suffix, compiler) in SECTIONS.items():
-        if not compilers(compiler):
+        if not is_there(compiler):
             continue
         text = section_of(PAGE, f"## {section}")
         program, commands = "".join(re.findall(rf"```{mark}\n(.*?)```", text, re.DOTALL)[:1]), transcripts(text)
-        with open(os.path.join(place, f"judge{suffix}"), "w", encoding="utf-8") as file:
-            file.write(program)
+        put(os.path.join(place, f"judge{suffix}"), program)
         yield f"{PAGE}, {section}", [] if program and commands else ["no program, or no command"]
         for command, output in commands:
             ran = ended("bash", "-c", command, cwd=place)
@@ -419,21 +344,12 @@ def wrong_large(sas, judge):
 
 
 TESTS = (
-    answer_tests,
-    found_tests,
-    wrapper_tests,
-    number_tests,
-    range_tests,
-    limit_tests,
-    no_exception_tests,
-    refused_code_tests,
-    example_tests,
-    page_tests,
+    answer_tests, found_tests, wrapper_tests, number_tests, range_tests, limit_tests,
+    no_exception_tests, refused_code_tests, example_tests, page_tests,
 )
 
 
 def tests(program, folder):
-    """Yields all of these."""
     yield from tests_by(TESTS, program, folder)
 
 

@@ -10,12 +10,12 @@ many.json: plans of tasks.
 import os
 import random
 
-from following import long_runs, run_over, turning_names, turning_task
+from following import cost_of_run, long_runs, names_of, run_over, turning_names, turning_task
 from oracles.plans import judged, lines_of, status_of, summary
 from oracles.refusals import refusal
-from oracles.steps import cost_of, holds, initial
-from oracles.tasks import plan_of, plan_text, task_of, text_of
-from texts import as_bytes, changed_lines, table
+from oracles.steps import holds, initial
+from oracles.tasks import plan_of, plan_text, task_of, text_of, with_ends
+from texts import as_bytes, case, changed_lines, latin, made_by, table
 from walks import operated_task, random_facts, walk
 from why import MINIMAL, TURNS, spoiled
 
@@ -30,23 +30,18 @@ LABELS = ("p.{}", "sas_plan.{}", "plan {}", " {} ", "{}: plan valid: 1 steps, co
 
 def case_of(name, words, files, lines, **inputs):
     """Returns the case of a request for plans with these words, of which these lines are printed."""
-    return {
-        "name": f"{name}, plans {' '.join(words)[:200]}",
-        "words": ["plans", *words],
-        "files": files,
-        "output": "".join(f"{line}\n" for line in lines),
-        "status": status_of(lines),
-        **inputs,
-    }
+    name, words = f"{name}, plans {' '.join(words)[:200]}", ["plans", *words]
+    return case(name, words, with_ends(lines), status_of(lines), files=files, **inputs)
 
 
-def over_files(name, task, plans, lines):
-    """Returns the case of plans of which each is a file."""
-    return case_of(name, ["t.sas", *(label for label, _ in plans)], {"t.sas": task, **dict(plans)}, lines)
+def over_files(name, task, plans, lines, *words):
+    """Returns the case of plans of which each is a file. The task is named by the last word."""
+    words = words or ["t.sas"]
+    files = {words[-1]: task, **dict(plans)}
+    return case_of(name, [*words, *(label for label, _ in plans)], files, lines)
 
 
 def with_task_from_input(name, task, plans, lines):
-    """Returns the case of these plans with the task from standard input."""
     return case_of(name, ["-", *(label for label, _ in plans)], dict(plans), lines, input=task)
 
 
@@ -58,31 +53,21 @@ def with_plan_from_input(name, task, plans, place):
     return case_of(name, ["t.sas", *words], {"t.sas": text_of(task), **files, "-": "x\n"}, lines, input=plans[place][1])
 
 
-def after_dashes(name, task, plans, lines):
-    """Returns the case of these plans, whose labels may begin with a dash, as they come after `--`."""
-    return case_of(name, ["--", "-t", *(label for label, _ in plans)], {"-t": task, **dict(plans)}, lines)
-
-
 def each_alone(name, task, plans):
     """Yields the case of `plan` for each of these plans."""
     for label, text in dict(plans).items():
         said, cost = judged(task, text)
-        yield {
-            "name": f"{name}, plan {label}",
-            "words": ["plan", "t.sas", "p.txt"],
-            "files": {"t.sas": text_of(task), "p.txt": text},
-            "output": f"{said}\n",
-            "status": 1 if cost is None else 0,
-        }
+        words, files = ["plan", "t.sas", "p.txt"], {"t.sas": text_of(task), "p.txt": text}
+        yield case(f"{name}, plan {label}", words, f"{said}\n", int(cost is None), files=files)
 
 
 def written_plans():
     """Yields the plans of many.json: a name, the file of the task, the plans, and the lines. Where the task isn't refused,
     these stand there and are computed too."""
     for made in table("many.json"):
-        task, files = as_bytes(made["task"]).decode("latin-1"), {}
+        task, files = latin(made["task"]), {}
         for label, *text in made["plans"]:
-            files.update({os.path.normpath(label): as_bytes(part).decode("latin-1") for part in text})
+            files.update({os.path.normpath(label): latin(part) for part in text})
         plans = [(label, files[os.path.normpath(label)]) for label, *_ in made["plans"]]
         if not made["lines"][-1].startswith("task refused: "):
             computed = lines_of(task_of(task), plans)
@@ -105,10 +90,10 @@ def written_cases():
 def refused_cases():
     """Yields each plan file of plans.json between others, and all fronts of those that are cut off, beside one another. They
     could show a plan that is refused and spoils others, and bytes of a plan that are taken for those of the next one."""
-    minimal = as_bytes(MINIMAL).decode("latin-1")
+    minimal = latin(MINIMAL)
     task, valid = task_of(minimal), ("valid", plan_text([], 0))
     for made in table("plans.json"):
-        text = as_bytes(made["plan"]).decode("latin-1")
+        text = latin(made["plan"])
         refused = refusal("plan", text.encode("latin-1"))
         said = f"{refused[0]}\n" if refused else made["output"]
         assert as_bytes(said) == as_bytes(made["output"])
@@ -123,10 +108,10 @@ def unopened_cases():
     """Yields tasks that are refused, with plans that there aren't, and one that is a folder. They could show a plan that is
     opened though there is no task for it."""
     for changed in changed_lines():
-        if changed["fault"] or changed["layers"]:
-            said = f"task refused: {changed['fault'] or changed['layers']}"
-            files = {"t.sas": as_bytes(changed["task"])}
-            yield case_of(f"{changed['name']}, no plans", ["t.sas", "none", ".", "none"], files, [said])
+        fault, files = changed["fault"] or changed["layers"], {"t.sas": changed["task"]}
+        if fault:
+            words, lines = ["t.sas", "none", ".", "none"], [f"task refused: {fault}"]
+            yield case_of(f"{changed['name']}, no plans", words, files, lines)
 
 
 def piped_cases():
@@ -175,14 +160,10 @@ def files_made(chance, task, make):
 def walked(chance):
     """Returns a task as in walks.py, and plan files of it."""
     task = operated_task(chance)
-
-    def make():
-        return walk(chance, task)
-
-    _, _, state = make()
+    _, _, state = walk(chance, task)
     facts = random_facts(chance, task, (0, 0, 1, 1, 2, 3))
     task["goal"] = [fact for fact in facts if holds(state, [fact]) or chance.random() < 0.1]
-    return task, files_made(chance, task, make)
+    return task, files_made(chance, task, lambda: walk(chance, task))
 
 
 def turned(chance):
@@ -191,8 +172,7 @@ def turned(chance):
 
     def make():
         run = run_over(task, turning_names(chance, derived), chance.randrange(TURNS))
-        names = [task["operators"][operator][0] for operator, _ in run]
-        return names, sum(cost_of(task, operator) for operator, _ in run), run[-1][1] if run else initial(task)
+        return names_of(task, run), cost_of_run(task, run), run[-1][1] if run else initial(task)
 
     _, _, state = make()
     task["goal"] = [(var, state[var]) for var in chance.sample(derived, chance.choice((0, 1, 1, 2)))]
@@ -222,7 +202,7 @@ def random_cases():
             yield with_plan_from_input(name, task, plans, chance.randrange(len(plans)))
         elif number % EACH == 2:
             plans = labelled(chance, texts, ("-{}", "--{}", "--why {}", "{}"))
-            yield after_dashes(name, text, plans, lines_of(task, plans))
+            yield over_files(name, text, plans, lines_of(task, plans), "--", "-t")
         else:
             plans.reverse()
             yield with_task_from_input(name, text, plans, lines_of(task, plans))
@@ -243,10 +223,5 @@ def long_cases():
 
 
 def plans_cases():
-    """All of these."""
-    yield from written_cases()
-    yield from refused_cases()
-    yield from unopened_cases()
-    yield from piped_cases()
-    yield from long_cases()
-    yield from random_cases()
+    makers = written_cases, refused_cases, unopened_cases, piped_cases, long_cases, random_cases
+    return made_by(*makers)

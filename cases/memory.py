@@ -14,13 +14,11 @@ error, writes nothing on standard output and ends with status 3; or it does with
 for each kind of answer about a plan and about groups, with `trace` and with `plans`: there the answer is what reasons.py, traces.py and
 plans.py of oracles/ compute.
 
-The library that refuses is made of refuse.c, with $CC or cc. Each call that fails has a line, and the last line is
-'N passed, M failed'. The exit status is 0 where none failed.
+The library that refuses is made of refuse.c, with $CC or cc.
 """
 import functools
 import os
 import re
-import tempfile
 
 import harness
 from large import plan_text, wide_plans, wide_task
@@ -29,9 +27,9 @@ from oracles.layers import after_refusal
 from oracles.plans import lines_of, status_of
 from oracles.reasons import reasons
 from oracles.refusals import answer_of_call
-from oracles.tasks import text_of
+from oracles.tasks import text_of, with_ends
 from oracles.traces import traced
-from texts import as_bytes, table
+from texts import as_bytes, put, table
 
 # no run of these makes more allocations
 MOST = 1000
@@ -91,9 +89,7 @@ def refused_requests(sas, folder):
     """Yields each request to the program itself. It could show a call that goes on without the memory that it was refused,
     or that reports this after a part of its answer."""
     names, cost, _ = wide_plans(SEVERAL)[0]
-    files = {"several.sas": text_of(wide_task(SEVERAL)), "several.plan": plan_text(names, cost)}
-    for name, text in files.items():
-        written(folder, name, text)
+    both_written(folder, "several", wide_task(SEVERAL), names, cost)
     for front, exclusive in (("examples/fuses", True), (os.path.join(folder, "several"), False)):
         task, plan = f"{front}.sas", f"{front}.plan"
         requests = [[request, task] for request in ("show", "check", "print", "mutex")]
@@ -109,22 +105,14 @@ def case_of(sas, words, status, output=None, error=b""):
     return {"command": command, "name": name, "given": b"", "status": status, "output": output, "error": error}
 
 
-def written(folder, name, text):
-    """Writes a file into a folder, and returns its path."""
-    path = os.path.join(folder, name)
-    with open(path, "w", encoding="utf-8") as file:
-        file.write(text)
-    return path
-
-
 def both_written(folder, name, task, names, cost):
     """Writes the files of a task and of a plan, and returns their paths."""
-    return [written(folder, f"{name}.sas", text_of(task)), written(folder, f"{name}.plan", plan_text(names, cost))]
+    plan = plan_text(names, cost)
+    return [put(f"{folder}/{name}.sas", text_of(task)), put(f"{folder}/{name}.plan", plan)]
 
 
 def lines_text(lines):
-    """Returns the bytes of these lines."""
-    return "".join(f"{line}\n" for line in lines).encode()
+    return with_ends(lines).encode()
 
 
 def refusals(plan):
@@ -150,12 +138,6 @@ def failing_plans():
     yield {**task, "operators": [*task["operators"], *task["operators"]]}, [*reached, "turn"], 0
 
 
-def long_plan():
-    """Returns a plan of that task whose trace doesn't go out in one piece."""
-    names, cost, _ = wide_plans(SEVERAL)[0]
-    return wide_task(SEVERAL), [*names, *["back", "turn"] * OFTEN], cost + 2 * OFTEN
-
-
 def refused_reasons(sas, folder):
     """Yields each kind of answer to `plan --why`, why a task isn't layered, and why groups aren't exclusive. It could show reasons
     that stop where memory is refused, or of which a part is written before that."""
@@ -170,14 +152,17 @@ def refused_reasons(sas, folder):
         said = "task refused: rule 0: layer order"
         yield case_of(sas, [request, "--why", UNLAYERED], 1, lines_text([said, *after_refusal(said, {"file": UNLAYERED})]))
     groups = next(made for made in table("groups.json") if made["name"] == "each verdict")
-    task = written(folder, "groups.sas", as_bytes(groups["task"]).decode())
+    task = put(f"{folder}/groups.sas", as_bytes(groups["task"]))
     yield case_of(sas, ["mutex", "--why", task], 1, with_all_reasons(groups["output"], groups["task"]))
 
 
 def refused_traces(sas, folder):
     """Yields each kind of answer to `trace`. It could show a part of a trace that is written before memory is refused, or one
     that ends there."""
-    for number, (task, names, cost) in enumerate((*failing_plans(), long_plan())):
+    names, cost, _ = wide_plans(SEVERAL)[0]
+    # of this one the trace doesn't go out in one piece
+    long = wide_task(SEVERAL), [*names, *["back", "turn"] * OFTEN], cost + 2 * OFTEN
+    for number, (task, names, cost) in enumerate((*failing_plans(), long)):
         files = both_written(folder, f"trace.{number}", task, names, cost)
         lines = traced(task, names, cost)
         yield case_of(sas, ["trace", *files], 0 if lines[-1].startswith("plan valid") else 1, lines_text(lines))
@@ -190,9 +175,9 @@ def refused_plans(sas, folder):
     front of a plan that can't be opened or read. It could show a plan that is left out, or reported as refused, where memory is;
     one for which the plans before it count; and a label that is cut off."""
     task = wide_task(SEVERAL)
-    path = written(folder, "many.sas", text_of(task))
+    path = put(f"{folder}/many.sas", text_of(task))
     texts = [*(plan_text(names, cost) for names, cost, _ in wide_plans(SEVERAL)), "", "(next 0)\n"]
-    plans = [(written(folder, f"many.{number}", text), text) for number, text in enumerate(texts)]
+    plans = [(put(f"{folder}/many.{number}", text), text) for number, text in enumerate(texts)]
     for some in (*([plan] for plan in plans), plans, plans[::-1], plans[:1] * 2):
         lines = lines_of(task, some)
         yield case_of(sas, ["plans", path, *(label for label, _ in some)], status_of(lines), lines_text(lines))
@@ -215,14 +200,12 @@ def letter(end, was_refused, answer):
 
 
 def wrong_with_call(library, call):
-    """Returns what is wrong with a call."""
     came = "".join(letter(*run, call["answer"]) for run in runs(library, call))
     # Each input is read without memory for large pieces, which is requested before all other.
     return [] if "w" in came and re.fullmatch("n*(A?[nw]+){1,%d}A*a" % call["inputs"], came) else [came]
 
 
 def wrong_with_request(library, call):
-    """Returns what is wrong with a request to the program itself."""
     *refused, (last, was_refused) = runs(library, call)
     expected = last[1] if call["output"] is None else call["output"]
     answered = not was_refused and last == (call["status"], expected, call["error"]) and (last[1] or call["output"] is not None)
@@ -230,15 +213,16 @@ def wrong_with_request(library, call):
     return wrong if answered and OUT_OF_MEMORY in [end for end, _ in refused] else [*wrong, f"nothing refused: {last}"]
 
 
-def tests(sas, *paths):
+def tests(sas, place, *paths):
     """Yields the calls of these programs, and the requests to the program itself, with each allocation refused."""
     programs = {os.path.basename(path): os.path.abspath(path) for path in paths}
-    with tempfile.TemporaryDirectory() as folder:
-        library, kinds = harness.built_library("refuse.c", folder), (refused_requests, refused_reasons, refused_traces, refused_plans)
-        requests = [request for kind in kinds for request in kind(sas, folder)]
-        for judge, calls in ((wrong_with_call, refused_calls(programs)), (wrong_with_request, requests)):
-            for call, found in harness.side_by_side(functools.partial(judge, library), calls):
-                yield call["name"], found
+    library = harness.built_library("refuse.c", place)
+    kinds = refused_requests, refused_reasons, refused_traces, refused_plans
+    requests = [request for kind in kinds for request in kind(sas, place)]
+    judged = (wrong_with_call, refused_calls(programs)), (wrong_with_request, requests)
+    for judge, calls in judged:
+        for call, found in harness.side_by_side(functools.partial(judge, library), calls):
+            yield call["name"], found
 
 
 if __name__ == "__main__":

@@ -8,19 +8,18 @@ look for them. So it has to know how many groups the map has, how many names fit
 this from the toolchain, and no promise says it: with another map all answers stay right, and a task can be written that takes a time that
 grows as the square of its size.
 
-The numbers and the fold are held against the code of the toolchain. Then SAS is run over tasks of names that begin in one group, at three
-sizes, and its instructions a byte may not grow. That needs valgrind; where it isn't there, a line says so. Each test that fails has a line,
-and the last line is 'N passed, M failed'. The exit status is 0 where none failed.
+The numbers and the fold are held against the code of the toolchain. Then SAS is run over tasks of
+names that begin in one group, at three sizes, and its instructions a byte may not grow. That needs
+valgrind; where it isn't there, a line says so.
 """
 import itertools
 import os
 import re
 import subprocess
-import tempfile
 
 import growth
 import harness
-from hard import Family, of_steps
+from hard import plan_family
 from large import task_with
 from texts import TOP, text_of
 
@@ -69,15 +68,14 @@ def gathered(size):
 
 
 SHOWS = "names that are sought through all groups that they fill"
-FAMILY = Family("names that begin in one group", SHOWS, ["plan"], of_steps(gathered), 750)
+FAMILY = plan_family(gathered, SHOWS, 750)
 
 
-def tests(sas):
+def tests(sas, place):
     yield from copied_tests()
     # the answers alone show nothing of groups
     if harness.is_there("valgrind"):
-        with tempfile.TemporaryDirectory() as folder:
-            yield from growth.judged(sas, folder, FAMILY)
+        yield from growth.judged(sas, place, FAMILY)
 
 
 if __name__ == "__main__":

@@ -6,8 +6,6 @@
 LIBRARY is the folder that library/build.py made. What the call is to answer, the library says of a plan by names: each operator of the
 task is given a name of its own first, so that a name means one number. The proofs say what is answered. They know no pointer of a
 caller's, and no header.
-
-Each test that fails has a line, and the last line is 'N passed, M failed'. The exit status is 0 where none failed.
 """
 import ctypes
 import glob
@@ -18,9 +16,9 @@ import re
 import harness
 from harness import differs
 from large import plan_text, wide_plans, wide_task
-from library import AROUND, GUARD, NO, NO_TASK, ROOM_TOO_SHORT, YES, Held
+from library import GUARD, NO, NO_TASK, ROOM_TOO_SHORT, YES, Held, Library
 from oracles.tasks import text_of
-from texts import TOP, as_bytes, bytes_of_file, table
+from texts import TOP, as_bytes, bytes_of, bytes_of_file, table
 
 # the room of a line
 ROOM = 128
@@ -31,43 +29,33 @@ LARGEST, LARGEST_COST = (1 << 32) - 1, (1 << 64) - 1
 OFTEN, LARGEST_LINE = (1 << 22) + 1, (1 << 31) - 1
 
 
-class Calls:
-    """The calls of the library in a folder that these tests make."""
-
-    def __init__(self, folder):
-        self.calls = ctypes.CDLL(os.path.join(folder, "libsas.so"))
-        self.calls.sas_task_free.restype = None
+class Calls(Library):
+    """The calls that these tests make."""
 
     def read(self, task):
         """Returns what holds a task."""
-        held, room, size = Held(), ctypes.create_string_buffer(ROOM), ctypes.c_size_t()
-        number = self.calls.sas_task_read(ctypes.byref(held), task, ctypes.c_size_t(len(task)), *into(room, ROOM, size))
-        assert number == YES, (number, room.raw[: size.value])
+        held = Held()
+        number, size, room, _ = self.call("sas_task_read", [held, task], ROOM)
+        assert number == YES, (number, room[:size])
         return held
 
     def free(self, held):
-        """Frees the task that is held."""
         self.calls.sas_task_free(ctypes.byref(held))
 
     def plan(self, held, plan):
         """Returns the answer about a plan by names: its number and its line."""
-        room, size = ctypes.create_string_buffer(ROOM), ctypes.c_size_t()
-        number = self.calls.sas_task_plan(ctypes.byref(held), plan, ctypes.c_size_t(len(plan)), *into(room, ROOM, size))
-        return number, room.raw[: size.value]
+        number, size, room, _ = self.call("sas_task_plan", [held, plan], ROOM)
+        return number, room[:size]
 
     def whole(self, held, operators, cost, length=ROOM):
-        """Makes a call by numbers with a room of so many bytes, between others. Returns its number, the size that it reports, what is in
-        the room then, and whether the bytes around the room, and the numbers, are as before."""
-        around = GUARD * AROUND
-        memory = ctypes.create_string_buffer(around + GUARD * length + around, length + 2 * AROUND)
-        size = ctypes.c_size_t(LARGEST)
+        """Makes a call by numbers with a room of so many bytes, and returns what `call` does: the
+        last is whether the bytes around the room, and the numbers, are as before."""
         # a number that would be wrong stands behind those that are given
-        given = (ctypes.c_uint32 * (len(operators) + 1))(*operators, LARGEST)
-        words = ctypes.c_size_t(len(operators)), ctypes.c_uint64(cost), ctypes.byref(memory, AROUND), ctypes.c_size_t(length)
-        number = self.calls.sas_task_plan_operators(ctypes.byref(held), given, *words, ctypes.byref(size))
-        left = memory.raw
-        is_kept = left[:AROUND] == around and left[-AROUND:] == around and [*given] == [*operators, LARGEST]
-        return number, size.value, left[AROUND : AROUND + length], is_kept
+        numbers = [*operators, LARGEST]
+        given = (ctypes.c_uint32 * len(numbers))(*numbers)
+        words = given, ctypes.c_size_t(len(operators)), ctypes.c_uint64(cost)
+        *came, is_kept = self.call("sas_task_plan_operators", [held, words], length)
+        return *came, is_kept and [*given] == numbers
 
     def by_numbers(self, held, operators, cost):
         """Returns the answer about a plan by numbers: its number and its line."""
@@ -75,11 +63,6 @@ class Calls:
         if not is_kept or room[size:] != GUARD * (ROOM - size):
             return number, b"more was written: " + room
         return number, room[:size]
-
-
-def into(room, length, size):
-    """Returns a room as a call is given it."""
-    return room, ctypes.c_size_t(length), ctypes.byref(size)
 
 
 def with_own_names(task):
@@ -111,8 +94,7 @@ def walk(calls, held, count, chance):
 def tasks():
     """Yields tasks that are layered, each with a name."""
     for path in sorted((*glob.glob(f"{TOP}/cases/tasks/*.sas"), *glob.glob(f"{TOP}/examples/*.sas"))):
-        with open(path, "rb") as file:
-            yield os.path.basename(path), file.read()
+        yield os.path.basename(path), bytes_of(path)
     for case in table("verdicts.json"):
         yield case["name"], as_bytes(case["task"])
     for width in (2, 65):
@@ -220,7 +202,6 @@ def held_tests(calls):
 
 
 def tests(folder):
-    """Yields all of these over one library."""
     calls = Calls(folder)
     for make in (line_tests, walk_tests, large_tests, room_tests, held_tests):
         yield from harness.named(make, calls)

@@ -3,9 +3,8 @@
 
     python3 cases/packages.py [TOP]
 
-TOP is the repository or an unpacked release, whose library/out/ is there; the repository where none is named. Each test that fails has
-a line, and the last line is 'N passed, M failed'. The exit status is 0 where none failed. For each tool that isn't there it prints a
-line that begins with `without`.
+TOP is the repository or an unpacked release, whose library/out/ is there; the repository where none
+is named. For each tool that isn't there it prints a line that begins with `without`.
 
 No proof knows these packages. One that names a file that isn't there, or lacks one, would be found here alone.
 """
@@ -18,44 +17,19 @@ import re
 import shlex
 import shutil
 import sys
-import tempfile
 import zipfile
 
 import harness
 from harness import c_compiler, differs, is_there, printed
-from texts import TOP, bytes_of, text_of
+from oracles.tasks import with_ends
+from texts import CASES, TOP, bytes_of, put, text_of
 
-PROJECT = """\
-cmake_minimum_required(VERSION 3.10)
-project(held C CXX)
+# lines of a project of CMake that must not find the library as another version
+OTHER_VERSION = """\
 find_package(sas 2 QUIET)
 if(sas_FOUND)
   message(FATAL_ERROR "found as version 2")
-endif()
-find_package(sas 1.1 REQUIRED)
-add_executable(held_c {top}/library/examples/held.c)
-target_link_libraries(held_c PRIVATE sas::sas)
-add_executable(held_cpp {top}/library/examples/held.cpp)
-target_link_libraries(held_cpp PRIVATE sas::static)
-add_executable(planner {here}/planner.cpp)
-target_link_libraries(planner PRIVATE sas::sas)
-"""
-# a project in C alone, and one that sets an earlier standard
-C_PROJECT = """\
-cmake_minimum_required(VERSION 3.10)
-project(held C)
-find_package(sas 1.1 REQUIRED)
-add_executable(held_c {top}/library/examples/held.c)
-target_link_libraries(held_c PRIVATE sas::static)
-"""
-EARLIER_PROJECT = """\
-cmake_minimum_required(VERSION 3.10)
-project(held CXX)
-set(CMAKE_CXX_STANDARD 11)
-find_package(sas 1.1 REQUIRED)
-add_executable(held_cpp {top}/library/examples/held.cpp)
-target_link_libraries(held_cpp PRIVATE sas::sas)
-"""
+endif()"""
 PLANNER_PRINTS = """\
 plan invalid: step 2: not applicable
 plan invalid: goal fact 0 not reached
@@ -88,12 +62,23 @@ def wrong_held(top, *command, **more):
     return differs(printed(*command, *files, **more), (0, f"{files[1]}: plan valid: 4 steps, cost 4\n"))
 
 
+def project(languages, sources, *lines):
+    """Returns a project of CMake in these languages, with these lines. Each source makes a program,
+    which is linked with a target of the library."""
+    front = ["cmake_minimum_required(VERSION 3.10)", f"project(held {languages})"]
+    made = [*front, *lines, "find_package(sas 1.1 REQUIRED)"]
+    for source, target in sources.items():
+        name = os.path.basename(source).replace(".", "_")
+        made.append(f"add_executable({name} {source})")
+        made.append(f"target_link_libraries({name} PRIVATE {target})")
+    return with_ends(made)
+
+
 def wrong_project(project, compiler, prefix, folder):
-    """Returns what is wrong with a project of CMake over the library below a prefix, which is built by this compiler of C++, if it is in
-    C++."""
+    """Returns what is wrong with a project of CMake over the library below a prefix, which this
+    compiler of C++ builds, if it is in C++."""
     os.makedirs(folder)
-    with open(os.path.join(folder, "CMakeLists.txt"), "w", encoding="utf-8") as file:
-        file.write(project)
+    put(os.path.join(folder, "CMakeLists.txt"), project)
     words = [f"-DCMAKE_PREFIX_PATH={prefix}", *([f"-DCMAKE_CXX_COMPILER={compiler}"] if compiler else [])]
     return wrong("cmake", "-S", folder, "-B", f"{folder}/build", *words) or wrong("cmake", "--build", f"{folder}/build")
 
@@ -104,14 +89,20 @@ def cmake_tests(top, prefix, place):
     if not is_there("cmake"):
         return
     plus = [it for it in ("g++", "clang++") if is_there(it)]
-    made = [("C alone", C_PROJECT, ""), *((it, PROJECT, it) for it in plus), *((f"C++11, {it}", EARLIER_PROJECT, it) for it in plus)]
-    for name, project, compiler in made:
-        folder, project = os.path.join(place, f"cmake {name}"), project.format(top=top, here=os.path.join(TOP, "cases"))
-        yield f"CMake, {name}", wrong_project(project, compiler, prefix, folder)
-        programs = re.findall(r"add_executable\((held\w*)", project)
-        yield f"CMake, {name}, {programs}", [fault for it in programs for fault in wrong_held(top, f"{folder}/build/{it}")]
-        if "planner" in project:
-            got = printed(f"{folder}/build/planner", os.path.join(top, "examples/fuses.sas"))
+    held, planner = f"{top}/library/examples/held", f"{CASES}/planner.cpp"
+    sources = {f"{held}.c": "sas::sas", f"{held}.cpp": "sas::static", planner: "sas::sas"}
+    both = project("C CXX", sources, OTHER_VERSION)
+    earlier = project("CXX", {f"{held}.cpp": "sas::sas"}, "set(CMAKE_CXX_STANDARD 11)")
+    made = [("C alone", project("C", {f"{held}.c": "sas::static"}), "")]
+    made += [(it, both, it) for it in plus] + [(f"C++11, {it}", earlier, it) for it in plus]
+    for name, text, compiler in made:
+        folder = os.path.join(place, f"cmake {name}")
+        yield f"CMake, {name}", wrong_project(text, compiler, prefix, folder)
+        programs = re.findall(r"add_executable\((held\w*)", text)
+        wrong_programs = [wrong_held(top, f"{folder}/build/{it}") for it in programs]
+        yield f"CMake, {name}, {programs}", sum(wrong_programs, [])
+        if text == both:
+            got = printed(f"{folder}/build/planner_cpp", os.path.join(top, "examples/fuses.sas"))
             yield f"CMake, {name}, a planner's loop", differs(got, (0, PLANNER_PRINTS))
 
 
@@ -174,7 +165,6 @@ def pip_tests(top, place):
 
 
 def wheel_tests(top, place):
-    """Yields the wheel, made twice."""
     held = []
     for name in ("wheel", "same wheel"):
         folder = os.path.join(place, name)
@@ -237,19 +227,12 @@ def environment_tests(top, folder, name, words):
     yield f"{name}, nothing is left", [] if sorted(os.walk(folder)) == before else ["files are left"]
 
 
-def package_tests(top, place):
-    """Yields all of these over the repository, or over an unpacked release."""
+def package_tests(place, top=TOP):
     yield from cmake_tests(top, os.path.join(top, "library/out"), place)
     yield from pkg_config_tests(top, place)
     yield from cargo_tests(top, place)
     yield from pip_tests(top, place)
 
 
-def tests(top=TOP):
-    """Yields all of these in a folder of their own."""
-    with tempfile.TemporaryDirectory() as place:
-        yield from package_tests(top, place)
-
-
 if __name__ == "__main__":
-    harness.main(tests)
+    harness.main(package_tests)

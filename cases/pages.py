@@ -56,7 +56,6 @@ def requests_of(sas):
 
 
 def flags_of(page):
-    """Returns the flags that a help names."""
     return set(re.findall(r"^ +(?:-\w, )?(--\w+) ", page.partition("Options:")[2], re.MULTILINE))
 
 
@@ -133,7 +132,6 @@ def completion_cases(requests):
 
 
 def version_cases(sas):
-    """Yields where the version stands."""
     version = printed(sas, "--version")[1].split()[-1]
     for file, pattern in (
         ("CHANGELOG.md", r"^## (\S+)"),
@@ -150,13 +148,6 @@ def version_cases(sas):
         yield f"version of {file}", [] if found and found[1] == version else [f"{found and found[1]}, not {version}"]
 
 
-def citation_cases():
-    """Yields the fields of CITATION.cff that its schema requires."""
-    text = text_of(os.path.join(TOP, "CITATION.cff"))
-    fields = ("cff-version: 1.2.0", "message: ", "title: ", "authors:\n  - name: ")
-    yield "CITATION.cff", [it for it in fields if f"\n{it}" not in f"\n{text}"]
-
-
 def link_cases(top=TOP):
     """Yields the links of each document of the repository, or of a release in a folder."""
     for document in documents(top):
@@ -165,23 +156,25 @@ def link_cases(top=TOP):
         yield f"links of {document}", [it for it in links if not os.path.exists(os.path.join(folder, it))]
 
 
-def code_cases():
-    """Yields the function that docs/ARCHITECTURE.md shows: it is that of the crate, which is proved."""
+def file_cases():
+    """Yields the fields of CITATION.cff that its schema requires, and the function that
+    docs/ARCHITECTURE.md shows: it is that of the crate, which is proved."""
+    text = text_of(os.path.join(TOP, "CITATION.cff"))
+    fields = ("cff-version: 1.2.0", "message: ", "title: ", "authors:\n  - name: ")
+    yield "CITATION.cff", [it for it in fields if f"\n{it}" not in f"\n{text}"]
     shown = re.search(r"^```rust\n(.*?)```$", text_of(os.path.join(TOP, CALLED)), re.MULTILINE | re.DOTALL)
     yield f"the function of {CALLED}", [] if shown and shown[1] in text_of(os.path.join(TOP, CALLER)) else [f"it isn't in {CALLER}"]
 
 
 def tests(sas):
-    """Yields all of these."""
     requests = requests_of(sas)
     yield from page_cases(requests)
     yield from report_cases()
     yield from diagnostic_cases()
     yield from completion_cases(requests)
     yield from version_cases(sas)
-    yield from citation_cases()
     yield from link_cases()
-    yield from code_cases()
+    yield from file_cases()
     yield from mandoc_cases()
 
 

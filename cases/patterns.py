@@ -3,9 +3,9 @@
 
     python3 cases/patterns.py
 
-The code is run, and given each answer of verdicts.json, why.json, traces.json, many.json, tasks.json and groups.json. What is
-found, put into the words of the answer again, has to give its line, and no other pattern may find anything. Each that doesn't has a
-line, and the last line is 'N passed, M failed'. The exit status is 0 where none failed.
+The code is run, and given each answer of verdicts.json, why.json, traces.json, many.json,
+tasks.json and groups.json. What is found, put into the words of the answer again, has to give its
+line, and no other pattern may find anything.
 
 No proof reads them. A pattern that takes a name for a verdict, or lacks a form of an answer, would be found here alone.
 """
@@ -43,16 +43,13 @@ def of_example():
     return module
 
 
-def of_lab():
-    """Returns the patterns that the page gives to a parser of Downward Lab."""
-    return dict(re.findall(r'parser\.add_pattern\("(\w+)", r"(.*?)", ', text_of(os.path.join(TOP, PAGE))))
-
-
 def wrong_lab(answer, name, fields):
     """Returns what is wrong with what these find in an answer about a plan, of which the verdict is known."""
     expected = {"steps": fields.get("steps"), "cost": fields.get("cost") if name == "valid" else None}
     expected["why_not"] = fields.get("reason") if fields.get("file") != "task" else None
-    found = {key: re.search(pattern, answer, re.MULTILINE) for key, pattern in of_lab().items()}
+    # the patterns that the page gives to a parser of Downward Lab
+    added = re.findall(r'parser\.add_pattern\("(\w+)", r"(.*?)", ', text_of(f"{TOP}/{PAGE}"))
+    found = {key: re.search(pattern, answer, re.MULTILINE) for key, pattern in added}
     got = {key: it and it[1] for key, it in found.items()}
     return differs(got, expected)
 
@@ -64,7 +61,6 @@ def found_by(parse, names, line):
 
 
 def wrong_line(parse, line):
-    """Returns what is wrong with what is found in a line of a verdict."""
     found = found_by(parse, VERDICTS, line)
     parts = [(line, found)]
     parts += [(it["reason"], found_by(parse, REASONS, it["reason"])) for it in found.values() if "reason" in it]
@@ -84,7 +80,6 @@ def wrong_answer(parse, answer):
 
 
 def wrong_plans(parse, lines):
-    """Returns what is wrong with what is found in an answer of `plans`."""
     answer = "".join(f"{it}\n" for it in lines)
     if len(lines) == 1:
         return wrong_line(parse, lines[0])
@@ -107,7 +102,6 @@ def wrong_runs(parse, runs):
 
 
 def wrong_groups(parse, lines):
-    """Returns what is wrong with what is found in the lines about groups."""
     found = [re.search(parse.GROUP, line) for line in lines]
     if not all(found):
         return [f"nothing found in {lines}"]
@@ -148,12 +142,10 @@ def answers():
 
 
 def wrong_refusals(parse, lines):
-    """Returns what is wrong with what is found in a refusal."""
     return [it for line in lines for it in wrong_line(parse, line)]
 
 
 def tests():
-    """Yields each answer that is looked at."""
     parse = of_example()
     for name, answer, check in answers():
         yield name, check(parse, answer)

@@ -6,11 +6,13 @@ too. The larger cases here are of a size at which such a program has no file or 
 A trace here is a task, the names of a plan's steps, which cost 1 each, and what is printed, line by line. For a small size that
 is compared with what the meaning of traces gives, and so is what is printed of plans.
 """
-from large import ALIKE, MINIMAL, PIECE, STACK, WIDTHS, alike_names, alike_task, case, plan_text, task_with, wide_plans, wide_task
+from large import ALIKE, MINIMAL, PIECE, ROOMS, STACK, WIDTHS, WRITE_FAILED, alike_names, alike_task
+from large import cut_short, plan_text, task_with, wide_plans, wide_task
 from lengthy import turning
 from oracles.plans import lines_of, summary
-from oracles.tasks import text_of, value_name
+from oracles.tasks import text_of, value_name, with_ends
 from oracles.traces import traced
+from texts import case, made_by
 
 # the length of a name that comes in the line of each of so many steps, and what memory the program has then, in bytes
 NAME, TIMES, MEMORY = 20_000, 5_000, 40_000_000
@@ -20,15 +22,14 @@ PLANS, OPERATORS, PRICES = 10_000, 100_000, 97
 ONE, FEW = 4, 16
 # how many steps a plan has that is named so often, what memory the program has then, and how often other plans are named
 LONG, AGAIN, LEAN, OFTEN = 100_000, 80, 20_000_000, 150
-# how many bytes a file may have that an output goes into
-ROOMS = (512, 51_200, 102_400)
 TRACE = ["trace", "t.sas", "p.txt"]
-DEVICES = ("full device", "closed pipe")
 
 
-def text_with(lines):
-    """These lines as a text."""
-    return "".join(f"{line}\n" for line in lines)
+def failing_writes(made):
+    """A case whose output goes into files that may have fewer bytes, and to devices that fail."""
+    yield from cut_short(made, ROOMS)
+    for device in ("full device", "closed pipe"):
+        yield {**made, "name": f"{made['name']}, {device}", "output_to": device, **WRITE_FAILED}
 
 
 def initial_lines(count):
@@ -37,12 +38,10 @@ def initial_lines(count):
 
 
 def change_line(var, value):
-    """The line of a switch that gets this value."""
     return f"change {var} {1 - value} {value} {value_name({}, var, value)}"
 
 
 def valid_line(names):
-    """The line of a valid plan with these steps."""
     return f"plan valid: {len(names)} steps, cost {len(names)}"
 
 
@@ -84,16 +83,9 @@ def storm_trace(size, storms, breezes):
 
 
 def over_trace(name, trace, **inputs):
-    """A case of a trace."""
     task, names, lines = trace
     files = {"t.sas": text_of(task), "p.txt": plan_text(names, len(names))}
-    return case(f"{name}, trace", TRACE, text_with(lines), 0, files=files, **inputs)
-
-
-def compare_traces():
-    """Compares what is printed of small traces with what their meaning gives."""
-    for task, names, lines in (still_trace(45, 3), storm_trace(1, 3, 2), storm_trace(6, 2, 5), storm_trace(7, 3, 4)):
-        assert traced(task, names, len(names)) == lines
+    return case(f"{name}, trace", TRACE, with_ends(lines), 0, files=files, **inputs)
 
 
 def limited_traces():
@@ -102,11 +94,7 @@ def limited_traces():
     made = over_trace("a storm", storm_trace(1000, 6, 20))
     assert len(made["output"]) > 2 * PIECE
     yield {**made, "name": f"{made['name']}, a small stack", "stack": STACK}
-    failed = {"status": 3, "error": "sas: write failed\n"}
-    for room in ROOMS:
-        yield {**made, "name": f"{made['name']}, into {room} bytes", "file": room, "output": made["output"][:room], **failed}
-    for device in DEVICES:
-        yield {**made, "name": f"{made['name']}, {device}", "output_to": device, **failed}
+    yield from failing_writes(made)
 
 
 def late_faults():
@@ -129,7 +117,8 @@ def wide_traces():
             lines = traced(task, names, cost)
             assert lines[-1] == said
             files, status = {"t.sas": text, "p.txt": plan_text(names, cost)}, int("invalid" in said)
-            yield case(f"{width} of everything, {said}, trace", TRACE, text_with(lines), status, files=files)
+            name = f"{width} of everything, {said}, trace"
+            yield case(name, TRACE, with_ends(lines), status, files=files)
 
 
 def piece_traces():
@@ -154,8 +143,9 @@ def named_trace():
         change = ["change 0 0 1 ", name, "\n"] if step % 2 else "change 0 1 0 off\n"
         front.append([[f"step {step} 0 1 turn\n", change], 1])
     files = {"t.sas": text_of(task), "p.txt": plan_text(["turn"] * TIMES, TIMES)}
+    inputs = {"files": files, "front": front, "memory": MEMORY}
     said = f"{valid_line(['turn'] * TIMES)}\n"
-    return case("a name in a long text, trace", TRACE, said, 0, files=files, front=front, memory=MEMORY)
+    yield case("a name in a long text, trace", TRACE, said, 0, **inputs)
 
 
 def priced_task(count):
@@ -165,7 +155,6 @@ def priced_task(count):
 
 
 def price(place):
-    """What the operator in this place costs: many cost the least."""
     return 2 + place * 31 % PRICES
 
 
@@ -185,7 +174,6 @@ def priced_plan(number, operators):
 
 
 def priced_plans(count, operators):
-    """So many of them."""
     return [priced_plan(number, operators) for number in range(count)]
 
 
@@ -196,16 +184,19 @@ def lines_about(plans):
 
 
 def over_plans(name, task, plans, lines, status=1, **inputs):
-    """A case of plans with these labels and files."""
-    labels, files = [label for label, *_ in plans], {label: text for label, text, *_ in plans}
-    words = ["plans", "t.sas", *labels]
-    return case(f"{name}, plans", words, text_with(lines), status, files={"t.sas": text_of(task), **files}, **inputs)
+    words = ["plans", "t.sas", *(label for label, *_ in plans)]
+    files = {"t.sas": text_of(task), **{label: text for label, text, *_ in plans}}
+    return case(f"{name}, plans", words, with_ends(lines), status, files=files, **inputs)
 
 
-def compare_plans():
-    """Compares what is printed of few plans with what their meaning gives."""
+def compare_small():
+    """Compares what is printed of small traces, and of few plans, with what their meaning gives."""
+    storms = storm_trace(1, 3, 2), storm_trace(6, 2, 5), storm_trace(7, 3, 4)
+    for task, names, lines in (still_trace(45, 3), *storms):
+        assert traced(task, names, len(names)) == lines
     plans = priced_plans(50, 20)
-    assert lines_of(priced_task(20), [(label, text) for label, text, *_ in plans]) == lines_about(plans)
+    given = [(label, text) for label, text, *_ in plans]
+    assert lines_of(priced_task(20), given) == lines_about(plans)
 
 
 def thousands_of_plans():
@@ -235,11 +226,7 @@ def limited_plans():
     made = over_plans("plans named again", priced_task(20), plans, lines_about(plans))
     assert len(made["output"]) > PIECE
     yield made
-    failed = {"status": 3, "error": "sas: write failed\n"}
-    for room in ROOMS:
-        yield {**made, "name": f"{made['name']}, into {room} bytes", "file": room, "output": made["output"][:room], **failed}
-    for device in DEVICES:
-        yield {**made, "name": f"{made['name']}, {device}", "output_to": device, **failed}
+    yield from failing_writes(made)
     plans = priced_plans(200, 20)
     yield over_plans("a small stack", priced_task(20), plans, lines_about(plans), stack=STACK)
 
@@ -265,16 +252,6 @@ def long_files():
 
 
 def plenty_cases():
-    """All of these."""
-    compare_traces()
-    compare_plans()
-    yield from thousands_of_plans()
-    yield from long_files()
-    yield named_trace()
-    yield from limited_traces()
-    yield from alike_plans()
-    yield from limited_plans()
-    yield from late_faults()
-    yield from wide_traces()
-    yield from wide_files()
-    yield from piece_traces()
+    compare_small()
+    yield from made_by(thousands_of_plans, long_files, named_trace, limited_traces, alike_plans)
+    yield from made_by(limited_plans, late_faults, wide_traces, wide_files, piece_traces)

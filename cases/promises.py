@@ -4,9 +4,9 @@
     python3 cases/promises.py --write    writes the tables between the two marker lines of docs/PROMISES.md
     python3 cases/promises.py            tests that they are up to date, and that each edit that the page names is there
 
-A function is public if `src/lib.rt` of its crate has or exports it, or its type or trait, or if it is exported to C. Its row
-has the first sentence of its doc comment, and for each `ensures` its name. An `ensures` without a name is shown by the definitions that
-it cites. The last line is 'N passed, M failed'.
+A function is public if `src/lib.rt` of its crate has or exports it, or its type or trait, or if it
+is exported to C. Its row has the first sentence of its doc comment, and for each `ensures` its
+name. An `ensures` without a name is shown by the definitions that it cites.
 """
 import glob
 import os
@@ -43,7 +43,6 @@ def crates():
 
 
 def exports(crate):
-    """Returns the names of the public items of a crate."""
     path = f"{TOP}/crates/{crate}/src/lib.rt"
     if not os.path.isfile(path):
         return set()
@@ -145,7 +144,6 @@ def cell(text):
 
 
 def section(crate):
-    """Returns the tables of a crate."""
     text, rows = f"\n### {crate}\n", list(functions(crate))
     if rows:
         text += "\n| Function | What it does | Clauses |\n|---|---|---|\n"
@@ -160,7 +158,6 @@ def section(crate):
 
 
 def tables():
-    """Returns what stands between the marker lines."""
     return "".join(section(crate) for crate in crates()) + "\n"
 
 
@@ -171,14 +168,12 @@ def parts():
 
 
 def write():
-    """Writes the tables anew."""
     front, _, after = parts()
     with open(PAGE, "w", encoding="utf-8") as file:
         file.write(front + BEGIN + tables() + END + after)
 
 
 def tests():
-    """Yields whether the tables are up to date, and whether the edits are there that the page names."""
     front, written, after = parts()
     expected, lines = set(tables().splitlines()), set(written.splitlines())
     differ = [f"not up to date: {it}" for it in sorted(expected ^ lines)] or ["not in order"]

@@ -7,8 +7,6 @@ commands of `python -m sas`, its tables, types and help.
 SAS is the program, and LIBRARY the folder that library/build.py made. Each function of this script that makes tests says which mistake
 they could show that no proof does: the proofs know no Python. What isn't there of mypy, numpy and other versions of Python is named in a
 line that begins with `without`.
-
-Each test that fails has a line, and the last line is 'N passed, M failed'. The exit status is 0 where none failed.
 """
 import array
 import bz2
@@ -38,9 +36,10 @@ import harness
 import run
 from harness import differs, ended, is_there
 from large import turning_files
-from library import FUSES, INPUT_TOO_LONG, LAMPS, OUT_OF_MEMORY, package_in, read, stub_library
+from library import FUSES, INPUT_TOO_LONG, LAMPS, OUT_OF_MEMORY, fault_of, package_in, read
+from library import stub_library, tests_by
 from shown import section_of, shown, transcripts
-from texts import TOP, as_bytes, table
+from texts import TOP, as_bytes, put, table
 
 SECONDS = 60
 # cases that limit the program itself, or end before their input does; a call of the library gets its input as a whole
@@ -56,7 +55,6 @@ COLUMNS = "task,plan,verdict,refused_file,steps,cost,reason"
 
 
 def value_cases():
-    """Yields the cases whose answers have values."""
     cases = (*run.verdict_cases(), *run.why_cases(), *run.trace_cases(), *run.layer_cases(), *run.refusal_cases())
     return (case for case in cases if case["status"] in (0, 1) and not case.get("front") and case["words"][0] in ("plan", "trace", "check"))
 
@@ -81,7 +79,6 @@ def fact_line(fact):
 
 
 def trace_lines(answer):
-    """Yields the lines of a trace before its verdict, made of values."""
     for fact in answer.initial:
         yield b"initial " + fact_line(fact)
     for number, step in enumerate(answer.trace_steps, 1):
@@ -90,7 +87,6 @@ def trace_lines(answer):
 
 
 def cause_lines(cause):
-    """Yields the lines of a cause."""
     yield b"requires " + fact_line(cause.required)
     yield b"actual " + fact_line(cause.actual)
     yield b"since step %d %s" % cause.since if cause.since else b"since the initial state"
@@ -197,7 +193,7 @@ def number_tests(_, sas, __):
     forms = {"a list": numbers, "a tuple": tuple(numbers), "an iterator": iter(numbers), "an array": packed, "a view": memoryview(packed)}
     forms.update({"read-only": memoryview(packed.tobytes()).cast("I"), "an odd place": odd, "backwards": backwards})
     forms.update({"64 bits": array.array("Q", numbers), "8 bits": array.array("B", numbers), "other bytes": memoryview(bytes(numbers))})
-    forms.update({f"numpy, {kind}": numpy_array(numbers, kind) for kind in (("uint32", "int64", ">u4") if is_module("numpy") else ())})
+    forms.update(numpy_arrays(numbers))
     is_ready = importlib.import_module("sas._library")._is_ready
     with sas.Task(task) as held:
         for name, form in forms.items():
@@ -232,18 +228,14 @@ def number_tests(_, sas, __):
         yield f"what a task of a file says, {path}", [] if of_file == f"<sas.Task of '{path}': {said}" else [of_file]
 
 
-def is_module(name):
-    """Whether a module is there. If it isn't, that is printed."""
+def numpy_arrays(numbers):
+    """Returns arrays of numpy with these numbers, by their types; none where it isn't there."""
     try:
-        importlib.import_module(name)
-        return True
+        array_of = importlib.import_module("numpy").array
     except ImportError:
-        print(f"without {name}")
-        return False
-
-
-def numpy_array(numbers, kind):
-    return importlib.import_module("numpy").array(numbers, dtype=kind)
+        print("without numpy")
+        return {}
+    return {f"numpy, {it}": array_of(numbers, dtype=it) for it in ("uint32", "int64", ">u4")}
 
 
 COMPRESS = {".gz": gzip.compress, ".bz2": bz2.compress, ".xz": lzma.compress}
@@ -255,15 +247,9 @@ def compressed_files(folder):
     for suffix, compress in {"": bytes, **COMPRESS, ".other": gzip.compress}.items():
         pair = [os.path.join(folder, f"{name}{suffix}") for name in ("output.sas", "sas_plan")]
         for path, source in zip(pair, FUSES_FILES):
-            write(path, compress(read(source)))
+            put(path, compress(read(source)))
         pairs.append(pair)
     return pairs
-
-
-def write(path, held):
-    with open(path, "wb") as file:
-        file.write(held)
-    return path
 
 
 def file_tests(_, sas, folder):
@@ -274,12 +260,12 @@ def file_tests(_, sas, folder):
         with sas.Task.from_file(os.fsencode(task)) as held:
             yield f"a task of a file, {name}", differs(held.plan(read(f"{FUSES}.plan")), (True, VALID))
     parts = (gzip.compress(line) for line in read(f"{FUSES}.plan").splitlines(keepends=True))
-    several = write(os.path.join(folder, "several.gz"), b"".join(parts))
+    several = put(os.path.join(folder, "several.gz"), b"".join(parts))
     yield "files, several parts", differs(sas.plan_files(FUSES_FILES[0], several), (True, VALID))
     for suffix, compress in COMPRESS.items():
         held = compress(read(f"{FUSES}.sas"))
         for name, damaged in (("cut off", held[:-3]), ("changed", held[:-12] + b"\x55" * 12), ("begun", held[:6])):
-            path = write(os.path.join(folder, f"damaged{suffix}"), damaged)
+            path = put(os.path.join(folder, f"damaged{suffix}"), damaged)
             fault = fault_of(lambda path=path: sas.Task.from_file(path))
             well = isinstance(fault, OSError) and fault.filename == path and "damaged" in str(fault)
             yield f"a file that is {name}, {suffix}", [] if well else [f"{fault!r}"]
@@ -318,7 +304,8 @@ def limit_tests(_, sas, folder):
     for word in ("", "x", "-1", "1e9"):
         yield f"--max-bytes {word}", [] if tables(sas, *FUSES_FILES, f"--max-bytes={word}").returncode == 2 else ["it isn't refused"]
     for suffix, compress in COMPRESS.items():
-        held = write(os.path.join(folder, f"gigabytes{suffix}"), compress(bytes(PART)) * (GIGABYTES * (1 << 30) // PART))
+        parts = compress(bytes(PART)) * (GIGABYTES * (1 << 30) // PART)
+        held = put(os.path.join(folder, f"gigabytes{suffix}"), parts)
         ran = limited(sas, 150, "-m", "sas", "table", FUSES_FILES[0], held, "--max-bytes", str(PART))
         well = ran.stdout.endswith(b"plan: input too long\n") and os.path.getsize(held) < LARGEST_PACKED
         yield f"gigabytes in a file, {suffix}", [] if well else [f"{ran}, {os.path.getsize(held)}"]
@@ -329,7 +316,6 @@ GIGABYTES, PART, LARGEST_PACKED = 2, 1 << 24, 3_000_000
 
 
 def limited(sas, megabytes, *words):
-    """Runs Python with so much memory."""
     return ended("sh", "-c", f'ulimit -v {megabytes}000; exec "$@"', "", sys.executable, *words, env=environment(sas))
 
 
@@ -351,7 +337,8 @@ def answer_tests(_, sas, folder):
             yield f"max_answer_bytes={most}, {name}", [] if well else [f"{fault!r}"]
         fault = fault_of(partial(call, max_answer_bytes=-1))
         yield f"max_answer_bytes=-1, {name}", [] if type(fault) is ValueError else [f"{fault!r}"]
-    paths = [write(os.path.join(folder, name), file) for name, file in zip(("t.sas", "p"), turning_files(1000, 240, 700, 350))]
+    files = zip(("t.sas", "p"), turning_files(1000, 240, 700, 350))
+    paths = [put(os.path.join(folder, name), file) for name, file in files]
     for request in ("trace", "plan_why"):
         ran, size = limited(sas, 420, "-c", LIMITED_CALL, request, *paths), len(getattr(sas, request)(*map(read, paths)).text)
         well = ran.stdout == b"%d %d\n" % (size, size) and size > 170_000_000
@@ -369,14 +356,6 @@ def size_of(call, *files):
 task, plan = (open(path, "rb").read() for path in sys.argv[2:])
 print(size_of(getattr(sas, sys.argv[1]), task, plan), size_of(getattr(sas.Task(task), sys.argv[1]), plan))
 """
-
-def fault_of(call):
-    """Returns the exception that a call ends with."""
-    try:
-        return call()
-    except Exception as exception:  # pylint: disable=broad-except
-        return exception
-
 
 def forked(main, case, place):
     """Returns how a command ends in a process of its own: its status, standard output and standard error."""
@@ -405,7 +384,7 @@ def wrong_command(main, case, folder):
     for name in os.listdir(folder):
         os.remove(os.path.join(folder, name))
     for name, text in case.get("files", {}).items():
-        write(os.path.join(os.fsencode(folder), as_bytes(name)), as_bytes(text))
+        put(os.path.join(os.fsencode(folder), as_bytes(name)), as_bytes(text))
     return list(run.differences(case, forked(main, case, folder if "files" in case else TOP)))
 
 
@@ -430,7 +409,6 @@ def with_folder(cases, empty):
 
 
 def table_cases(cases, name):
-    """Returns those of the cases that are of a table."""
     names = {made["name"] for made in table(name)}
     return [case for case in cases if case["name"].rpartition(", plan ")[0] in names]
 
@@ -450,12 +428,10 @@ BY_PATH = "import runpy, sys; sys.path.insert(0, sys.argv.pop(1)); runpy.run_mod
 
 
 def environment(sas):
-    """Returns an environment in which the package is imported."""
     return {**os.environ, "PYTHONPATH": os.path.dirname(os.path.dirname(sas.__file__))}
 
 
 def tables(sas, *words, **more):
-    """Runs `python -m sas table` with these words."""
     return ended(sys.executable, "-m", "sas", "table", *words, env=environment(sas), **more)
 
 
@@ -482,7 +458,7 @@ def make_runs(folder):
         os.makedirs(os.path.join(folder, place))
         for name, held in files.items():
             path = os.path.join(folder, place, name)
-            os.symlink("none", path) if held is None else write(path, held)
+            os.symlink("none", path) if held is None else put(path, held)
     layers, damaged = ("refused", "task", "", "", "rule 0: layer order"), "plan: the compressed file is damaged"
     return [
         ("a/output.sas", "a/sas_plan.1", "invalid", "", "", "", "cost is 4, not 5"),
@@ -526,7 +502,7 @@ def many_tests(sas, folder):
     """Yields tables of more plans than a process judges at a time, of a task that is a file, and of one that can be read only once."""
     many = [os.path.join(folder, f"plan.{number}") for number in range(450)]
     for path in many:
-        write(path, read(f"{FUSES}.plan") if path[-1] != "7" else b"")
+        put(path, read(f"{FUSES}.plan") if path[-1] != "7" else b"")
     for jobs in ("1", "3"):
         ran = tables(sas, FUSES_FILES[0], *many, "--jobs", jobs)
         lines = [f"{FUSES_FILES[0]},{path}," + ("refused,plan,,,line 1: end" if path[-1] == "7" else "valid,,4,4,") for path in many]
@@ -589,7 +565,7 @@ def crash_tests(_, sas, folder):
         ("one that does without", "try:\n    import sas\nexcept ImportError:\n    raise KeyError(1) from None", "KeyError: 1"),
     ):
         os.mkdir(os.path.join(folder, name.partition(" ")[0]))
-        write(os.path.join(folder, name.partition(" ")[0], "__init__.py"), code.encode())
+        put(os.path.join(folder, name.partition(" ")[0], "__init__.py"), code.encode())
         ran = ended(sys.executable, "-m", name.partition(" ")[0], env=without, cwd=folder)
         last = ran.stderr.decode().splitlines()[-1]
         yield f"no library, {name}", [] if ran.returncode == 1 and last.startswith(said) else [f"{ran}"]
@@ -637,7 +613,7 @@ def deep_tests(sas, folder):
         deep += "/d"
         os.mkdir(deep)
     for name, source in zip(("output.sas", "sas_plan"), FUSES_FILES):
-        write(os.path.join(deep, name), read(source))
+        put(os.path.join(deep, name), read(source))
     ran = tables(sas, os.path.join(folder, "deep"))
     row = f"{COLUMNS}\n{deep}/output.sas,{deep}/sas_plan,valid,,4,4,\n".encode()
     yield "deep folders", differs((ran.returncode == 0, ran.stdout), (True, row))
@@ -650,7 +626,7 @@ def interrupt_tests(_, sas, folder):
     that hangs or leaves processes behind, rows that are lost with others, a traceback, and progress among the rows."""
     plans = [os.path.join(folder, f"plan.{number}") for number in range(450)]
     for path in plans:
-        write(path, read(f"{FUSES}.plan"))
+        put(path, read(f"{FUSES}.plan"))
     # it waits at this plan, which is a pipe that nobody writes
     os.remove(plans[WAITS])
     os.mkfifo(plans[WAITS])
@@ -691,7 +667,6 @@ def begun(sas, plans, jobs):
 
 
 def children_of(process):
-    """Returns the processes that a process has begun."""
     return list(map(int, read(f"/proc/{process.pid}/task/{process.pid}/children").split()))
 
 
@@ -756,8 +731,8 @@ def report_tests(_, sas, folder):
     shutil.copytree(os.path.dirname(sas.__file__), os.path.join(folder, "sas"), ignore=shutil.ignore_patterns("report", "__pycache__"))
     env = {**os.environ, "PYTHONPATH": folder, "LIBSAS": importlib.import_module("sas._library")._LIBRARY._name}
     os.mkdir(os.path.join(folder, "sas/report"))
-    write(os.path.join(folder, "sas/report/__init__.py"), b"")
-    write(os.path.join(folder, "sas/report/command.py"), REPORT.encode())
+    put(os.path.join(folder, "sas/report/__init__.py"), b"")
+    put(os.path.join(folder, "sas/report/command.py"), REPORT.encode())
     ran = ended(sys.executable, "-m", "sas", "report", "-o", "page.html", env=env)
     yield "a report", [] if (ran.returncode, ran.stdout) == (7, b"['-o', 'page.html'] True\n") else [f"{ran}"]
 
@@ -767,7 +742,7 @@ def type_tests(_, sas, folder):
     that a program doesn't see."""
     package = os.path.dirname(sas.__file__)
     program = os.path.join(folder, "program.py")
-    write(program, TYPED.encode())
+    put(program, TYPED.encode())
     if not is_there("mypy"):
         return
     # reports are a command, not a module to import
@@ -856,34 +831,16 @@ def guide_tests(program, sas, folder):
 
 
 TESTS = (
-    value_tests,
-    later_tests,
-    none_tests,
-    number_tests,
-    file_tests,
-    limit_tests,
-    answer_tests,
-    stream_tests,
-    command_tests,
-    table_tests,
-    fault_tests,
-    crash_tests,
-    interrupt_tests,
-    report_tests,
-    type_tests,
-    help_tests,
-    version_tests,
-    guide_tests,
+    value_tests, later_tests, none_tests, number_tests, file_tests, limit_tests, answer_tests,
+    stream_tests, command_tests, table_tests, fault_tests, crash_tests, interrupt_tests,
+    report_tests, type_tests, help_tests, version_tests, guide_tests,
 )
 
 
 def tests(program, folder):
     """Yields all of these over one package, each kind in a folder of its own."""
     os.chdir(TOP)
-    sas = package_in(folder)
-    for make in TESTS:
-        with tempfile.TemporaryDirectory() as place:
-            yield from harness.named(make, program, sas, place)
+    yield from tests_by(TESTS, program, folder, package_in)
 
 
 if __name__ == "__main__":

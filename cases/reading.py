@@ -15,8 +15,8 @@ import sys
 
 import harness
 from harness import differs
+from texts import TOP, bytes_of_file
 
-TOP = os.path.dirname(os.path.dirname(os.path.abspath(__file__)))
 PAGES = ("docs/READING.md", "docs/PROMISES.md")
 STARTS = 16
 # what rests on these files has to be believed for `plan valid`, in at most so many lines
@@ -33,8 +33,7 @@ SUM = re.compile(r"(\d+) for `plan valid`")
 
 def text_of(path):
     """Returns the text of a file, which is named from the top of the repository."""
-    with open(f"{TOP}/{path}", encoding="utf-8") as file:
-        return file.read()
+    return bytes_of_file(path).decode()
 
 
 def imported(path):
@@ -102,7 +101,6 @@ def wrong_sum(reading):
 
 
 def print_closure(path):
-    """Prints the files that a definition rests on, each with its lines."""
     sizes = {path: size(path) for path in closure(path)}
     for path, lines in sizes.items():
         print(f"{lines:4} {path}")
@@ -110,7 +108,6 @@ def print_closure(path):
 
 
 def tests():
-    """Yields all that the pages say of files."""
     reading = "".join(map(text_of, PAGES))
     sections = list(wrong_sections(reading))
     starts = [start for _, found, _ in sections for start in found]

@@ -4,7 +4,8 @@ import random
 import re
 
 from oracles.refusals import EFFECT, FACT, HEAD, MOST, refusal, task_slots
-from texts import bytes_of_file, table
+from oracles.tasks import with_ends
+from texts import bytes_of_file, case, table
 
 SEED = 6
 # the tasks of which each line is changed, and each end; a plan, and how many tasks and plans are changed at random
@@ -27,14 +28,12 @@ SPELLINGS = [b"-1", b"-0", b"-2", b"00", b"01", b"+1", b"1 ", b" 1", b"1 1", b"1
 
 
 def near_word(expected):
-    """Returns texts that are nearly this word."""
     word = expected.encode()
     near = [word[:-1], word[1:], word + b" ", b" " + word, word + b"s", word.upper(), word + b"\r\r"]
     return [*near, b"begin_goal", b"end_rule", b"0", b"-1"]
 
 
 def near_number(expected):
-    """Returns texts that are nearly such a number."""
     least, most = map(int, re.findall(r"-?[0-9]+", expected))
     return [*SPELLINGS, b"%d" % (least - 1), b"%d" % (most + 1), b"%d" % most, b"%d " % least, b"0%d" % most]
 
@@ -136,7 +135,6 @@ def spoiled(chance, text):
 
 
 def near_steps():
-    """Returns lines of plans, most of which may not stand there."""
     steps = [b"()", b"(", b")", b"(a", b"a)", b"(a\rb)", b"(\r)", b"(a) ", b" (a)", b"(a)\r", b"(a", b"(" + ODD, b"(" + ODD + b")"]
     costs = (b"-1", b"01", b"00", b"", b"+1", b"1 ", b" 1", b"18446744073709551615", b"18446744073709551616", b"1" * 64)
     kinds = (b"(unit cost", b"(Unit cost)", b"(unit cost) ", b" (unit cost)", b"(cost)", b"(general cost)\rx", b"")
@@ -147,7 +145,6 @@ def near_steps():
 
 
 def damaged_plans():
-    """Yields plans that are damaged in each way."""
     lines = PLAN.splitlines()
     for place in range(len(lines)):
         for number, text in enumerate(near_steps()):
@@ -159,7 +156,6 @@ def damaged_plans():
 
 
 def damaged_tasks():
-    """Yields tasks that are damaged in each way."""
     yield from damaged_lines()
     for file in ENDS_OF:
         for ends, end in (("LF", b"\n"), ("CR LF", b"\r\n")):
@@ -173,8 +169,8 @@ def damaged_tasks():
 
 def case_of(name, words, lines, **inputs):
     """Returns the case of a request about a file that is refused, with `--why`."""
-    output = "".join(f"{line}\n" for line in lines)
-    return {"name": f"{name}, {' '.join(words)} --why", "words": [*words, "--why"], "output": output, "status": 1, **inputs}
+    words = [*words, "--why"]
+    return case(f"{name}, {' '.join(words)}", words, with_ends(lines), 1, **inputs)
 
 
 def refusal_cases():
@@ -184,9 +180,9 @@ def refusal_cases():
         lines = refusal("task", text)
         if lines:
             request = ("check", "print", "show", "mutex", "plan")[number % 5]
-            words = [request, "-", "p.txt"] if request == "plan" else [request, "-"]
-            files = {"files": {"p.txt": "x"}} if request == "plan" else {}
-            yield case_of(about, words, lines, input=text, **files)
+            plan = {"p.txt": "x"} if request == "plan" else {}
+            files = {"files": plan} if plan else {}
+            yield case_of(about, [request, "-", *plan], lines, input=text, **files)
     for number, (about, text) in enumerate(damaged_plans()):
         lines = refusal("plan", text)
         if lines:

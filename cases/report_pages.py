@@ -10,8 +10,8 @@ states of random plans with axioms, which fail at each step, against `sas trace`
 filters, links, several plans, paper and the dark; and a plan of 100,000 steps over 5,000 variables, whose bounds are some times what it
 takes. For a browser that isn't there it prints a line that begins with `without`.
 
-Each test that fails has a line, and the last line is 'N passed, M failed'. The exit status is 0 where none failed. No proof knows these
-pages. One that shows another state than the trace, or runs what a name says, would be found here alone.
+No proof knows these pages. One that shows another state than the trace, or runs what a name says,
+would be found here alone.
 """
 import contextlib
 import functools
@@ -39,7 +39,7 @@ from large import turning_files
 from oracles.refusals import HINTS
 from oracles.tasks import plan_text, text_of as task_text
 from oracles.traces import folded
-from texts import TOP, as_bytes, bytes_of_file, text_of, with_line
+from texts import TOP, as_bytes, bytes_of_file, put, table, text_of, with_line
 from walks import operated_task, walk
 
 sys.path.insert(0, os.path.join(TOP, "bench"))
@@ -60,59 +60,7 @@ HARM = "</script><script>document.title='harm'</script><img src=x onerror=\"docu
 NAMES = (HARM, "&lt;b&gt;", "a\u202eb\u2066c", "\x1b[31mred", "'\"`${1}{{data}}", "constructor", "__proto__", "x" * 300, "é ✓", "%s \\1")
 
 # the forms of lines that docs/MEANING.md, docs/WHY.md and docs/FORMATS.md list
-FORMS = [*"""\
-plan valid: S steps, cost C
-plan invalid: step S: no operator of that name
-plan invalid: step S: not applicable
-plan invalid: step S: conflicting effects
-plan invalid: goal fact I not reached
-plan invalid: cost is SUM, not COST
-plan refused: line L: WORD
-task refused: line L: WORD
-operator I: effect on derived variable
-rule I: not on a derived variable
-rule I: old value
-rule I: two values
-rule I: layer order
-step S NAME
-similar operator I line L NAME
-K of N steps name no operator
-operator I line L
-effect D sets FACT
-K of N goal facts fail
-goal fact I
-metric M
-steps S
-sum of cost lines N
-step T could also be operator J
-requires FACT
-actual FACT
-since step T NAME
-since the initial state
-rule R derives FACT
-rule R requires FACT
-no rule derives it
-operator I line L NAME
-rule I line L derives FACT
-old value FACT
-default value FACT
-on layer A
-condition C requires FACT
-at PLACE
-line L counts N
-expected begin_variable
-expected a name
-expected number A to B
-expected fact: VAR VALUE
-expected head: VAR OLD NEW
-expected effect: COUNT, COUNT times VAR VALUE, VAR OLD NEW
-expected (NAME) or ; cost = N (unit cost) or ; cost = N (general cost)
-expected end of file
-number K must be A to B
-found TEXT
-empty line
-end of file
-unfinished TEXT""".splitlines(), *(f"hint {words}" for words in HINTS)]
+FORMS = [*table("reason_forms.json"), *(f"hint {words}" for words in HINTS)]
 
 
 def example(name):
@@ -139,10 +87,7 @@ class Reports:
         self.count += 1
         os.mkdir(place)
         pairs = [("t.sas", task), *(plan if isinstance(plan, tuple) else (f"p.{i}", plan) for i, plan in enumerate(plans, 1))]
-        for name, data in pairs:
-            with open(os.path.join(place, name), "wb") as file:
-                file.write(data)
-        return [os.path.join(place, name) for name, _ in pairs]
+        return [put(os.path.join(place, name), data) for name, data in pairs]
 
     def page(self, task, *plans, module=None):
         """Returns the path of a report, and the exit status."""
@@ -152,7 +97,6 @@ class Reports:
         return page, self.main([*paths, "-o", page, *words], module)
 
     def run(self, *words, **more):
-        """Runs the command, and returns how it ended."""
         return ended(*self.command, *words, **more)
 
     def printed(self, request, *paths):
@@ -241,8 +185,7 @@ def signals(reports):
     folder, wrong = os.path.dirname(task), []
     place, waiting = os.path.join(folder, "temporary"), os.path.join(folder, "waiting")
     os.mkdir(place)
-    with open(waiting, "w", encoding="ascii") as file:
-        file.write(WAITING)
+    put(waiting, WAITING)
     os.chmod(waiting, 0o755)
     for name in ("TERM", "HUP", "INT", "KILL"):
         env = {**os.environ, "TMPDIR": place, "SIGNAL": name, "SAS": reports.sas}
@@ -326,7 +269,7 @@ def answers(reports):
     """Returns files with the lines that `plan --why` prints of them, of which each has a form of line that those before lack; and the
     forms that none has."""
     forms = {form: re.compile(re.sub(r"\b[A-Z]+\b", ".+", re.escape(form).replace("PDDL", "pddl"))) for form in FORMS}
-    kinds = why.written_cases(), why.verdict_cases(), why.refused_cases(), why.walked_cases(), itertools.islice(why.random_cases(), 4000)
+    kinds = why.written_cases(), why.shared_cases(), itertools.islice(why.random_cases(), 4000)
     listed = (case for case in itertools.chain(*kinds) if case["words"][1] == "--why" and case["status"] == 1)
     given = ((case["files"]["t.sas"], case["files"]["p.txt"]) for case in listed)
     chosen = []
@@ -673,15 +616,11 @@ def paper(browser, reports):
     return wrong + differs(heading(browser)[:6], "Step 2", "a key after that")
 
 
-def large_files():
-    """Returns the files of 100,000 steps over 5,000 variables."""
-    domain = Gripper(4997)
-    return "".join(task_pieces(domain)).encode(), "".join(plan_pieces(domain.plan(100000))).encode()
-
-
 def large_report(reports):
     """A large report takes little processor time and memory, and is small."""
-    task, plan = reports.files(*large_files())
+    domain = Gripper(4997)
+    pieces = task_pieces(domain), plan_pieces(domain.plan(100000))
+    task, plan = reports.files(*("".join(it).encode() for it in pieces))
     page = os.path.join(os.path.dirname(task), "report.html")
     process = subprocess.Popen([*reports.command, task, plan, "-o", page, "--sas", reports.sas])
     _, status, used = os.wait4(process.pid, 0)
@@ -741,21 +680,21 @@ def tried(test, *given):
     return name, wrong
 
 
-def tests(sas, *command):
-    """Yields all of these, with each browser that is there."""
-    with tempfile.TemporaryDirectory() as folder:
-        reports = Reports(sas, command or [sys.executable, os.path.join(TOP, "report", "sas-report")], folder)
-        for test in ALONE:
-            yield tried(test, reports)
-        chosen, missing = answers(reports)
-        chosen = [(task, plan, lines, *reports.page(task, plan)) for task, plan, lines in chosen]
-        yield tried(every_line, reports, chosen, missing)
-        for kind in (Chromium, Firefox):
-            if all([is_there(it) for it in kind.NEEDS]):
-                with tempfile.TemporaryDirectory(ignore_cleanup_errors=True) as profile, contextlib.closing(kind(profile)) as browser:
-                    yield tried(lines_in, browser, reports, chosen)
-                    for test in IN_BROWSER:
-                        yield tried(test, browser, reports)
+def tests(sas, place, *command):
+    own = [sys.executable, os.path.join(TOP, "report", "sas-report")]
+    reports = Reports(sas, command or own, place)
+    for test in ALONE:
+        yield tried(test, reports)
+    chosen, missing = answers(reports)
+    chosen = [(task, plan, lines, *reports.page(task, plan)) for task, plan, lines in chosen]
+    yield tried(every_line, reports, chosen, missing)
+    for kind in (Chromium, Firefox):
+        if all([is_there(it) for it in kind.NEEDS]):
+            profile = tempfile.mkdtemp(dir=place)
+            with contextlib.closing(kind(profile)) as browser:
+                yield tried(lines_in, browser, reports, chosen)
+                for test in IN_BROWSER:
+                    yield tried(test, browser, reports)
 
 
 if __name__ == "__main__":

@@ -65,9 +65,10 @@ program.json: words and devices, by these names.
     status       the exit status
     error        standard error, exactly; null: some text about the words, no line of the program's own; left out: nothing
 
-texts.py defines what a text is. A case without `files` runs at the top of the repository. A case is run as soon as it is made, and each
-that fails has a line once those before it have ended. The last line is 'N passed, M failed'. The exit status is 0 where none failed.
+texts.py defines what a text is. A case without `files` runs at the top of the repository. A case is
+run as soon as it is made, and each that fails has a line once those before it have ended.
 """
+import contextlib
 import itertools
 import os
 import subprocess
@@ -82,21 +83,18 @@ from layered import layer_cases
 from lengthy import lengthy_cases
 from many import plans_cases
 from oracles.group_reasons import with_all_reasons
+from oracles.tasks import with_ends
 from plenty import plenty_cases
 from refusals import refusal_cases
-from texts import TOP, as_bytes, changed_lines, early_end, table
+from texts import TOP, as_bytes, bytes_of, changed_lines, early_end, made_by, put, table
 from traces import trace_cases
 from walks import walked_plans
 from why import why_cases
 
 SECONDS = 60
 # what a case may limit, in bytes or files: how many of them a unit of it is, and what the shell sets it by
-LIMITS = (
-    ("memory", 1024, "ulimit -v {}"),
-    ("stack", 1024, "ulimit -s {}"),
-    ("file", 512, "trap '' XFSZ; ulimit -f {}"),
-    ("open", 1, "ulimit -n {}"),
-)
+LIMITS = [("memory", 1024, "ulimit -v {}"), ("stack", 1024, "ulimit -s {}")]
+LIMITS += [("file", 512, "trap '' XFSZ; ulimit -f {}"), ("open", 1, "ulimit -n {}")]
 # what would limit an emulator, which has memory of its own
 UNEMULATED = ("memory", "stack")
 CLOSING = {"input": "exec <&-", "output": "exec >&-", "error": "exec 2>&-"}
@@ -113,13 +111,7 @@ def refused(what, fault):
 
 
 def checked(fault):
-    """Returns what `check` prints of a task with this fault of its layers, or with none, and its status."""
     return refused("task", fault) if fault else {"output": "task layered\n", "status": 0}
-
-
-def lines_of(lines):
-    """Returns lines, each ended by LF."""
-    return "".join(f"{line}\n" for line in lines).encode("latin-1")
 
 
 def whole_cases():
@@ -128,8 +120,8 @@ def whole_cases():
     for task in table("tasks.json"):
         name, held = task["file"], as_bytes({"file": task["file"]})
         returns = held.replace(b"\n", b"\r\n")
-        shown, groups = as_bytes({"summary": {"file": name}}), lines_of(task["mutex"])
-        assert "show" not in task or lines_of(task["show"]) == shown, (name, shown)
+        shown, groups = as_bytes({"summary": {"file": name}}), as_bytes(with_ends(task["mutex"]))
+        assert "show" not in task or with_ends(task["show"]).encode() == shown, (name, shown)
         layered = 0 if task["check"] == "task layered" else 1
         exclusive = 0 if all(line.endswith(" exclusive") for line in task["mutex"]) else 1
         for ends, given in (("LF", held), ("CR LF", returns)):
@@ -174,8 +166,7 @@ def plan_cases(folder):
     plan files, and an input that is taken for the other one."""
     for number, plan in enumerate(table("plans.json")):
         path, held = os.path.join(folder, f"{number}.plan"), as_bytes(plan["plan"])
-        with open(path, "wb") as file:
-            file.write(held)
+        put(path, held)
         answer = {"output": plan["output"], "status": plan["status"]}
         yield {"name": plan["name"] + ", from a file", "words": ["steps", path], **answer}
         yield {"name": plan["name"] + ", from standard input", "words": ["steps", "-"], "input": held, **answer}
@@ -220,13 +211,11 @@ def family_cases():
 
 
 def held_by(case):
-    """Returns what the file holds that a case is about."""
     if "input" in case:
         return case["input"]
     if "files" in case:
         return case["files"]["t.sas"]
-    with open(case["words"][-1], "rb") as file:
-        return file.read()
+    return bytes_of(case["words"][-1])
 
 
 def with_why(case):
@@ -237,15 +226,10 @@ def with_why(case):
     return {**case, "name": f"{case['name']}, with --why", "words": [request, "--why", *words], "output": output}
 
 
-def closed_pipe():
-    """Returns the end for writing of a pipe whose other end is closed."""
-    reading, writing = os.pipe()
-    os.close(reading)
-    return writing
-
-
-# made before any other process is: one that was begun while both ends were open would hold the other end for a while
-CLOSED_PIPE = closed_pipe()
+# The end for writing of a pipe whose other end is closed. It is made before any other process is:
+# one that was begun while both ends were open would hold the other end for a while.
+READING, CLOSED_PIPE = os.pipe()
+os.close(READING)
 
 
 def output_device(case, folder):
@@ -273,11 +257,9 @@ def command_of(program, case, folder):
 
 def leave_open(process, given):
     """Writes the bytes, and waits for the end of the program while its input is still open."""
-    try:
+    with contextlib.suppress(BrokenPipeError):
         process.stdin.write(given)
         process.stdin.flush()
-    except BrokenPipeError:
-        pass
     process.wait(SECONDS)
 
 
@@ -285,13 +267,11 @@ def stream(process, parts):
     """Writes each of these texts so many times. A program that doesn't take them is ended, or this would wait for it."""
     timer = threading.Timer(SECONDS, process.kill)
     timer.start()
-    try:
+    with contextlib.suppress(BrokenPipeError):
         for text, times in parts:
             piece = as_bytes(text)
             for _ in range(times):
                 process.stdin.write(piece)
-    except BrokenPipeError:
-        pass
     timer.cancel()
 
 
@@ -323,7 +303,6 @@ def compared(process, parts):
 
 
 def answer_of(program, case, folder, place):
-    """Runs the program on a case. Returns its exit status, standard output and standard error."""
     given = as_bytes(case.get("input", ""))
     output = output_device(case, place)
     pipe = subprocess.PIPE
@@ -351,7 +330,6 @@ def answer_of(program, case, folder, place):
 
 
 def differences(case, answer):
-    """Yields what is wrong with an answer."""
     status, written, said = answer
     error = case.get("error", "")
     if status != case["status"]:
@@ -367,11 +345,8 @@ def differences(case, answer):
 def feed(pipes):
     """Writes named pipes, one after another. It waits at each until the other end is open."""
     for path, held in pipes:
-        try:
-            with open(path, "wb", buffering=0) as pipe:
-                pipe.write(held)
-        except BrokenPipeError:
-            pass
+        with contextlib.suppress(BrokenPipeError), open(path, "wb", buffering=0) as pipe:
+            pipe.write(held)
 
 
 def answer_beside_pipes(program, case, folder, place):
@@ -397,8 +372,7 @@ def answer_among(program, case, folder):
         return answer_of(program, case, folder, TOP)
     with tempfile.TemporaryDirectory() as place:
         for name, text in case["files"].items():
-            with open(os.path.join(os.fsencode(place), as_bytes(name)), "wb") as file:
-                file.write(as_bytes(text))
+            put(os.path.join(os.fsencode(place), as_bytes(name)), as_bytes(text))
         return answer_beside_pipes(program, case, folder, place)
 
 
@@ -416,9 +390,8 @@ def made_cases(folder):
     files = [*whole_cases(), *line_cases(), *plan_cases(folder), *group_cases()]
     yield from files
     yield from map(with_why, files)
-    yield from cut_cases()
-    for made in (verdict_cases, why_cases, trace_cases, plans_cases, family_cases, reason_cases, layer_cases, refusal_cases):
-        yield from made()
+    yield from made_by(cut_cases, verdict_cases, why_cases, trace_cases, plans_cases)
+    yield from made_by(family_cases, reason_cases, layer_cases, refusal_cases)
 
 
 def cases_in(folder, one_of=1):
@@ -426,8 +399,7 @@ def cases_in(folder, one_of=1):
     meanwhile."""
     yield from table("program.json")
     yield from itertools.islice(made_cases(folder), 0, None, one_of)
-    for large in (large_cases, plenty_cases, lengthy_cases):
-        yield from large()
+    yield from made_by(large_cases, plenty_cases, lengthy_cases)
 
 
 def judged(program, emulator=(), words=(), one_of=1):
@@ -441,7 +413,6 @@ def judged(program, emulator=(), words=(), one_of=1):
 
 
 def tests(sas, *words, under=None):
-    """Yields the cases, run by this program or under this emulator."""
     yield from judged(sas, [under] if under else [], words)
 
 

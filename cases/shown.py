@@ -3,11 +3,11 @@
 
     python3 cases/shown.py SAS
 
-A command of a document is a line that is set off by four spaces and begins with `$ `; the lines after it that are set off, too, up to
-the next command, are what it prints on standard output. If it ends with `<< 'WORD'`, the lines up to WORD belong to the command. In the
-manual page they stand in literal displays. It is run by a shell in a folder that has the documents' examples, what the commands of the
-same document have made, and SAS, as `./sas`; the page calls it `sas`. Each that prints something else has a line, and the last line is
-'N passed, M failed'. The exit status is 0 where none failed.
+A command of a document is a line that is set off by four spaces and begins with `$ `; the lines
+after it that are set off, too, up to the next command, are what it prints on standard output. If it
+ends with `<< 'WORD'`, the lines up to WORD belong to the command. In the manual page they stand in
+literal displays. It is run by a shell in a folder that has the documents' examples, what the
+commands of the same document have made, and SAS, as `./sas`; the page calls it `sas`.
 
 No proof reads a document. One that shows what the program doesn't print, or no longer prints, would be found here alone.
 """
@@ -49,12 +49,10 @@ def lines_of(document, top):
 
 
 def shown(document, top=TOP):
-    """Returns the commands of a document, each with what it prints."""
     return commands_in(lines_of(document, top), document)
 
 
 def section_of(document, heading):
-    """Returns what stands in a section of a document."""
     return text_of(os.path.join(TOP, document)).partition(f"\n{heading}\n")[2].partition("\n## ")[0]
 
 
@@ -84,7 +82,6 @@ def commands_in(lines, document):
 
 
 def wrong(case, folder):
-    """Returns what is wrong with a command."""
     env = {**os.environ, "PATH": f"{folder}:{os.environ['PATH']}", "LC_ALL": "C"}
     return harness.differs(harness.ended("bash", "-c", case["command"], cwd=folder, env=env, timeout=60).stdout.decode(), case["output"])
 
@@ -98,7 +95,6 @@ def judged(cases, sas, top=TOP):
 
 
 def tests(sas):
-    """Yields the commands of all documents."""
     for document in documents():
         yield from judged(shown(document), sas)
 

@@ -14,8 +14,7 @@ which answers about the wrong file if `/` can't be read; and one that goes on if
 A pipe takes a write whole if it has at most 4,096 bytes (POSIX, PIPE_BUF). So `plans` has to write whole lines, in pieces of at most so
 many bytes. Otherwise a line of one run is cut into that of another. That could show a program that writes larger pieces, or cuts a line.
 
-The library that notes the files is made of opened.c, with $CC or cc. Each case that fails has a line, and the last line is
-'N passed, M failed'. The exit status is 0 where none failed.
+The library that notes the files is made of opened.c, with $CC or cc.
 """
 import functools
 import itertools
@@ -91,7 +90,6 @@ def ends_of(request, closed, unreadable):
 
 
 def seen(end, closed):
-    """Returns what is seen of an end if these streams are closed."""
     return End(end.status, "" if "output" in closed else end.output, "" if "error" in closed else end.error)
 
 
@@ -108,7 +106,6 @@ def came_of(program, library, case):
 
 
 def faults(program, library, case):
-    """Returns what is wrong with the program's answer to a case."""
     files, end = ends_of(case["request"], case["closed"], case["unreadable"])
     return harness.differs(came_of(program, library, case), (files, seen(end, case["closed"])))
 
@@ -152,12 +149,10 @@ def shared_faults(program, times, length):
     return [] if sorted(found) == sorted(expected) else [f"of {len(found)} lines {len(others)} are mixed, such as {shown}"]
 
 
-def tests(sas):
-    """Yields all of these."""
-    with tempfile.TemporaryDirectory() as folder:
-        library = harness.built_library("opened.c", folder)
-        for case, found in harness.side_by_side(functools.partial(faults, sas, library), stream_cases()):
-            yield case["name"], found
+def tests(sas, place):
+    judge = functools.partial(faults, sas, harness.built_library("opened.c", place))
+    for case, found in harness.side_by_side(judge, stream_cases()):
+        yield case["name"], found
     for times, length in SHARED:
         yield f"{WRITERS} runs of plans into one pipe, lines of up to {length} bytes", shared_faults(sas, times, length)
 

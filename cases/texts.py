@@ -28,20 +28,34 @@ CASES = os.path.dirname(os.path.abspath(__file__))
 TOP = os.path.dirname(CASES)
 
 
+def case(name, words, output, status, **inputs):
+    """Returns a case as in program.json."""
+    return {"name": name, "words": words, "output": output, "status": status, **inputs}
+
+
+def made_by(*makers):
+    """Yields what each of these functions makes."""
+    for make in makers:
+        yield from make()
+
+
 def table(name):
-    """Returns the cases of a table of this folder."""
-    with open(os.path.join(CASES, name), encoding="utf-8") as file:
-        return json.load(file)
+    return json.loads(text_of(os.path.join(CASES, name)))
 
 
 def text_of(file):
-    """Returns what a file of text holds, by its path."""
     with open(file, encoding="utf-8") as it:
         return it.read()
 
 
+def put(path, held):
+    """Writes a file, of bytes or of a text, and returns its path."""
+    with open(path, "wb") as file:
+        file.write(held if isinstance(held, bytes) else held.encode())
+    return path
+
+
 def bytes_of(*path):
-    """Returns what a file holds, by the parts of its path."""
     with open(os.path.join(*path), "rb") as file:
         return file.read()
 
@@ -58,9 +72,20 @@ def as_bytes(text):
         return text
     if isinstance(text, str):
         return text.encode("latin-1")
-    if isinstance(text, dict):
-        return summed_up(text) if "summary" in text else described(text) if "parts" in text else changed(text)
-    return b"".join(as_bytes(part[0]) * part[1] if is_repeated(part) else as_bytes(part) for part in text)
+    if not isinstance(text, dict):
+        pairs = (part if is_repeated(part) else (part, 1) for part in text)
+        return b"".join(as_bytes(part) * times for part, times in pairs)
+    if "summary" in text:
+        return as_bytes(summary(task_of(latin(text["summary"]))))
+    if "parts" in text:
+        fields = {name: it for name, it in text.items() if name != "parts"}
+        return as_bytes(words_of({**table("parts.json")[text["parts"]], **fields}))
+    return changed(text)
+
+
+def latin(text):
+    """Returns a text as a string of which each character is a byte."""
+    return as_bytes(text).decode("latin-1")
 
 
 def is_repeated(part):
@@ -68,7 +93,6 @@ def is_repeated(part):
 
 
 def changed(text):
-    """Returns the bytes of a file with changes."""
     held = bytes_of_file(text["file"])
     lines = held.split(b"\n")
     for key, line in text.items():
@@ -78,19 +102,7 @@ def changed(text):
     return held[text.get("from", 0) : text.get("first")] + as_bytes(text.get("then", ""))
 
 
-def described(text):
-    """Returns the words of parts with other fields."""
-    fields = {name: it for name, it in text.items() if name != "parts"}
-    return words_of({**table("parts.json")[text["parts"]], **fields}).encode("latin-1")
-
-
-def summed_up(text):
-    """Returns what `show` prints of a task."""
-    return summary(task_of(as_bytes(text["summary"]).decode("latin-1"))).encode("latin-1")
-
-
 def words_of(part):
-    """Returns the words of a part."""
     if isinstance(part, dict):
         return "".join(map(words_of, part.values()))
     if isinstance(part, list):

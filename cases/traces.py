@@ -13,35 +13,21 @@ import random
 from following import long_runs
 from oracles.tasks import plan_of, plan_text, task_of, text_of, value_name
 from oracles.traces import lines_of, traced
-from texts import as_bytes, changed_lines, table
-from walks import walked_plans
-from why import MINIMAL, turned, walked_again
+from texts import as_bytes, latin, made_by, table
+from why import case_of, shared_plans, turned, walked_again
 
 SEED = 77
 # how many tasks are made as in walks.py, and as in following.py; why.py makes the same number of plans of each
 WALKED, TURNED = 400, 120
 # names of values: with spaces, of any bytes, and such as make a line look like another one
 NAMES = (" ", "a b ", "  two  spaces", "0 1 1 x", "plan valid: 0 steps, cost 0", "\u0000\u00ff ", "-1")
-FILES = ("t.sas", "p.txt")
-
-
-def case_of(name, task, plan, lines, request="trace", words=FILES, **inputs):
-    """Returns the case of a request over a task and a plan, of which these lines are printed."""
-    files = {word: text for word, text in zip(FILES, (task, plan)) if word in words}
-    return {
-        "name": f"{name}, {request} {' '.join(words)}",
-        "words": [request, *words],
-        "files": files,
-        "output": "".join(f"{line}\n" for line in lines),
-        "status": 0 if lines[-1].startswith("plan valid") else 1,
-        **inputs,
-    }
+TRACE = ("trace", "t.sas", "p.txt")
 
 
 def twice(name, task, plan, lines):
     """Yields the case of a trace, and the case of `plan` over the same files, which prints its last line."""
-    yield case_of(name, task, plan, lines[-1:], "plan")
-    yield case_of(name, task, plan, lines)
+    yield case_of(name, task, plan, lines[-1:], ("plan", *TRACE[1:]))
+    yield case_of(name, task, plan, lines, TRACE)
 
 
 def written_traces():
@@ -60,45 +46,21 @@ def written_cases():
     could show a wrong definition of traces, and two inputs that are exchanged."""
     for name, task, plan, lines in written_traces():
         yield from twice(name, task, plan, lines)
-        yield case_of(name, task, plan, lines, words=("-", "p.txt"), input=task)
-        yield case_of(name, task, plan, lines, words=("t.sas", "-"), input=plan)
+        yield case_of(name, task, plan, lines, ("trace", "-", "p.txt"), input=task)
+        yield case_of(name, task, plan, lines, ("trace", "t.sas", "-"), input=plan)
         ends = (text.replace(b"\n", b"\r\n") for text in (task, plan))
-        yield case_of(f"{name}, with CR LF", *ends, lines)
+        yield case_of(f"{name}, with CR LF", *ends, lines, TRACE)
 
 
-def verdict_cases():
-    """Yields the plans of verdicts.json, but for those that are too long. They could show a verdict after a trace that isn't
-    the one of `plan`, and lines in front of the refusal of a file."""
-    for made in table("verdicts.json"):
-        task, plan = (as_bytes(made[it]).decode("latin-1") for it in ("task", "plan"))
-        last = made["output"].removesuffix("\n")
-        if "call" in made:
-            lines = traced(task_of(task), *plan_of(plan))
-            assert lines[-1] == last
-            yield case_of(made["name"], task, plan, lines)
-        elif " refused: " in last:
-            yield case_of(made["name"], task, plan, [last])
-
-
-def refused_cases():
-    """Yields files that are refused, for the plan of a task or for its task. They could show a task that is traced though it
-    isn't layered, and lines that are written before the plan is read."""
-    for made in table("plans.json"):
-        if made["status"]:
-            plan = as_bytes(made["plan"])
-            yield case_of(f"{made['name']}, of a task", as_bytes(MINIMAL), plan, [made["output"].removesuffix("\n")])
-    for changed in changed_lines():
-        if changed["fault"] or changed["layers"]:
-            said = f"task refused: {changed['fault'] or changed['layers']}"
-            yield case_of(changed["name"], as_bytes(changed["task"]), "", [said])
-
-
-def walked_cases():
-    """Yields the plans of walks.py. They could show a wrong definition of traces, in a case that no one thought of."""
-    for made in walked_plans():
-        lines = traced(task_of(made["task"]), *plan_of(made["plan"]))
-        assert f"{lines[-1]}\n" == made["output"]
-        yield case_of(made["name"], made["task"], made["plan"], lines)
+def shared_cases():
+    """Yields the plans that why.py has of other tests. They could show a wrong definition of
+    traces, another verdict than that of `plan`, and lines in front of the refusal of a file."""
+    for name, task, plan, said in shared_plans():
+        said = said.removesuffix("\n")
+        is_refused = " refused: " in said
+        lines = [said] if is_refused else traced(task_of(latin(task)), *plan_of(latin(plan)))
+        assert lines[-1] == said
+        yield case_of(name, task, plan, lines, TRACE)
 
 
 def long_cases():
@@ -107,7 +69,8 @@ def long_cases():
     for made in long_runs():
         last = made["output"].removesuffix("\n")
         if "goal fact" not in last:
-            yield case_of(made["name"], made["task"], made["plan"], [*lines_of(made["run"]), last])
+            lines = [*lines_of(made["run"]), last]
+            yield case_of(made["name"], made["task"], made["plan"], lines, TRACE)
 
 
 def named(chance, task):
@@ -129,10 +92,4 @@ def random_cases():
 
 
 def trace_cases():
-    """All of these."""
-    yield from written_cases()
-    yield from verdict_cases()
-    yield from refused_cases()
-    yield from walked_cases()
-    yield from long_cases()
-    yield from random_cases()
+    return made_by(written_cases, shared_cases, long_cases, random_cases)

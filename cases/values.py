@@ -6,9 +6,14 @@
 The answers are the texts of the cases of run.py, of which values.cpp and values.rs read the values. Of these they put the text together
 again: the same bytes have to come. So nothing is lost, and nothing is taken for something else. No library is called.
 
-Compilers are g++, clang++ and rustc where they are there; g++ has its sanitizers where they are there. What isn't there is named in a
-line that begins with `without`. Each test that fails has a line, and the last line is 'N passed, M failed'. The exit status is 0 where
-none failed.
+Compilers are g++, with its sanitizers where they are there, clang++ and rustc.
+
+values.json: answers.
+
+    shows     a mistake that this one could show
+    status    0 where the answer is yes
+    lines     its lines
+    values    what `values_of` returns of it
 """
 import os
 import random
@@ -19,8 +24,10 @@ import types
 
 import harness
 import run
-from library import compilers, crate, failed, stub_library
-from texts import TOP, as_bytes
+from harness import differs, is_there
+from library import crate, failed, stub_library
+from oracles.tasks import with_ends
+from texts import TOP, as_bytes, table
 
 REQUESTS = {"plan", "trace", "check", "mutex", "show", "print", "steps"}
 WARNINGS = ("-Wall", "-Wextra", "-pedantic", "-Werror")
@@ -30,116 +37,8 @@ SPOILED, AT_ONCE = 3000, 2000
 # lines that a later version may add to reasons
 LATER = ("  later", "  later 1 of 2", "    later 1 requires 0 0 x")
 LATER += ("  steps", "  step", "  operator 1", "    rule 1", "  hint", "    ", "  ")
-# the largest numbers
-MOST, STEPS = 2**64 - 1, 2**30
-
-# Answers with a mistake that each could show: whether it is yes, the lines, and what values_of returns.
-WRITTEN = (
-    ("a task and a plan that are exchanged", 1, ["plan refused: line 1: keyword"], "refused plan - - - - - line 1: keyword"),
-    ("a task and a plan that are exchanged, of a task", 1, ["task refused: line 1: keyword"], "refused task - - - - - line 1: keyword"),
-    (
-        "a line of a file that is taken for a step", 1,
-        ["task refused: operator 2: effect on derived variable"],
-        "refused task - - - - - operator 2: effect on derived variable",
-    ),
-    ("SUM and COST that are exchanged", 1, [f"plan invalid: cost is 7, not {MOST}"], f"invalid - - - 7 {MOST} - cost is 7, not {MOST}"),
-    ("a fact that is taken for a step", 1, ["plan invalid: goal fact 0 not reached"], "invalid - - 0 - - - goal fact 0 not reached"),
-    ("numbers of 32 bits", 0, [f"plan valid: {STEPS} steps, cost {MOST}"], f"valid - - - - {MOST} {STEPS} "),
-    (
-        "a step without an operator of its number", 1,
-        [f"plan invalid: step {STEPS}: no operator of that number"],
-        f"invalid - {STEPS} - - - - step {STEPS}: no operator of that number",
-    ),
-    ("groups that are all exclusive", 0, ["group 0 exclusive", "group 1 exclusive"], "yes - - - - - - "),
-    (
-        "the first group that is exclusive", 1,
-        ["group 0 exclusive", "group 1 derived", "  derived 1 0 group 0 exclusive", "group 2 derived"],
-        "no - - - - - - group 1 derived",
-    ),
-    (
-        "a group that is exclusive after one that isn't", 1,
-        ["group 0 not shown: operator 4", "group 1 exclusive"],
-        "no - - - - - - group 0 not shown: operator 4",
-    ),
-    ("no line", 0, [], "yes - - - - - - "),
-    ("a task that is layered", 0, ["task layered"], "yes - - - - - - "),
-    (
-        "names of a file that look like answers", 0,
-        ["begin_version", "plan valid: 1 steps, cost 1", "step 1 0 1 go", "0"],
-        "yes - - - - - - ",
-    ),
-    ("the initial state of `show`", 0, ["metric 0", "initial 0 0 x", "goal 0 0 plan valid: 1 steps, cost 1"], "yes - - - - - - "),
-    (
-        "steps of a file that look like answers", 0,
-        ["(plan invalid: goal fact 0 not reached)", "; cost = 1 (unit cost)"],
-        "yes - - - - - - ",
-    ),
-    (
-        "names with digits, spaces and any bytes", 0,
-        ["initial 0 1 2 3", "initial 1 0   step 1 0 1 x ", "initial 2 0 \x00\x1b\x7f\x0c\xff", "step 1 4294967295 2147483647 0 1 2",
-         "change 0 1 0 5 0 1", "change 2 0 1 change 2 0 1 x", "step 2 0 1 plan valid: 1 steps, cost 1",
-         f"plan valid: 2 steps, cost {MOST}"],
-        f"valid - - - - {MOST} 2 ",
-    ),
-    (
-        "a step that changes nothing, and a plan that isn't valid", 1,
-        ["initial 0 0 x", "step 1 0 1 a", "step 2 0 1 b", "plan invalid: step 3: not applicable"],
-        "invalid - 3 - - - - step 3: not applicable",
-    ),
-    (
-        "a trace without a step", 1,
-        ["initial 0 0 plan refused: line 1: end", "plan invalid: step 1: no operator of that name"],
-        "invalid - 1 - - - - step 1: no operator of that name",
-    ),
-    (
-        "the name of the step that fails taken for the one that could be another", 1,
-        ["plan invalid: step 2: not applicable", "  step 2 could also be operator 7", "  operator 0 line 4294967296",
-         "    requires 0 1 2 3", "    actual 0 0  since the initial state", "    since step 1 the initial state",
-         "  step 1 could also be operator 3"],
-        "invalid - 2 - - - - step 2: not applicable",
-    ),
-    (
-        "no other step, and a name of the other", 1,
-        ["plan invalid: step 1: no operator of that name", "  step 1 could also be operator 7",
-         "  similar operator 0 line 24 line 3 hint x", "  1 of 1 steps name no operator"],
-        "invalid - 1 - - - - step 1: no operator of that name",
-    ),
-    (
-        "a cause of one operator that goes to another, and a rule that is taken for another kind", 1,
-        ["plan invalid: step 1: not applicable", "  step 1 x", "  operator 0 line 1", "    requires 1 0 requires 1 0 a",
-         "    actual 1 1 rule 1 derives 0 0 b", "    since the initial state", "    rule 0 derives 1 1 rule 0 requires 1 1 b",
-         "    no rule derives it", "    requires 2 0 a", "    actual 2 1 b", "    since step 4 step 4 x",
-         "    rule 3 requires 0 0 derives 0 0 c", "  operator 5 line 9", "  operator 7 line 11", "    requires 1 0 a",
-         "    actual 1 1 b", "    since the initial state"],
-        "invalid - 1 - - - - step 1: not applicable",
-    ),
-    (
-        "a conflict that is taken for causes", 1,
-        ["plan invalid: step 1: conflicting effects", "  step 1 x", "  operator 2 line 3", "    effect 0 sets 0 1 effect 1 sets 0 0 y",
-         "    effect 4 sets 0 0 z", "  step 1 could also be operator 9"],
-        "invalid - 1 - - - - step 1: conflicting effects",
-    ),
-    (
-        "the other step of a goal", 1,
-        ["plan invalid: goal fact 1 not reached", "  2 of 3 goal facts fail", "  goal fact 1", "    requires 1 0 a",
-         "    actual 1 1 b", "    since the initial state", "  goal fact 2", "    requires 2 0 a", "    actual 2 1 b",
-         "    since step 9 x", "    no rule derives it", "  step 9 could also be operator 4294967295"],
-        "invalid - - 1 - - - goal fact 1 not reached",
-    ),
-    (
-        "a cost, and the numbers of its reasons", 1,
-        ["plan invalid: cost is 1, not 2", "  metric 0", "  steps 1", f"  sum of cost lines {MOST}",
-         "  hint with metric 0 each step costs 1", "  step 1 could also be operator 1"],
-        "invalid - - - 1 2 - cost is 1, not 2",
-    ),
-)
 # reasons of which a program shows the hint alone
 REFUSED = ("plan refused: line 1: keyword\n  expected (NAME)\n  found hint x\n  hint comments aren't read\n", "hint comments aren't read")
-
-
-def text_of_lines(lines):
-    """Returns the text of these lines."""
-    return as_bytes("".join(f"{line}\n" for line in lines))
 
 
 def readable(text, is_utf8):
@@ -154,7 +53,6 @@ def verdict_line(text):
 
 
 def values_of(number, text):
-    """Returns the values of an answer, as the programs print them."""
     line = verdict_line(text).decode("latin-1")
     found = re.fullmatch(r"(plan|task) (valid|invalid|refused): (.*)", line)
     if not found:
@@ -235,14 +133,8 @@ def came_of(program, given):
 
 
 def wrong(number, text, came, is_utf8):
-    """Returns what is wrong with what a program printed of an answer."""
     expected = as_bytes(values_of(number, text)), put_together(text), printed(text, is_utf8)
     return [f"{got[:300]!r}, not {it[:300]!r}" for got, it in zip(came, expected) if got != it]
-
-
-def wrong_written(number, text, values, came, is_utf8):
-    """The same of an answer of the table."""
-    return wrong(number, text, came, is_utf8) + ([] if came[0] == as_bytes(values) else [f"{came[0]}, not {values}"])
 
 
 def with_later(text):
@@ -255,10 +147,12 @@ def with_later(text):
 
 def written_tests(program, is_utf8):
     """Yields the answers of the table, which could show what stands there; those with more lines are read as without them."""
-    given = [(number, text_of_lines(lines)) for _, number, lines, _ in WRITTEN]
-    for (mistake, _, _, values), (number, text), came in zip(WRITTEN, given, came_of(program, given)):
-        yield mistake, wrong_written(number, text, values, came, is_utf8)
-    reasons = [text for number, text in given if text.startswith(b"plan invalid: ") and text.count(b"\n") > 1]
+    rows = table("values.json")
+    given = [(row["status"], as_bytes(with_ends(row["lines"]))) for row in rows]
+    for row, answer, came in zip(rows, given, came_of(program, given)):
+        is_so = differs(came[0], as_bytes(row["values"]))
+        yield row["shows"], wrong(*answer, came, is_utf8) + is_so
+    reasons = [text for _, text in given if re.match(rb"plan invalid: .*\n.", text)]
     more = [(text, later) for text in reasons for later in with_later(text)]
     for (text, later), came in zip(more, came_of(program, [(1, later) for _, later in more])):
         yield f"a line of a later version, {later!r}", [] if came[1] == text else [f"{came[1]!r}"]
@@ -271,7 +165,7 @@ def built(library, folder):
     """Yields the programs that are built, each with a name and whether it prints UTF-8."""
     source = os.path.join(TOP, "cases/values")
     for compiler, words in (("g++", SANITIZERS), ("clang++", ())):
-        if compilers(compiler):
+        if is_there(compiler):
             flags = ["-std=c++17", *WARNINGS, "-I", os.path.join(TOP, "library"), f"{source}.cpp", "-o", f"{folder}/{compiler}"]
             if words and failed(compiler, *words, *flags):
                 print(f"without the sanitizers of {compiler}")
@@ -279,7 +173,7 @@ def built(library, folder):
             found = failed(compiler, *words, *flags)
             assert not found, found
             yield f"{folder}/{compiler}", False
-    if compilers("rustc"):
+    if is_there("rustc"):
         words = ["--edition", "2021", "-D", "warnings", f"{source}.rs", *crate(library, folder), "-o", f"{folder}/rustc"]
         found = failed("rustc", *words)
         assert not found, found

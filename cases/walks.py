@@ -5,7 +5,7 @@ import random
 
 from layered import any_fact, random_task
 from oracles.steps import call_answer, conflict, cost_of, holds, initial, meant, next_state, state_line, verdict
-from oracles.tasks import plan_text, text_of
+from oracles.tasks import plan_text, text_of, with_ends
 
 SEED = 60
 TASKS = 150
@@ -15,7 +15,6 @@ NAMES = ("go", "go ", "go on", "turn")
 
 
 def basic_task(chance):
-    """Returns a task without derived variables."""
     ranges = [chance.choice((2, 2, 3)) for _ in range(chance.randint(3, 5))]
     defaults = [chance.randrange(size) for size in ranges]
     return {"ranges": ranges, "layers": [None] * len(ranges), "defaults": defaults, "rules": []}
@@ -28,12 +27,10 @@ def random_fact(chance, task):
 
 
 def random_facts(chance, task, counts):
-    """Returns so many facts, as one of these counts requires."""
     return [random_fact(chance, task) for _ in range(chance.choice(counts))]
 
 
 def random_effect(chance, task):
-    """Returns an effect on a basic variable."""
     var = chance.choice([var for var, layer in enumerate(task["layers"]) if layer is None])
     size = task["ranges"][var]
     old = chance.choice((-1, -1, -1, task["defaults"][var], chance.randrange(size)))
@@ -154,5 +151,5 @@ def walked_calls():
             "name": f"random task {number}",
             "task": text_of(task),
             "calls": ";".join(f"{call} {word}" for call, word in calls),
-            "answers": "".join(f"{line}\n" for line in said),
+            "answers": with_ends(said),
         }

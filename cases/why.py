@@ -15,12 +15,12 @@ same, and so is the status; the lines after it begin with two spaces.
 """
 import random
 
-from following import long_runs, run_over, turning_names, turning_task
+from following import cost_of_run, long_runs, names_of, run_over, turning_names, turning_task
 from oracles.layers import REFUSED, after_refusal
 from oracles.reasons import reasons, reasons_of
-from oracles.steps import cost_of, holds
-from oracles.tasks import plan_of, plan_text, task_of, text_of, value_name
-from texts import as_bytes, changed_lines, table
+from oracles.steps import holds
+from oracles.tasks import plan_of, plan_text, task_of, text_of, value_name, with_ends
+from texts import case, changed_lines, latin, made_by, table
 from walks import operated_task, random_facts, spoiled_plan, walk, walked_plans
 
 SEED = 9
@@ -33,35 +33,27 @@ TURNS = 12
 PLACES = (["--why", "t.sas", "p.txt"], ["t.sas", "--why", "p.txt"], ["t.sas", "p.txt", "--why"])
 
 
-def case_of(name, task, plan, lines, words=PLACES[0]):
-    """Returns the case of a plan with `--why`, of which these lines are printed."""
-    return {
-        "name": f"{name}, plan {' '.join(words)}",
-        "words": ["plan", *words],
-        "files": {"t.sas": task, "p.txt": plan},
-        "output": "".join(f"{line}\n" for line in lines),
-        "status": 0 if lines[0].startswith("plan valid") else 1,
-    }
+def case_of(name, task, plan, lines, words=("plan", *PLACES[0]), **inputs):
+    """Returns the case of these words over a task and a plan, of which these lines are printed."""
+    files = {word: text for word, text in (("t.sas", task), ("p.txt", plan)) if word in words}
+    status = 0 if any(line.startswith("plan valid") for line in lines) else 1
+    name = f"{name}, {' '.join(words)}"
+    return case(name, [*words], with_ends(lines), status, files=files, **inputs)
 
 
 def twice(name, task, plan, lines, words=PLACES[0]):
-    """Yields the same, and the case without `--why`."""
+    """Yields the case of these words after `plan`, and the case without `--why`."""
     assert all(line.startswith("  ") for line in lines[1:]) and not lines[0].startswith(" ")
-    yield case_of(name, task, plan, lines[:1], PLACES[0][1:])
-    yield case_of(name, task, plan, lines, words)
-
-
-def written_task(task):
-    """Returns a task of why.json."""
-    parts = {"metric": 0, "rules": [], **task}
-    return {**parts, "goal": [tuple(fact) for fact in task.get("goal", [])]}
+    yield case_of(name, task, plan, lines[:1], ("plan", "t.sas", "p.txt"))
+    yield case_of(name, task, plan, lines, ("plan", *words))
 
 
 def written_plans():
     """Yields the plans of why.json: a name, the files of the task and of the plan, and the lines. These stand there, and are
     computed too."""
     for group in table("why.json"):
-        task = written_task(group["task"])
+        task = {"metric": 0, "rules": [], "goal": [], **group["task"]}
+        task["goal"] = [tuple(fact) for fact in task["goal"]]
         for plan in group["plans"]:
             name, lines = f"{group['task']['about']}: {plan['shows']}", plan["lines"]
             fault, after = reasons(task, plan["steps"], plan["cost"])
@@ -77,38 +69,33 @@ def written_cases():
         yield case_of(f"{name}, with CR LF", *(text.replace("\n", "\r\n") for text in (task, plan)), lines)
 
 
-def verdict_cases():
-    """Yields the plans of verdicts.json with `--why`, but for those that are too long, and the refusals of files."""
+def shared_plans():
+    """Yields plans of verdicts.json, files that are refused, and the plans of walks.py: a name, the
+    files of the task and of the plan, and what `plan` prints."""
     for made in table("verdicts.json"):
-        task, plan = (as_bytes(made[it]).decode("latin-1") for it in ("task", "plan"))
-        fault, after = made["output"].removesuffix("\n"), []
-        if "call" in made:
-            fault, after = reasons(task_of(task), *plan_of(plan))
-            assert f"{fault}\n" == made["output"]
-        if "call" in made or " refused: " in fault:
-            of = task if fault.startswith(REFUSED) else plan
-            yield case_of(made["name"], task, plan, [fault, *after, *after_refusal(fault, of)])
-
-
-def refused_cases():
-    """Yields files that are refused, for the plan of a task or for its task."""
+        if "call" in made or " refused: " in made["output"]:
+            yield made["name"], made["task"], made["plan"], made["output"]
     for made in table("plans.json"):
         if made["status"]:
-            plan, said = as_bytes(made["plan"]), made["output"].removesuffix("\n")
-            yield case_of(f"{made['name']}, of a task", as_bytes(MINIMAL), plan, [said, *after_refusal(said, plan)])
+            yield f"{made['name']}, of a task", MINIMAL, made["plan"], made["output"]
     for changed in changed_lines():
-        if changed["fault"] or changed["layers"]:
-            said = f"task refused: {changed['fault'] or changed['layers']}"
-            task = as_bytes(changed["task"])
-            yield case_of(changed["name"], task, "", [said, *after_refusal(said, task)])
-
-
-def walked_cases():
-    """Yields the plans of walks.py with `--why`."""
+        fault = changed["fault"] or changed["layers"]
+        if fault:
+            yield changed["name"], changed["task"], "", f"task refused: {fault}\n"
     for made in walked_plans():
-        fault, after = reasons(task_of(made["task"]), *plan_of(made["plan"]))
-        assert f"{fault}\n" == made["output"]
-        yield case_of(made["name"], made["task"], made["plan"], [fault, *after])
+        yield made["name"], made["task"], made["plan"], made["output"]
+
+
+def shared_cases():
+    """Yields these plans with `--why`."""
+    for name, task, plan, said in shared_plans():
+        said = said.removesuffix("\n")
+        if " refused: " in said:
+            after = after_refusal(said, task if said.startswith(REFUSED) else plan)
+        else:
+            fault, after = reasons(task_of(latin(task)), *plan_of(latin(plan)))
+            assert fault == said
+        yield case_of(name, task, plan, [said, *after])
 
 
 def long_cases():
@@ -134,11 +121,6 @@ def odd(chance, name):
     end = chance.choice(("", " ", "\x7f", "\\", "\xff", "  ", "x", "\t"))
     long = f"{name}{'x' * (chance.randint(254, 258) - len(name) - len(end))}{end}"
     return chance.choice((f"{name}\x1b[31m", f"\x00\x1f\x20\x7e\x7f\x80{name}", f"{name}{end}", f"  {name}  x", long, f"{long}{long}"))
-
-
-def renamed(chance, names):
-    """Returns other names for these: some with capitals, which step names have too, and some odd ones."""
-    return {name: chance.choice((name, name, name.upper(), name.title(), odd(chance, name))) for name in names}
 
 
 def named_values(chance, task):
@@ -174,7 +156,11 @@ def spoiled(chance, task, names, cost):
 def walked_again(chance):
     """Yields tasks and plans as walks.py makes them, with other names, that fail in each way."""
     task = operated_task(chance)
-    names = renamed(chance, sorted({operator[0] for operator in task["operators"]}))
+    # some have capitals, which step names have too, and some are odd
+    names = {
+        name: chance.choice((name, name, name.upper(), name.title(), odd(chance, name)))
+        for name in sorted({operator[0] for operator in task["operators"]})
+    }
     for _ in range(PLANS):
         steps, cost, state = walk(chance, task)
         goal = [] if chance.random() < 0.4 else failing_goal(chance, task, state)
@@ -189,8 +175,7 @@ def turned(chance):
     task, derived = turning_task(chance)
     for _ in range(PLANS):
         run = run_over(task, turning_names(chance, derived), chance.randrange(TURNS))
-        steps = [task["operators"][operator][0] for operator, _ in run]
-        cost = sum(cost_of(task, operator) for operator, _ in run)
+        steps, cost = names_of(task, run), cost_of_run(task, run)
         state = run[-1][1] if run else task["defaults"]
         if chance.random() < 0.4:
             var = chance.choice(derived)
@@ -211,10 +196,4 @@ def random_cases():
 
 
 def why_cases():
-    """All of these."""
-    yield from written_cases()
-    yield from verdict_cases()
-    yield from refused_cases()
-    yield from walked_cases()
-    yield from long_cases()
-    yield from random_cases()
+    return made_by(written_cases, shared_cases, long_cases, random_cases)

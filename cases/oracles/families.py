@@ -29,7 +29,6 @@ def clash(facts, family):
 
 
 def setters(operator, fact):
-    """Returns the effects of the operator that set the fact."""
     return [effect for effect in operator[2] if (effect[1], effect[3]) == fact]
 
 
@@ -49,7 +48,6 @@ def gone(operator, f, effect, family):
 
 
 def keeps(operator, group, family):
-    """Returns whether the operator keeps the group."""
     pairs = [(f, g) for f in group for g in group if f[0] != g[0]]
     return all(never_both(operator, f, g, family) for f, g in pairs) and all(
         gone(operator, f, effect, family) for f, g in pairs for effect in setters(operator, g)
@@ -62,7 +60,6 @@ def first_breaking(task, group, family):
 
 
 def are_kept(task, family):
-    """Returns whether the family is kept."""
     return all(first_breaking(task, group, family) is None for group in family)
 
 
@@ -101,7 +98,6 @@ def verdicts(task):
 
 
 def reachable(task):
-    """Returns the reachable states."""
     found, left = set(), [initial(task)]
     while left:
         state = left.pop()

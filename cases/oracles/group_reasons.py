@@ -15,12 +15,11 @@ contradict each other as in families.py, in the family of the groups that are ex
 from oracles.families import clash, gone
 from oracles.layers import fact_said, operator_said, with_reasons
 from oracles.steps import holds, preconditions
-from oracles.tasks import task_of
+from oracles.tasks import task_of, with_ends
 from texts import as_bytes
 
 
 def sets(effect):
-    """Returns the fact that an effect sets."""
     return effect[1], effect[3]
 
 
@@ -81,4 +80,4 @@ def with_all_reasons(output, text):
     if not said.startswith(b"group "):
         return with_reasons(output, text)
     lines = after_groups(said.decode("latin-1").removesuffix("\n").split("\n"), text)
-    return "".join(f"{line}\n" for line in lines).encode("latin-1")
+    return with_ends(lines).encode("latin-1")

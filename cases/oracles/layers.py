@@ -15,31 +15,24 @@ A and B are the lines of the file on which the operator or the rule begins. Name
 import re
 
 from oracles.refusals import after_file
-from oracles.tasks import operator_line, rule_line, task_of, value_name
+from oracles.tasks import operator_line, rule_line, task_of, value_name, with_ends
 from texts import as_bytes, shown_name
 
 REFUSED = "task refused: "
 # the words for each fault of a rule
-WORDS = {
-    "RuleOnBasic": "not on a derived variable",
-    "OldValue": "old value",
-    "TwoValues": "two values",
-    "LayerOrder": "layer order",
-}
+WORDS = {"RuleOnBasic": "not on a derived variable", "OldValue": "old value"}
+WORDS |= {"TwoValues": "two values", "LayerOrder": "layer order"}
 
 
 def fact_said(task, var, value):
-    """Returns the words for a fact."""
     return f"{var} {value} {shown_name(value_name(task, var, value))}"
 
 
 def operator_said(task, place):
-    """Returns the line of an operator with its name."""
     return f"  operator {place} line {operator_line(task, place)} {shown_name(task['operators'][place][0])}"
 
 
 def rule_said(task, place):
-    """Returns the line of a rule."""
     _, var, _, new = task["rules"][place]
     return f"  rule {place} line {rule_line(task, place)} derives {fact_said(task, var, new)}"
 
@@ -97,7 +90,7 @@ def with_reasons(output, text):
     """Returns the output about a file with the lines after it."""
     said = as_bytes(output)
     lines = after_refusal(said.decode("latin-1").removesuffix("\n"), text)
-    return said + "".join(f"{line}\n" for line in lines).encode("latin-1")
+    return said + with_ends(lines).encode("latin-1")
 
 
 def fault_said(fault):

@@ -53,7 +53,6 @@ class Run:
 
 
 def run_of(task, names):
-    """Returns the run of a plan with steps of these names."""
     states, operators = [initial(task)], []
     for name in names:
         operator = meant(task, states[-1], name)
@@ -65,7 +64,6 @@ def run_of(task, names):
 
 
 def operators_named(task, name):
-    """Returns the operators of exactly this name."""
     return [place for place, operator in enumerate(task["operators"]) if operator[0] == name]
 
 
@@ -175,7 +173,6 @@ def clash(state, effects):
 
 
 def operator_said(task, place):
-    """Returns an operator by its number and its line."""
     return f"operator {place} line {operator_line(task, place)}"
 
 
@@ -183,20 +180,20 @@ def name_reasons(run, name):
     """Returns the line of the operator whose name is like this one, if there is one, and how many steps have no operator."""
     operator = like(run.task, name)
     unknown = [its for its in run.names if not operators_named(run.task, its)]
-    said = "" if operator is None else f"{operator_said(run.task, operator)} {shown_name(run.task['operators'][operator][0])}"
-    similar = [f"  similar {said}"] if said else []
-    return [*similar, f"  {len(unknown)} of {len(run.names)} steps name no operator"]
+    count = f"  {len(unknown)} of {len(run.names)} steps name no operator"
+    if operator is None:
+        return [count]
+    its_name = shown_name(run.task["operators"][operator][0])
+    return [f"  similar {operator_said(run.task, operator)} {its_name}", count]
 
 
 def blocked_reasons(run, operator):
-    """Returns why an operator isn't applicable."""
     facts = preconditions(run.task["operators"][operator])
     failing = [fact for fact in facts if not holds(run.last, [fact])]
     return [f"  {operator_said(run.task, operator)}", *(line for fact in failing for line in cause(run, fact))]
 
 
 def conflict_reasons(run, operator):
-    """Returns which effects of an operator conflict."""
     said, effects = [f"  {operator_said(run.task, operator)}"], run.task["operators"][operator][2]
     for place in clash(run.last, effects):
         _, var, _, new = effects[place]
@@ -205,7 +202,6 @@ def conflict_reasons(run, operator):
 
 
 def step_reasons(run):
-    """Returns why the first step that doesn't go through fails."""
     step = len(run.states)
     name = run.names[step - 1]
     operator = meant(run.task, run.last, name)

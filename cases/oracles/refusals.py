@@ -46,19 +46,20 @@ def signed(word):
     return -1 if word == b"-1" else spelled(word)
 
 
+# What is expected on a line, each with its judge: a word, a name, a number, or several numbers of
+# variables with these ranges. The slots of a part are its lines: where it stands, what is expected,
+# and the count of a list that is before.
+
+
 def fixed(text):
-    """This word is expected."""
     return text, lambda line: None if line == text.encode() else ("keyword", [])
 
 
 def name():
-    """A name is expected."""
     return "a name", lambda line: None if line and b"\r" not in line else ("name", [])
 
 
 def number(least, most=MOST):
-    """A number is expected, at least and at most this."""
-
     def judge(line):
         value = signed(line) if least < 0 else spelled(line)
         if value is None:
@@ -69,7 +70,6 @@ def number(least, most=MOST):
 
 
 def numbers(expected, ranges):
-    """A fact, a head or an effect is expected, of variables with these ranges."""
     return expected, lambda line: words_fault(expected, ranges, line.split(b" "))
 
 
@@ -102,7 +102,6 @@ def limits(expected, ranges, values):
 
 
 def words_fault(expected, ranges, words):
-    """Returns what is wrong with a line of several numbers."""
     values = values_of(expected, words)
     if values is None:
         return "shape", []
@@ -122,14 +121,12 @@ def counted(place, expected, least=0, before=None):
 
 
 def one_number(place, least, most):
-    """Yields the slots of a section that is one number."""
     yield place, fixed(f"begin_{place}"), None
     yield place, number(least, most), None
     yield place, fixed(f"end_{place}"), None
 
 
 def variable(place, ranges, all_counted):
-    """Yields the slots of a variable, and notes its range."""
     yield place, fixed("begin_variable"), all_counted
     yield place, name(), None
     yield place, number(-1), None
@@ -138,11 +135,10 @@ def variable(place, ranges, all_counted):
     ranges.append(count[1])
 
 
-def group(place, ranges, all_counted):
-    """Yields the slots of a mutex group."""
-    yield place, fixed("begin_mutex_group"), all_counted
+def group(place, ranges, all_counted, word="mutex_group"):
+    yield place, fixed(f"begin_{word}"), all_counted
     count = yield from counted(place, numbers(FACT, ranges))
-    yield place, fixed("end_mutex_group"), count
+    yield place, fixed(f"end_{word}"), count
 
 
 def state(place, ranges, before):
@@ -153,15 +149,7 @@ def state(place, ranges, before):
     yield place, fixed("end_state"), None
 
 
-def goal(place, ranges):
-    """Yields the slots of the goal."""
-    yield place, fixed("begin_goal"), None
-    count = yield from counted(place, numbers(FACT, ranges))
-    yield place, fixed("end_goal"), count
-
-
 def operator(place, ranges, all_counted):
-    """Yields the slots of an operator."""
     yield place, fixed("begin_operator"), all_counted
     yield place, name(), None
     count = yield from counted(place, numbers(FACT, ranges))
@@ -171,7 +159,6 @@ def operator(place, ranges, all_counted):
 
 
 def rule(place, ranges, all_counted):
-    """Yields the slots of a rule."""
     yield place, fixed("begin_rule"), all_counted
     count = yield from counted(place, numbers(FACT, ranges))
     yield place, numbers(HEAD, ranges), count
@@ -196,13 +183,12 @@ def task_slots():
     count = yield from each(variable, ranges, 1)
     count = yield from each(group, ranges, before=count)
     yield from state("state", ranges, count)
-    yield from goal("goal", ranges)
+    yield from group("goal", ranges, None, "goal")
     count = yield from each(operator, ranges)
     return (yield from each(rule, ranges, before=count))
 
 
 def plan_line(line):
-    """Judges a line of a plan."""
     if line.startswith(b"("):
         return None if re.fullmatch(rb"\([^\r\n]+\)", line) else ("name", [])
     if not line.startswith(b"; cost = "):
@@ -240,12 +226,10 @@ def first_fault(slots, text):
 
 
 def count_said(count):
-    """Returns the line of a count, if there is one."""
     return ["line {} counts {}".format(*count)] if count else []
 
 
 def slots_by(what):
-    """Returns the slots of a task or of a plan."""
     return task_slots() if what == "task" else plan_slots()
 
 
@@ -272,7 +256,6 @@ def shown(text):
 
 
 def found_line(kind, found):
-    """Returns the line about what was found."""
     if kind == "end":
         return f"unfinished {shown(found)}" if found else "end of file"
     return f"found {shown(found)}" if found else "empty line"

@@ -12,7 +12,6 @@ from oracles.axioms import settled
 
 
 def holds(state, facts):
-    """Returns whether all these facts hold."""
     return all(state[var] == value for var, value in facts)
 
 
@@ -55,12 +54,10 @@ def next_state(task, state, operator):
 
 
 def initial(task):
-    """Returns the initial state."""
     return settled(task, task["defaults"])
 
 
 def cost_of(task, operator):
-    """Returns what an operator costs."""
     return task["operators"][operator][3] if task["metric"] else 1
 
 
@@ -113,5 +110,4 @@ def call_answer(task, state, call, word):
 
 
 def state_line(state):
-    """Returns the line that shows a state."""
     return " ".join(["state", *map(str, state)])

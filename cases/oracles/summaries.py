@@ -2,17 +2,16 @@
 
 A few answers, in tasks.json and program.json, are written by hand: what is computed here has to be the same.
 """
-from oracles.tasks import value_name
+from oracles.tasks import value_name, with_ends
 
 
 def fact_line(word, task, var, value):
-    """Returns the line of a word and a fact."""
     return f"{word} {var} {value} {value_name(task, var, value)}"
 
 
 def summary(task):
     """Returns the answer about a task."""
-    lines = [
+    return with_ends([
         f"metric {task['metric']}",
         f"variables {len(task['ranges'])}",
         f"derived {sum(layer is not None for layer in task['layers'])}",
@@ -21,5 +20,4 @@ def summary(task):
         f"rules {len(task['rules'])}",
         *(fact_line("initial", task, var, value) for var, value in enumerate(task["defaults"])),
         *(fact_line("goal", task, var, value) for var, value in task["goal"]),
-    ]
-    return "".join(f"{line}\n" for line in lines)
+    ])

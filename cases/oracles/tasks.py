@@ -16,23 +16,24 @@ A plan is the names of its steps, and its cost.
 """
 
 
+def with_ends(lines):
+    """Returns these lines as a text."""
+    return "".join(f"{line}\n" for line in lines)
+
+
 def section(name, lines):
-    """Returns lines between the two words of their section."""
     return [f"begin_{name}", *lines, f"end_{name}"]
 
 
 def facts_lines(facts):
-    """Returns the number of these facts, and a line for each."""
     return [len(facts), *(f"{var} {value}" for var, value in facts)]
 
 
 def effect_line(facts, var, old, new):
-    """Returns the line of an effect."""
     return " ".join(map(str, [len(facts), *(number for fact in facts for number in fact), var, old, new]))
 
 
 def value_name(task, var, value):
-    """Returns the name of a value."""
     return task["names"][var][value] if "names" in task else f"Atom v{var}({value})"
 
 
@@ -56,7 +57,7 @@ def text_of(task):
     lines.append(len(task["rules"]))
     for facts, var, old, new in task["rules"]:
         lines += section("rule", [*facts_lines(facts), f"{var} {old} {new}"])
-    return "".join(f"{line}\n" for line in lines)
+    return with_ends(lines)
 
 
 def operator_line(task, place):
@@ -69,18 +70,15 @@ def operator_line(task, place):
 
 
 def rule_line(task, place):
-    """Returns the number of the line on which a rule begins."""
     count = operator_line(task, len(task.get("operators", [])))
     return count + sum(4 + len(facts) for facts, *_ in task["rules"][:place]) + 1
 
 
 def facts_from(lines):
-    """Returns the facts that come next in a file."""
     return [tuple(map(int, next(lines).split(" "))) for _ in range(int(next(lines)))]
 
 
 def effect_from(lines):
-    """Returns the effect that comes next in a file."""
     count, *numbers = map(int, next(lines).split(" "))
     facts = list(zip(numbers[: 2 * count : 2], numbers[1 : 2 * count : 2]))
     return facts, *numbers[2 * count :]
@@ -135,11 +133,9 @@ def task_of(text):
 
 
 def plan_text(names, cost):
-    """Returns the file of a plan."""
-    return "".join(f"({name})\n" for name in names) + f"; cost = {cost} (unit cost)\n"
+    return with_ends([*(f"({name})" for name in names), f"; cost = {cost} (unit cost)"])
 
 
 def plan_of(text):
-    """Returns the names of the steps and the cost of the plan of which this is the file."""
     *steps, cost = text.replace("\r\n", "\n").removesuffix("\n").split("\n")
     return [step[1:-1] for step in steps], int(cost.split(" ")[3])

@@ -17,7 +17,6 @@ from oracles.tasks import value_name
 
 
 def initial_lines(run):
-    """Returns the lines of the initial state of a run."""
     return [f"initial {var} {value} {value_name(run.task, var, value)}" for var, value in enumerate(run.states[0])]
 
 
@@ -32,7 +31,6 @@ def step_lines(run, step):
 
 
 def lines_of(run):
-    """Returns the lines of a run."""
     steps = range(1, len(run.states))
     return initial_lines(run) + [line for step in steps for line in step_lines(run, step)]
 

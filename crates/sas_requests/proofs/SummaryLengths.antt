@@ -1,5 +1,5 @@
 -- How long a summary is. What is read of a task is at most 4 GiB, and so a `usize` holds the length of its summary.
-use Rattle.sas_requests.proofs.Imports.{◌≡◌, ℕ, suc, zero, ◌+◌, ◌*◌, ◌^◌, ◌<◌, ◌≤◌, List, [], ◌∷◌, ◌++◌, length, map, codes, length-append, arith, sym, ap, subst, ◌∙◌, Some, decimal, slice_get, enumerate_from, length-map, length-enumerate_from, AllByRecursion, flat_map-append, map-append, cases_lt, none-some, mul-le-mul_left, Fact, Variable, Parts, text, ValueOf, TaskLine, word, name, signed, fact, task_line_bytes, single_line, between, counted, version_lines, metric_lines, variable_lines, group_lines, state_lines, operator_lines, rule_lines, task_layout, task_format, Outline, OutlineOf, outline_of, value_name, unwrap_or, joined, fact_line, number_line, number_lines, initial_lines, goal_fact_lines, summary_lines}
+use Rattle.sas_requests.proofs.Imports.{◌≡◌, ℕ, suc, zero, ◌+◌, ◌*◌, ◌^◌, ◌<◌, ◌≤◌, List, [], ◌∷◌, ◌++◌, length, map, codes, length-append, arith, sym, ap, subst, ◌∙◌, Some, ◌⊎◌, decimal, slice_get, enumerate_from, length-map, length-enumerate_from, AllByRecursion, flat_map-append, map-append, cases_lt, none-some, mul-le-mul_left, Fact, Variable, Parts, text, ValueOf, TaskLine, word, name, signed, fact, task_line_bytes, single_line, between, counted, version_lines, metric_lines, variable_lines, group_lines, state_lines, operator_lines, rule_lines, task_layout, task_format, Outline, OutlineOf, outline_of, value_name, unwrap_or, joined, fact_line, number_lines, initial_lines, goal_fact_lines, summary_lines}
 use Rattle.std.specs.List.{flat_map}
 use Rattle.sas_task_file.specs.TaskFormat.{number}
 use Rattle.sas_requests.proofs.Lengths.{decimal_short, text_short}
@@ -69,37 +69,19 @@ each_fits : {A : Type 0} (most : ℕ) (line_of : A → List ℕ) → ((a : A) �
 each_fits most line_of short [] = tt
 each_fits most line_of short (a ∷ items) = (short a, each_fits most line_of short items)
 
-number_short : (n : ℕ) (first : List ℕ) (k : ℕ) → length first ≤ 9 → length (number_line first k) < n + 150
-number_short n first k short = omega (arith, length-append first (32 ∷ decimal k), decimal_short k)
-
 module _ (variables : List Variable) (n : ℕ) (h : size (flat_map variable_lines variables) ≤ n) where
   fact_short : (first : List ℕ) → length first ≤ 9 → (var value : ℕ) → length (fact_line first variables var value) < n + 150
   fact_short first short var value = grind (arith, value_name, name_short, length, size, flat_map, variable_lines, joined, decimal, unwrap_or, length-append, decimal_short)
 
-summary_short : (o : Outline) (n : ℕ) → size (flat_map variable_lines o.variables) ≤ n → length (text (summary_lines o)) ≤ (6 + length o.init + length o.goal) * (n + 150)
+summary_short : (o : Outline) (n : ℕ) → size (flat_map variable_lines o.variables) ≤ n → length (text (summary_lines o)) ≤ (length (number_lines o) + length o.init + length o.goal) * (n + 150)
 summary_short o n h =
     let Short = λ (l : List ℕ). length l < n + 150 in
-    let numbers : AllByRecursion Short (number_lines o) = (
-      number_short n (codes "metric") _ (omega arith),
-      (
-        number_short n (codes "variables") _ (omega arith),
-        (
-          number_short n (codes "derived") _ (omega arith),
-          (
-            number_short n (codes "groups") _ (omega arith),
-            (
-              number_short n (codes "operators") _ (omega arith),
-              (number_short n (codes "rules") _ (omega arith), tt),
-            ),
-          ),
-        ),
-      ),
-    ) in
+    let numbers : AllByRecursion Short (number_lines o) = search (arith, decimal_short, length-append, codes, length) in
     let initial = each_fits (n + 150) (λ (var, value). fact_line (codes "initial") o.variables var value) (λ (var, value). fact_short o.variables n h (codes "initial") (omega arith) var value) (enumerate_from 0 o.init) in
     let goal = each_fits (n + 150) (λ (f : Fact). fact_line (codes "goal") o.variables f.var f.value) (λ f. fact_short o.variables n h (codes "goal") (omega arith) f.var f.value) o.goal in
     let behind = initial_lines o.variables o.init ++ goal_fact_lines o.variables o.goal in
     let all = all_both Short (number_lines o) behind numbers (all_both Short (initial_lines o.variables o.init) (goal_fact_lines o.variables o.goal) initial goal) in
-    let many : length (summary_lines o) ≡ 6 + length o.init + length o.goal = omega (
+    let many : length (summary_lines o) ≡ length (number_lines o) + length o.init + length o.goal = omega (
       arith,
       length-append (number_lines o) behind,
       length-append (initial_lines o.variables o.init) (goal_fact_lines o.variables o.goal),
@@ -130,8 +112,8 @@ unfolding size
 size_of_read bytes p (reads, short) =
     subst (λ (l : List (List ℕ)). length (text l) ≤ 2 ^ 32) reads.lines (omega (arith, text_short bytes, short))
 
--- a line for each of so many items, each with no more than n bytes of a name
-product_fits : (n many whole : ℕ) → many + n ≤ 2 ^ 32 + 6 → whole ≤ many * (n + 150) → whole < 2 ^ 64
+-- a line for each of so many items, and some more, each with no more than n bytes of a name
+product_fits : (n many whole : ℕ) → many + n ≤ 2 ^ 32 + 100 → whole ≤ many * (n + 150) → whole < 2 ^ 64
 product_fits n many whole few h = grind (arith, cases_lt, mul-le-mul_left)
 
 pub summary_fits : (bytes : List ℕ) (o : Outline) → OutlineOf bytes o → length (text (summary_lines o)) < 2 ^ 64
@@ -146,5 +128,5 @@ summary_fits bytes o (p, value, is) =
     let few_values = size_of_each number p.init in
     let few_facts = size_of_each fact p.goal in
     subst (λ (q : Outline). length (text (summary_lines q)) < 2 ^ 64) (sym is)
-    (product_fits (size variables) (6 + length p.init + length p.goal) _ (omega (arith, sections, of_variables, of_values, of_facts, all, few_values, few_facts))
+    (product_fits (size variables) (length (number_lines (outline_of p)) + length p.init + length p.goal) _ (omega (arith, sections, of_variables, of_values, of_facts, all, few_values, few_facts))
     (summary_short (outline_of p) (size variables) (omega arith)))
