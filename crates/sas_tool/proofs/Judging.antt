@@ -1,5 +1,5 @@
 -- How a run over many plans ends.
-use Rattle.std.proofs.Common.{◌≡◌, ◌∙◌, ◌++◌, ◌<◌, ◌≤◌, ◌+◌, inl, inr, ℕ, Bool, true, false, true≢false, cond, refl, sym, ap, subst, subst₂, arith, List, [], ◌∷◌, length, map, All, fold, count_by, bytes_eq, codes, Option, Some, None, Result, Ok, Err, IfOk, String, string_bytes, slice_index_or}
+use Rattle.std.proofs.Common.{◌≡◌, ◌∙◌, ◌≤◌, ◌+◌, inl, inr, ℕ, Bool, true, false, true≢false, cond, refl, sym, ap, subst, subst₂, arith, List, [], ◌∷◌, length, All, fold, count_by, bytes_eq, codes, Option, Some, None, Result, Ok, Err, IfOk, String, string_bytes, slice_index_or}
 use Rattle.std.proofs.lemmas.List.{get_or-map, length-map}
 use Rattle.std.specs.Result.{IsOkAnd}
 use Rattle.std.specs.Io.KnownBytes.{Appends}
@@ -13,15 +13,14 @@ use Rattle.sas_requests.specs.declared.inputs.JudgeFault.TheVariants.{Tool}
 use Rattle.sas_words.specs.Calls.{bytes_of_words}
 use Rattle.sas_words.specs.declared.calls.WordsFault.{WordsFault}
 use Rattle.sas_words.specs.declared.calls.WordsFault.TheVariants as fault
-use Rattle.sas_tool.specs.Does.{Reports, words_held}
+use Rattle.sas_tool.specs.Does.{Reports}
 use Rattle.sas_tool.specs.Files.{bytes_if_known, source_held}
 use Rattle.sas_tool.specs.Held.{Held, absent, holds, word_held}
-use Rattle.sas_tool.specs.Jobs.{Asks, IsRefusedFor}
+use Rattle.sas_tool.specs.Jobs.{IsRefusedFor}
 use Rattle.sas_tool.specs.Sources.{IsSource}
 use Rattle.sas_tool.specs.Labels.{is_input, names_input, times_named}
 use Rattle.sas_tool.specs.PlansEndings.{plans_status, plans_text}
 use Rattle.sas_tool.specs.PlansRuns.{AllHold, IsRefused, PlansDo, PlansRan, inputs_named}
-use Rattle.sas_tool.specs.declared.arguments.Job.TheVariants.{Plans}
 use Rattle.sas_tool.specs.declared.arguments.Source.{Source}
 use Rattle.sas_tool.specs.declared.arguments.Source.TheVariants.{File, Input}
 use Rattle.sas_tool.specs.declared.plan_files.PlansEnded.{PlansEnded}
