@@ -26,6 +26,8 @@ Family = namedtuple("Family", "name shows words make whole size most", defaults=
 # an input in a folder: the words of the request, how many bytes its files have, what is printed, and the exit status
 Input = namedtuple("Input", "words bytes output status")
 SQUARE = 2.3
+# where reasons or a trace are asked for, all values of a state are compared after each step, 64 at a time
+COMPARED = 1.7
 # the size at which answers are compared with what the oracles compute, and the most groups for that, as these try each set of groups
 SMALL, MOST_GROUPS = 7, 8
 
@@ -70,8 +72,8 @@ def family(words, whole, make, shows, size, **more):
     return Family(name, shows, words, make, whole, size, **more)
 
 
-def why_families(size, *makers):
-    return [family(["plan", "--why"], as_made, make, EACH_CAUSE, size) for make in makers]
+def why_families(size, *makers, **more):
+    return [family(["plan", "--why"], as_made, make, EACH_CAUSE, size, **more) for make in makers]
 
 
 group_family = functools.partial(family, ["mutex"], of_groups)
@@ -113,7 +115,7 @@ FAMILIES = [
     plan_family(idle.named_the_same, "trying all operators of a name at each step", 1000),
     family(["check"], as_made, conditions, "going through all effects for each condition", 10_000),
     *why_families(5000, lengthy.long_blocked, lengthy.long_missed, lengthy.long_unknown),
-    *why_families(5000, lengthy.long_settled),
+    *why_families(5000, lengthy.long_settled, most=COMPARED),
     *why_families(500, lengthy.long_changed, lengthy.beside, lengthy.chain_up, lengthy.chain_down),
     *why_families(500, lengthy.chain_again, lengthy.chain_of_layers),
     *why_families(511, lengthy.tree_down, lengthy.tree_up),
@@ -124,7 +126,7 @@ FAMILIES = [
     *why_families(1000, lengthy.many_effects, lengthy.many_named),
     *why_families(500, lengthy.many_alike),
     family(["trace"], of_trace, still, EACH_LINE, 1500),
-    family(["trace"], of_trace, storms, EACH_LINE, 400),
+    family(["trace"], of_trace, storms, EACH_LINE, 400, most=COMPARED),
 ]
 
 
