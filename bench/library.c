@@ -78,11 +78,16 @@ static struct numbers read_numbers(void) {
     return it;
 }
 
+/* Whether a line of the plan that begins at this byte is a step. */
+static int begins_step(size_t at) {
+    return plan.at[at] == '(' && (at == 0 || plan.at[at - 1] == '\n');
+}
+
 /* Returns the plan without the line of its last step. */
 static struct bytes without_last_step(void) {
     struct bytes it = {malloc(plan.length + 1), 0};
     size_t last = plan.length, next;
-    while (last > 0 && plan.at[last - 1] != '(') {
+    while (last > 0 && !begins_step(last - 1)) {
         last--;
     }
     for (next = last; next < plan.length && plan.at[next] != '\n'; next++) {
@@ -138,7 +143,7 @@ static int same(const struct answer *one, const struct answer *other) {
     return one->number == SAS_YES && other->number == SAS_YES && one->size == other->size && memcmp(one->room, other->room, one->size) == 0;
 }
 
-/* Measures one round. Returns whether all calls have this answer. */
+/* Measures one round. Returns whether all calls have this answer, and the plan without its last step is invalid. */
 static int measure(struct answer *answer) {
     struct answer numbers = {SAS_NO_TASK, 0, {0}}, both = numbers;
     sas_task held = SAS_TASK_NONE;
@@ -149,6 +154,7 @@ static int measure(struct answer *answer) {
     judge(&held, answer);
     plan_time = least(plan_time, (now() - began) / (double)count);
     why_time = least(why_time, ask(sas_task_plan_why, &held, shorter));
+    int is_invalid = strncmp((const char *)answers.at, "plan invalid", strlen("plan invalid")) == 0;
     trace_time = least(trace_time, ask(sas_task_trace, &held, plan));
     began = now();
     judge_by_numbers(&held, &numbers);
@@ -157,7 +163,7 @@ static int measure(struct answer *answer) {
     began = now();
     both.number = sas_plan(task.at, task.length, plan.at, plan.length, both.room, sizeof both.room, &both.size);
     both_time = least(both_time, now() - began);
-    return same(answer, &numbers) && same(answer, &both);
+    return is_invalid && same(answer, &numbers) && same(answer, &both);
 }
 
 int main(int words_given, char **words) {

@@ -34,8 +34,7 @@ def main():
         ran = subprocess.run(command, stdout=subprocess.PIPE, check=False, encoding="utf-8")
     if ran.returncode:
         sys.exit("the plan isn't valid, or the answers differ")
-    read, held, why, trace, by_numbers, both, said = ran.stdout.rstrip("
-").split(" ", 6)
+    read, held, why, trace, by_numbers, both, said = ran.stdout.rstrip("\n").split(" ", 6)
     heads = ["Task", "Plan", "Answer", "Read", "A plan of it", "Reasons", "Trace", "By numbers", "`sas_plan`"]
     machine.print_head(heads, os.path.join(given.library, "libsas.so"))
     names = map(os.path.basename, (given.task, given.plan))

@@ -57,6 +57,10 @@ class Browser:
         turn = {"type": "scroll", "x": int(x), "y": int(y), "deltaX": 0, "deltaY": down, "duration": 0}
         self.act({"type": "key", "id": "keys", "actions": [held, wait, free]}, {"type": "wheel", "id": "wheel", "actions": [wait, turn]})
 
+    def resize(self, width, height, zoom=1):
+        """Shows pages as in a window of this size, at this zoom."""
+        raise NotImplementedError
+
     def picture(self):
         return base64.b64decode(self.command("TakeScreenshot", "GET", "screenshot", None))
 
@@ -83,6 +87,20 @@ class Chromium(Browser):
             self.driver.terminate()
             raise
         self.settle()
+        self.chrome("Page.setDownloadBehavior", behavior="allow", downloadPath=folder)
+        self.downloads = folder
+
+    def chrome(self, name, **parameters):
+        """Sends a command of Chromium's own protocol."""
+        return self.request("POST", "/goog/cdp/execute", {"cmd": name, "params": parameters})
+
+    def resize(self, width, height, zoom=1):
+        size = {"width": width // zoom, "height": height // zoom, "deviceScaleFactor": zoom, "mobile": False}
+        self.chrome("Emulation.setDeviceMetricsOverride", **size)
+
+    def printed(self):
+        # its own command, since that of WebDriver has a limit of ten seconds
+        return base64.b64decode(self.chrome("Page.printToPDF", landscape=True, printBackground=True, preferCSSPageSize=True)["data"])
 
     def request(self, method, path, body):
         data = None if body is None else json.dumps(body).encode()
@@ -97,8 +115,11 @@ class Chromium(Browser):
         return self.request(method, "/" + path, body)
 
     def darken(self, is_dark):
-        features = [{"name": "prefers-color-scheme", "value": "dark" if is_dark else "light"}]
-        self.request("POST", "/goog/cdp/execute", {"cmd": "Emulation.setEmulatedMedia", "params": {"features": features}})
+        self.prefer("prefers-color-scheme", "dark" if is_dark else "light")
+
+    def prefer(self, name, value):
+        """Sets what a reader prefers."""
+        self.chrome("Emulation.setEmulatedMedia", features=[{"name": name, "value": value}])
 
     def close(self):
         with contextlib.suppress(OSError, RuntimeError):
@@ -114,7 +135,10 @@ class Firefox(Browser):
     def __init__(self, folder):
         with open(os.path.join(folder, "user.js"), "w", encoding="utf-8") as file:
             file.write('user_pref("marionette.port", 0);\nuser_pref("datareporting.policy.dataSubmissionEnabled", false);\n'
-                       'user_pref("app.update.enabled", false);\nuser_pref("browser.shell.checkDefaultBrowser", false);\n')
+                       'user_pref("app.update.enabled", false);\nuser_pref("browser.shell.checkDefaultBrowser", false);\n'
+                       'user_pref("browser.download.folderList", 2);\nuser_pref("browser.download.alwaysOpenPanel", false);\n'
+                       f'user_pref("browser.download.dir", "{folder}");\n')
+        self.downloads = folder
         words = ["firefox", "--headless", "--marionette", "--no-remote", "--remote-allow-system-access", "--profile", folder]
         environment = {**os.environ, "HOME": folder, "MOZ_HEADLESS_WIDTH": str(WIDTH), "MOZ_HEADLESS_HEIGHT": str(HEIGHT)}
         self.browser = subprocess.Popen(words, stdout=subprocess.DEVNULL, stderr=subprocess.DEVNULL, env=environment)
@@ -154,11 +178,25 @@ class Firefox(Browser):
             body = {**body, "sandbox": None}
         return self.send("WebDriver:" + name, {"full": False} if body is None else body)
 
-    def darken(self, is_dark):
-        script = f"Services.prefs.setIntPref('layout.css.prefers-color-scheme.content-override', {0 if is_dark else 1})"
+    def chrome(self, script, *arguments):
+        """Runs a script in the window of the browser itself."""
         self.send("Marionette:SetContext", {"value": "chrome"})
-        self.run(script)
-        self.send("Marionette:SetContext", {"value": "content"})
+        try:
+            return self.run(script, *arguments)
+        finally:
+            self.send("Marionette:SetContext", {"value": "content"})
+
+    def darken(self, is_dark):
+        self.chrome(f"Services.prefs.setIntPref('layout.css.prefers-color-scheme.content-override', {0 if is_dark else 1})")
+
+    def resize(self, width, height, zoom=1):
+        # the window can't be as narrow as a phone, so there the page is made larger
+        scale = 2 if width < 500 else zoom
+        self.chrome("gBrowser.selectedBrowser.fullZoom = arguments[0]", scale)
+        frame = self.chrome("""const it = gBrowser.selectedBrowser.getBoundingClientRect();
+            return [window.outerWidth - it.width, window.outerHeight - it.height]""")
+        sizes = [int(size * scale / zoom + more) for size, more in zip((width, height), frame)]
+        self.command("SetWindowRect", "POST", "window/rect", dict(zip(("width", "height"), sizes)))
 
     def close(self):
         with contextlib.suppress(OSError, RuntimeError, ValueError):

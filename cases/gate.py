@@ -44,6 +44,7 @@ CASES = [
         ["cases/operators.py", "library/out"],
         ["cases/values.py"],
         ["cases/python.py", "sas", "library/out"],
+        ["cases/competition.py", "sas", "library/out"],
         ["cases/packages.py"],
         ["cases/release.py", "sas"],
         ["cases/debian.py", "sas"],

@@ -26,8 +26,6 @@ Family = namedtuple("Family", "name shows words make whole size most", defaults=
 # an input in a folder: the words of the request, how many bytes its files have, what is printed, and the exit status
 Input = namedtuple("Input", "words bytes output status")
 SQUARE = 2.3
-# where reasons or a trace are asked for, all values of a state are compared after each step, 64 at a time
-COMPARED = 1.7
 # the size at which answers are compared with what the oracles compute, and the most groups for that, as these try each set of groups
 SMALL, MOST_GROUPS = 7, 8
 
@@ -110,12 +108,13 @@ FAMILIES = [
     plan_family(idle.above, EACH_STEP, 400),
     plan_family(idle.ruled, EACH_STEP, 1000),
     plan_family(idle.turned, EACH_STEP, 400),
+    plan_family(plenty.lamp, "going through all variables at each step", 3000),
+    plan_family(plenty.lamp_unlit, "the same where no rule fires", 3000),
     plan_family(idle.nets, "going through all rules at each step, or at each one after a step that changed nearly all", 50),
     plan_family(idle.named_alike, EACH_NAME, 1000),
     plan_family(idle.named_the_same, "trying all operators of a name at each step", 1000),
     family(["check"], as_made, conditions, "going through all effects for each condition", 10_000),
-    *why_families(5000, lengthy.long_blocked, lengthy.long_missed, lengthy.long_unknown),
-    *why_families(5000, lengthy.long_settled, most=COMPARED),
+    *why_families(5000, lengthy.long_blocked, lengthy.long_missed, lengthy.long_unknown, lengthy.long_settled, lengthy.long_lit),
     *why_families(500, lengthy.long_changed, lengthy.beside, lengthy.chain_up, lengthy.chain_down),
     *why_families(500, lengthy.chain_again, lengthy.chain_of_layers),
     *why_families(511, lengthy.tree_down, lengthy.tree_up),
@@ -126,7 +125,8 @@ FAMILIES = [
     *why_families(1000, lengthy.many_effects, lengthy.many_named),
     *why_families(500, lengthy.many_alike),
     family(["trace"], of_trace, still, EACH_LINE, 1500),
-    family(["trace"], of_trace, storms, EACH_LINE, 400, most=COMPARED),
+    family(["trace"], of_trace, storms, EACH_LINE, 400),
+    family(["trace"], of_trace, plenty.lamp_trace, EACH_LINE, 1500),
 ]
 
 

@@ -95,6 +95,16 @@ def long_settled(size):
     return task, names, 0, [*blocked(size + 6, "dark"), at_operator(task, 2), *cause, *given]
 
 
+def long_lit(size):
+    """So many steps that turn a switch and so a lamp, the only derived variable of as many variables."""
+    turns = 2 * size
+    operators = [turning("main", 1), ("lit", [(0, 1)], [], 1)]
+    layers, rules = [0, *[None] * (size + 1)], [([(1, 1)], 0, -1, 1)]
+    task = task_with([2] * (size + 2), layers=layers, rules=rules, operators=operators)
+    cause = [*requires(0, 1, 0, f"step {turns} main"), held(0, 1, 1)]
+    return task, [*["main"] * turns, "lit"], 0, [*blocked(turns + 1, "lit"), at_operator(task, 1), *cause]
+
+
 def long_changed(size):
     """So many steps, each of which changes another variable; then the goal fails on all of them."""
     operators = [(f"go {var}", [], [([], var, -1, 1)], 1) for var in range(size)]

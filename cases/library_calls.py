@@ -55,8 +55,8 @@ def same_as_case(sas, case):
         return None
     files = [word for word in words if word != "--why"]
     if "--why" in words and request not in ("plan", "check", "mutex"):
-        # of these the library has no call with reasons, which they report of a file that is refused alone
-        return None if b" refused: " in as_bytes(case["output"]) else same_as_case(sas, {**case, "words": [request, *files]})
+        # of these the library has no call with reasons, which are those of a no alone
+        return None if case["status"] else same_as_case(sas, {**case, "words": [request, *files]})
     request += "_why" if "--why" in words else ""
     if request not in (*REQUESTS, "plans") or any(word.startswith("-") and word != "-" for word in files):
         return None

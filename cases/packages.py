@@ -218,7 +218,7 @@ def environment_tests(top, folder, name, words):
     page = os.path.join(folder, "page.html")
     status, said = printed(python, "-m", "sas", "report", "-o", page, *files, **more)
     # the package of a checkout has no report
-    expected = (2, "python -m sas report: it isn't installed\n") if "-e" in words else (0, "")
+    expected = (2, "python -m sas report: it isn't installed\n") if "-e" in words else (0, f"{page}: plan valid: 4 steps, cost 4\n")
     well = (status, said) == expected and ("-e" in words or b"plan valid: 4 steps, cost 4" in bytes_of(page))
     yield f"{name}, a report", [] if well else [f"{status}, {said}"]
     with contextlib.suppress(FileNotFoundError):

@@ -6,12 +6,13 @@
 Each request and each flag that `sas --help` names stands in README.md, in the manual page and in each completion, and none stands there
 that it doesn't name. Each line that the program may print on standard error stands in docs/GUIDE.md and in the manual page. The version
 is one: that of the program, of the first entry of CHANGELOG.md, of the packages of the library, of CITATION.cff and of the manual page.
-CITATION.cff has what it requires. Links of documents lead to files. The function that docs/ARCHITECTURE.md shows is that of its crate. The
+CITATION.cff has what it requires. Links of documents lead to files. Each script in Python can be read. The function that docs/ARCHITECTURE.md shows is that of its crate. The
 manual page of sas-report has the flags of its help. The completions are tried in bash and in fish and read by zsh, and the manual pages by
 mandoc, where these are there; what isn't there is named in a line that begins with `without`.
 
 No proof reads these files. A request that no page names, or a page of another version, would be found here alone.
 """
+import glob
 import os
 import re
 import sys
@@ -166,6 +167,20 @@ def file_cases():
     yield f"the function of {CALLED}", [] if shown and shown[1] in text_of(os.path.join(TOP, CALLER)) else [f"it isn't in {CALLER}"]
 
 
+def script_cases():
+    """Yields the scripts of each folder that aren't Python. Those that take minutes are run by no test."""
+    for folder in ("bench", "cases", "library", "release", "report"):
+        paths = glob.glob(os.path.join(TOP, folder, "**/*.py"), recursive=True)
+        yield f"scripts of {folder}", [it for path in sorted(paths) for it in faults_of(path)]
+
+
+def faults_of(path):
+    try:
+        compile(text_of(path), path, "exec")
+    except SyntaxError as fault:
+        yield str(fault)
+
+
 def tests(sas):
     requests = requests_of(sas)
     yield from page_cases(requests)
@@ -175,6 +190,7 @@ def tests(sas):
     yield from version_cases(sas)
     yield from link_cases()
     yield from file_cases()
+    yield from script_cases()
     yield from mandoc_cases()
 
 

@@ -57,6 +57,30 @@ def still_trace(steps, variables):
     return task, names, [*lines, valid_line(names)]
 
 
+def lamp_task(size, conditions, **parts):
+    """A task of a lamp, 0, which is derived under these conditions, a switch, 1, and so many other variables."""
+    layers, rules = [0, *[None] * (size + 1)], [(conditions, 0, -1, 1)]
+    return task_with([2] * (size + 2), layers=layers, rules=rules, operators=[turning("main", 1)], **parts)
+
+
+def lamp(size):
+    """As many steps as variables, each of which turns the switch and so the lamp."""
+    return lamp_task(size, [(1, 1)], goal=[(0, 0)]), ["main"] * (2 * size)
+
+
+def lamp_unlit(size):
+    """The same where the lamp stays dark, since its rule requires another variable, too."""
+    return lamp_task(size, [(1, 1), (2, 1)], goal=[(0, 0)]), ["main"] * (2 * size)
+
+
+def lamp_trace(size):
+    task, names = lamp(size)
+    lines = initial_lines(size + 2)
+    for step in range(1, 2 * size + 1):
+        lines += [f"step {step} 0 1 main", change_line(0, step % 2), change_line(1, step % 2)]
+    return task, names, [*lines, valid_line(names)]
+
+
 def storm_task(size):
     """A task of two switches, so many derived variables, each of which rises with the one before it, the second half of them
     on a higher layer, and three more in a ring. These three rise with the second switch, and the others with the first

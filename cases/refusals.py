@@ -34,7 +34,7 @@ def near_word(expected):
 
 
 def near_number(expected):
-    least, most = map(int, re.findall(r"-?[0-9]+", expected))
+    least, most = map(int, re.findall(r"-?[0-9]+", expected.partition(":")[0]))
     return [*SPELLINGS, b"%d" % (least - 1), b"%d" % (most + 1), b"%d" % most, b"%d " % least, b"0%d" % most]
 
 
@@ -61,7 +61,7 @@ def near_numbers(expected, variables, size):
 
 def near(expected, variables, size):
     """Returns texts for the place of a line where this is expected, most of which may not stand there."""
-    if expected == "a name":
+    if expected.startswith("a name: "):
         return [b"", *NAMELESS]
     if expected in (FACT, HEAD, EFFECT):
         return dict.fromkeys([*ANYWHERE, *near_numbers(expected, variables, size)])
@@ -144,7 +144,21 @@ def near_steps():
     return dict.fromkeys([*ANYWHERE, *NAMELESS, *steps, *made, *long, *neither])
 
 
+def hinted_plans():
+    """Yields plans that get each of the hints, and others that differ from them by little."""
+    cost = PLAN.splitlines(True)[-1]
+    yield from (b"begin_version\n", b"begin_version \n", b"(a)\nbegin_version\n")
+    yield from (b"", b"\n", b"\r", b"\xff\xfe(", b"\xfe\xff(", b"\xff\xff(", b"\xef\xbb\xbf(\n", b"\xef\xbb(\n", b"(a)\n\xff\xfe\n", b"BZh\n", b"BZ\n")
+    yield from (b"(a)\r" + cost[:-1], b"(a)\r" + cost[:-1] + b"\r", b"(a)\r", b"(a)\r\r", b"(a)\r\n\r", b"\r" * 70, b"x" * 70 + b"\rx", b"x" * 70 + b"\r")
+    yield from (it + b"\n" for it in (b"; Cost = 53", b"; COST", b"; cos t", b"xcOsTx", b"cost", b"cos", b"x" * 70 + b"cost", b"x" * 70 + b"cosu", b";"))
+    yield from (it + b"\n" for it in (b"(a) ; x", b"(a) : x", b"(a;b", b"(" + b"x" * 70 + b";", b"(" + b"x" * 70 + b":", b"(a) cost", b"0.0: (a)", b"a"))
+    yield from (cost + it for it in (b"(", b")", b";", b"\n", b"\r", b"\r\n", b"x", b"\0"))
+    ends = (b"(b)", b"(b", b"b)", b"()", b"(b)\r", b"(b)\r\r", b"\r", b"(" + b"x" * 300 + b")", b"(" + b"x" * 300 + b"\r)", b"(" + b"x" * 300, b"; cost = 1")
+    yield from (front + it for front in (b"", b"(a)\n", b"(a)\r\n") for it in ends)
+
+
 def damaged_plans():
+    yield from ((f"{text[:80]!r}", text) for text in hinted_plans())
     lines = PLAN.splitlines()
     for place in range(len(lines)):
         for number, text in enumerate(near_steps()):
@@ -157,6 +171,7 @@ def damaged_plans():
 
 def damaged_tasks():
     yield from damaged_lines()
+    yield from ((f"{text!r}", text) for text in (b"(a)\n", b"; a\n", b" (a)\n", b"begin_version\r3\r", b"\xff\xfeb\n", b"begin_version\n(\n"))
     for file in ENDS_OF:
         for ends, end in (("LF", b"\n"), ("CR LF", b"\r\n")):
             held = bytes_of_file(file).replace(b"\n", end)

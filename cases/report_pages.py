@@ -5,10 +5,12 @@
 
 COMMAND is `sas-report`; that of the repository where none is named. Without a browser: its exit statuses and messages, files that can be
 read only once, where it finds `sas` and its own files, and the library in place of the program; each verdict and each kind of line that
-docs/MEANING.md, docs/WHY.md and docs/FORMATS.md list has a page with all that `sas` printed. In Chromium and in Firefox: those pages; the
-states of random plans with axioms, which fail at each step, against `sas trace`; names that would do harm; keys, pointer, searches,
-filters, links, several plans, paper and the dark; and a plan of 100,000 steps over 5,000 variables, whose bounds are some times what it
-takes. For a browser that isn't there it prints a line that begins with `without`.
+docs/MEANING.md, docs/WHY.md and docs/FORMATS.md list has a page with all that `sas` printed, and so has each that a later version prints.
+In Chromium and in Firefox: those pages; the states of random plans with axioms, which fail at each step, against `sas trace`, and what
+their steps need against oracles/links.py; names that would do harm; keys where the focus is, buttons, pointer, searches, filters, links;
+several plans and what differs in them; how pages look, on screens, on paper and in the dark, which is in report_looks.py; and a plan of
+100,000 steps over 5,000 variables, whose bounds are some times what it takes. For a browser that isn't there it prints a line that begins
+with `without`.
 
 No proof knows these pages. One that shows another state than the trace, or runs what a name says,
 would be found here alone.
@@ -32,15 +34,17 @@ import time
 import urllib.parse
 
 import harness
+import report_looks as looks
 import why
 from browsers import Browser, Chromium, Firefox
 from harness import differs, ended, is_there
 from large import turning_files
+from oracles.links import links_of, unneeded_steps
 from oracles.refusals import HINTS
 from oracles.tasks import plan_text, text_of as task_text
 from oracles.traces import folded
 from texts import TOP, as_bytes, bytes_of_file, put, table, text_of, with_line
-from walks import operated_task, walk
+from walks import operated_task, walk, walked_task
 
 sys.path.insert(0, os.path.join(TOP, "bench"))
 from gripper import Gripper
@@ -49,8 +53,8 @@ from sas_text import plan_pieces, task_pieces
 SEED = 7
 # random tasks with axioms whose plans have at least so many steps, and the most variables that the page shows at once
 TASKS, STEPS, VARIABLES = 8, 3, 12
-# bounds for 100,000 steps over 5,000 variables, and what was measured: 2 s, 92 MB, 722 kB, 1 s and 0.07 s. The seconds are those of
-# processors, and times in a browser are the best of several, since other tests may run beside this one
+# bounds for 100,000 steps over 5,000 variables, and what was measured beside other work: 3 s, 89 MB, 848 kB, 4 s and 0.3 s. The seconds
+# are those of processors, and times in a browser are the best of several, since other tests may run beside this one
 LARGE = {"seconds": 15, "megabytes": 200, "bytes": 1000000, "picture": 20, "key": 3}
 # how many bytes of memory a report of what is too long may have: a little more than a page is made of
 MOST_MEMORY = 450_000_000
@@ -74,6 +78,26 @@ def package():
     return importlib.import_module("sas_report.command")
 
 
+def split(paths):
+    """Returns the folder of files, and their names."""
+    return os.path.dirname(paths[0]), [os.path.basename(path) for path in paths]
+
+
+@contextlib.contextmanager
+def within(folder):
+    """Works in a folder, and prints nothing there."""
+    before, out = os.getcwd(), os.dup(1)
+    with open(os.devnull, "wb") as null:
+        os.dup2(null.fileno(), 1)
+    os.chdir(folder)
+    try:
+        yield
+    finally:
+        os.chdir(before)
+        os.dup2(out, 1)
+        os.close(out)
+
+
 class Reports:
     """Writes reports into a folder. `command` is how a user starts it, `main` the same in this process, which is faster."""
 
@@ -90,11 +114,11 @@ class Reports:
         return [put(os.path.join(place, name), data) for name, data in pairs]
 
     def page(self, task, *plans, module=None):
-        """Returns the path of a report, and the exit status."""
-        paths = self.files(task, *plans)
-        page = os.path.join(os.path.dirname(paths[0]), "report.html")
+        """Returns the path of a report, and the exit status. Its files are named as they are called in their folder."""
+        folder, names = split(self.files(task, *plans))
         words = [] if module else ["--sas", self.sas]
-        return page, self.main([*paths, "-o", page, *words], module)
+        with within(folder):
+            return os.path.join(folder, "report.html"), self.main([*names, *words], module)
 
     def run(self, *words, **more):
         return ended(*self.command, *words, **more)
@@ -128,14 +152,114 @@ def statuses(reports):
         ([task, plan, "-o", os.path.join(gone, "r"), *sas], 3, gone), ([task, plan, "--sas", gone], 3, gone),
         ([task, plan, "-o", "/dev/full", *sas], 3, "No space"), ([task, plan, "--sas", "/bin/false"], 3, "/bin/false"), (["--help"], 0, ""),
         ([task, plan, "--sas", "/bin/true"], 3, "sas-report: "),
+        ([task, plan, "-o", task, *sas], 2, f"the report would replace {task}"),
+        ([task, plan, short, "-o", f"{folder}/./p.2", *sas], 2, f"the report would replace {short}"),
     )
     wrong = []
     for words, status, message in expected:
         ran = reports.run(*words, cwd=folder)
         wrong += differs(ran.returncode, status, f"{words} status")
         wrong += [] if message in ran.stderr.decode() else [f"{words}: {ran.stderr.decode()[-200:]}"]
+    wrong += differs([bytes_of_file(it) for it in (task, short)], [example("valid")[0], example("short")[1]], "the inputs")
     page = " ".join(reports.run("--help").stdout.decode().split())
     return wrong + [f"--help lacks {word}" for word in ("0 if", "1 if", "2 for", "3 if", "--sas", "-o FILE") if word not in page]
+
+
+def said(reports):
+    """The name of the report and the verdict are printed, or those of several plans in short; and the version."""
+    task, plan, short, broken = reports.files(*example("valid"), ("sas_plan.10", example("short")[1]), ("sas_plan.2", b"x"))
+    folder, wrong = os.path.dirname(task), []
+    for plans, words, line in (
+        ([plan], ["-o", "r.html"], "r.html: plan valid: 4 steps, cost 4"), ([short], [], "report.html: plan invalid: step 2: not applicable"),
+        ([short, broken, plan], [], f"report.html: 3 plans, 1 valid, best cost 4: {plan}"), ([short, broken], [], "report.html: 2 plans, 0 valid"),
+    ):
+        ran = reports.run(task, *plans, *words, "--sas", reports.sas, cwd=folder)
+        wrong += differs((ran.stdout.decode(), ran.stderr), (line + "\n", b""), f"{plans} {words}")
+    version = reports.printed(["--version"])[0]
+    os.symlink(reports.sas, f"{folder}/sas")
+    path = {"PATH": f"{folder}:{os.environ['PATH']}"}
+    for word in ("--version", "-V"):
+        ran = reports.run(word, env={**os.environ, **path})
+        own = re.fullmatch(rb"sas-report, with sas [\d.]+\n", ran.stdout)
+        wrong += [] if (ran.returncode, bool(own), version[:4]) == (0, True, "sas ") else [f"{word}: {ran}"]
+    return wrong
+
+
+def names_of_plans(reports):
+    """A plan is called as on the command line, so files of one name are told apart; numbers in names are sorted as numbers."""
+    task, plan = reports.files(*example("valid"))
+    folder, names = os.path.dirname(task), ["t.10/sas_plan", "t.9/sas_plan", "./t.2/sas_plan"]
+    for name in names:
+        os.makedirs(os.path.join(folder, os.path.dirname(name)))
+        shutil.copy(plan, os.path.join(folder, name))
+    ran = reports.run("t.sas", *names, "-o", "-", "--sas", reports.sas, cwd=folder)
+    found = re.findall(r'<p class="files"><bdi>(.*?)</bdi>', ran.stdout.decode())
+    return differs(found, ["./t.2/sas_plan", "t.9/sas_plan", "t.10/sas_plan"], "names")
+
+
+# sas of a later version, which tells reasons with the trace, so that one run is enough
+ONE_RUN = """#!/bin/sh
+echo "$1 $2" >> runs
+case $1 in --version) exec "$SAS" --version;; esac
+[ "$1 $2" = "trace --why" ] || exit 2
+shift 2
+"$SAS" trace "$@" || { "$SAS" plan --why "$@" | tail -n +2; exit 1; }
+"""
+
+
+def one_run(reports):
+    """Where sas knows `trace --why`, one run of it is enough, and the page is the same."""
+    paths = reports.files(*example("short"), example("valid")[1])
+    folder, wrong = os.path.dirname(paths[0]), []
+    put(os.path.join(folder, "later"), ONE_RUN)
+    os.chmod(os.path.join(folder, "later"), 0o755)
+    env = {**os.environ, "SAS": reports.sas}
+    pages = [reports.run(*paths, "-o", "-", "--sas", it, cwd=folder, env=env).stdout for it in (reports.sas, "./later")]
+    runs = text_of(os.path.join(folder, "runs")).splitlines()
+    wrong += differs(pages[1], pages[0], "the page") if pages[0] else ["no page"]
+    # one more asks whether it knows that
+    return wrong + differs(runs.count("trace --why"), 3, "runs for two plans") + differs(len(runs), 4, "runs")
+
+
+# lines that a later version of sas prints
+LATER = """plan invalid: step 2: not applicable
+  step 2 take f2
+  operator 9 line 186
+    requires 6 0 Atom handempty()
+    actual 6 1 NegatedAtom handempty()
+    since step 1 take f1
+  if made anyway 2 of 3 later steps fail
+    step 4 put f2 feed
+    step 5 if made anyway
+  if made anyway 1 of 1 goal facts fail
+"""
+UNKNOWN = """plan invalid: step 1: no operator of that name
+  step 1 Go-to (x)
+  similar operator 0 line 24 go to x
+  step 3 goal fact 7
+  3 of 5 steps name no operator
+  hint the plan may be of another task
+"""
+REFUSED = """task refused: line 9: number
+  at variable 0
+  expected number 0 to 5: axiom layer
+  found x
+  hint a number is written without a sign
+"""
+
+
+def later_lines(reports):
+    """Lines that a later version of sas prints are shown, and the facts that fail are those of the step that fails."""
+    answer, task, verdict = (importlib.import_module(f"sas_report.{it}") for it in ("answer", "task", "verdict"))
+    wrong = []
+    for said, missing, operators in ((LATER, [(6, 0)], [9]), (UNKNOWN, [], []), (REFUSED, [], [])):
+        plan = answer.Plan("p", b"(a)\n(b)\n", task.lines(said.encode()), answer.Moves())
+        table_of = html.unescape(re.sub("<[^>]*>", " ", verdict.table(plan.reasons, "")))
+        words = {word for line in said.splitlines()[1:] for word in re.sub(r"goal fact (?=\d+$)", "", line).split()}
+        wrong += differs(sorted(words - set(re.split(r"\s+", table_of))), [], said.splitlines()[0])
+        wrong += differs((plan.facts("requires"), plan.operators()), (missing, operators), said.splitlines()[0])
+    links = re.findall(r'href="#plan-1-step-(\d+)', verdict.table(answer.Plan("p", b"", task.lines(LATER.encode()), answer.Moves()).reasons, "plan-1-"))
+    return wrong + differs(links, ["2", "1", "4", "5"], "links to steps") if reports else wrong
 
 
 def read_once(reports):
@@ -176,7 +300,7 @@ def closed_streams(reports):
     return wrong
 
 
-WAITING = "#!/bin/sh\ncase $1 in --version) exec \"$SAS\" --version;; esac\ncat \"$3\" \"$4\" > seen\nkill -$SIGNAL $PPID\n"
+WAITING = "#!/bin/sh\ncase $1 in --version) exec \"$SAS\" --version;; trace) exit 2;; esac\ncat \"$3\" \"$4\" > seen\nkill -$SIGNAL $PPID\n"
 
 
 def signals(reports):
@@ -210,8 +334,8 @@ def limits(reports):
     wrong += differs(reports.run(*paths, "--max-bytes", "x").returncode, 2, "--max-bytes x")
     endless = f'yes | "$@" - {paths[1]} -o {page} --max-bytes {1 << 24}', "sas-report: input too long: -\n"
     large = reports.files(*turning_files(4000, 10, 4000, 1))
-    traced = sum(map(len, subprocess.Popen([reports.sas, "trace", *large], stdout=subprocess.PIPE).stdout))
-    said = f"sas-report: the plan is too large to show: p.1: sas prints {traced} bytes about it\n"
+    traced = sum(map(len, subprocess.Popen([reports.sas, "trace", "--why", *large], stdout=subprocess.PIPE).stdout))
+    said = f"sas-report: the plan is too large to show: {large[1]}: sas prints {traced} bytes about it\n"
     too_large = f'"$@" {" ".join(large)} -o {page}', said
     for script, said in (endless, too_large):
         limited = f"ulimit -v {MOST_MEMORY // 1024}; {script} --sas {reports.sas}"
@@ -258,10 +382,12 @@ def damaged():
     task, plan = example("valid")
     yield from ((with_line("examples/fuses.sas", line, ""), plan) for line in range(1, task.count(b"\n") + 1))
     yield from ((with_line("examples/fuses.sas", line, text), plan) for line, text in ((2, "4"), (9, "x"), (107, "0 6 0 2"), (82, "2")))
-    for spoiled in (gzip.compress(task), b"\xef\xbb\xbf" + task, plan, task[:-1], task[:200], task + b"x", b""):
+    for spoiled in (gzip.compress(task), b"\xef\xbb\xbf" + task, plan, task[:-1], task[:200], task + b"x", b"", task.replace(b"\n", b"\r")):
         yield spoiled, plan
     without_cost = plan.replace(b"; cost = 4 (unit cost)\n", b"")
     for spoiled in (task, plan[:-1], plan[:20], plan + b"x", b"; by hand\n" + plan, without_cost, b"(\n", b"; cost = x\n"):
+        yield task, spoiled
+    for spoiled in (b"; Cost = 4\n", plan + b"(", plan + b"\n", b"0.0: " + plan):
         yield task, spoiled
 
 
@@ -292,12 +418,18 @@ def every_line(reports, chosen, missing):
     wrong = [f"no case has the line {form}" for form in missing]
     wrong += [f"no document lists {form}" for form in FORMS if f"{form}`" not in documents]
     for _, _, lines, path, status in chosen:
-        page = text_of(path).partition("<article")[2]
-        lead, printed = (re.search(f"<{tag}>(.*?)</{tag[:3].split(' ')[0]}", page, re.S) for tag in ("h1", 'pre class="printed"'))
-        found = [html.unescape(it[1]) for it in (lead, printed) if it]
-        wrong += differs("\n".join(found), shown("\n".join(lines)), "without a script")
+        page = text_of(path).partition("<article")[2].partition("</article>")[0]
+        lead = html.unescape(re.search("<h1>(.*?)</h1>", page, re.S)[1])
+        wrong += differs(lead, shown(lines[0]), "the verdict without a script")
+        wrong += [f"{lines[0]}: without a script {word} isn't shown" for word in missing_words(lines, html.unescape(re.sub("<[^>]*>", " ", page)))]
         wrong += differs(status, 0 if lines[0].startswith("plan valid") else 1, f"{lines[0]} status")
     return wrong
+
+
+def missing_words(lines, text):
+    """Returns the words of what `sas` printed that a text lacks. `goal fact 0` stands before the row of that fact."""
+    wanted = {word for line in lines for word in shown(line).split()}
+    return sorted(wanted - set(re.split(r"\s+", text)) - {"goal", "fact"})
 
 
 def shown(line):
@@ -310,10 +442,13 @@ def shown(line):
 
 
 READY = """const is_shown = selector => !document.querySelector(selector).hidden;
-    return !document.querySelector(".printed") && (is_shown("main") || is_shown("#plans") || document.querySelector(".refused") !== null)
+    const is_drawn = !is_shown("main") || document.querySelector("#grid svg text");
+    return is_drawn && (is_shown("main") || is_shown("#plans") || document.querySelector("article.refused:not([hidden]) .why") !== null)
         || document.getElementById("trouble").textContent !== "";"""
-STATE = "[...document.querySelectorAll('#state .row')].map(row => row.lastChild.title)"
-PRESS = "const press = key => document.body.dispatchEvent(new KeyboardEvent('keydown', {key, bubbles: true}));"
+STATE = """[...document.querySelectorAll("#state .row")].reduce((state, row) => {
+    state[row.querySelector(".var").hash.match(/fact-(\\d+)/)[1]] = row.lastChild.title;
+    return state; }, [])"""
+PRESS = """const press = key => document.getElementById("grid").dispatchEvent(new KeyboardEvent("keydown", {key, bubbles: true}));"""
 FRAMES = "const frame = () => new Promise(requestAnimationFrame);"
 
 
@@ -339,10 +474,9 @@ def lines_in(browser, reports, chosen):
     for _, _, lines, path, _ in chosen:
         shown_in(browser, path)
         trouble = text(browser, "#trouble")
-        found = re.sub(r"\s+", " ", browser.run("return document.querySelector('article').innerText"))
-        wanted = {word for line in lines for word in re.sub(r"\d+", " ", shown(line)).split()} - {"goal", "fact"}
+        found = browser.run("return document.querySelector('article').innerText")
         wrong += [f"{lines[0]}: {trouble}"] if trouble else []
-        wrong += [f"{lines[0]}: {word} isn't shown" for word in sorted(wanted) if word not in found]
+        wrong += [f"{lines[0]}: {word} isn't shown" for word in missing_words(lines, found)]
     return wrong
 
 
@@ -380,7 +514,7 @@ def states(browser, reports):
               const changed = new Promise(resolve => addEventListener("hashchange", resolve, {{once: true}}));
               location.hash = `#plan-${{plan}}-step-0`;
               await changed;
-              const states = [], total = +document.querySelector("#steps .row").ariaSetSize - 1;
+              const states = [], total = document.querySelectorAll("#steps .row").length - 1;
               for (let t = 0; t <= total; t++, press("ArrowRight")) states.push({STATE});
               out.push(states);
             }}
@@ -426,9 +560,9 @@ def hostile(browser, reports):
     browser.press("End", "ArrowLeft", "Home")
     wrong += differs(text(browser, "#trouble"), "", "trouble")
     wrong += differs(browser.run("return document.title"), "✕ <img src=x onerror=alert(1)>\\xe2\\x80\\xae.plan", "title")
-    wrong += differs(browser.run("return document.querySelectorAll('img, b:not(header b, output b), iframe').length"), 0, "elements")
+    wrong += differs(browser.run("return document.querySelectorAll('img, iframe, object').length"), 0, "elements")
     wrong += differs(browser.run("return document.scripts.length"), 2, "scripts")
-    seen = browser.run("return document.body.innerText")
+    seen = browser.run("return document.body.innerText + document.getElementById('state').textContent")
     names = HARM, "&lt;b&gt;", "a\\xe2\\x80\\xaeb\\xe2\\x81\\xa6c", "\\x1b[31mred", "\\xff\\xfe not text"
     wrong += [f"{name!r} isn't shown" for name in names if name not in seen]
     wrong += [f"{ord(c):x} is shown" for c in sorted(set(seen)) if not c.isprintable() and c not in "\n\t"]
@@ -443,38 +577,108 @@ def hostile(browser, reports):
 
 
 def heading(browser):
-    return text(browser, "#detail h3")
+    return text(browser, "#step h3")
+
+
+def focus(browser, name):
+    browser.run("document.getElementById(arguments[0]).focus()", name)
+
+
+WIDE = "return parseFloat(document.querySelector('#grid > div').style.width)"
 
 
 def keys(browser, reports):
-    """Keys select steps, search, and change the scale; nothing needs a pointer."""
+    """Keys act where the focus is. They select steps, search, and change the scale; nothing needs a pointer."""
     page, _ = reports.page(*example("elevator"))
     shown_in(browser, page)
     wrong = differs(heading(browser), "Step 1 up f0 f1", "at first")
+    for pressed in ("ArrowRight", "End", "PageDown", "f", "+"):  # nothing has the focus
+        browser.press(pressed)
+    wrong += differs(heading(browser), "Step 1 up f0 f1", "keys of the window")
+    focus(browser, "grid")
     for pressed, expected in (("ArrowRight", "Step 2"), ("End", "Step 6"), ("ArrowRight", "Step 6"), ("ArrowLeft", "Step 5"),
                               ("PageUp", "Initial"), ("PageDown", "Step 6"), ("Home", "Initial")):
         browser.press(pressed)
-        wrong += [] if heading(browser).startswith(expected) else [f"{pressed}: {heading(browser)}"]
-    wrong += differs(text(browser, "#spent"), "0 of 7", "cost")
-    browser.press("/", *"stop", "ArrowRight")
-    wrong += differs([text(browser, "#found"), heading(browser)], ["3 of 6", "Initial state"], "a search")
-    browser.press("Escape")
-    browser.run("document.getElementById('steps').focus()")
-    browser.press("ArrowDown", "ArrowDown")
-    wrong += differs(heading(browser)[:6], "Step 2", "down in what is found")
-    wide = "return parseFloat(document.querySelector('#grid > div').style.width)"
-    before = browser.run(wide)
+        wrong += [] if heading(browser).lower().startswith(expected.lower()) else [f"{pressed}: {heading(browser)}"]
+    wrong += differs(text(browser, "#spent"), "cost 0 of 7", "cost")
+    before = browser.run(WIDE)
     browser.press(*"++++++++")
-    wrong += [] if browser.run(wide) > before else ["+ doesn't make steps wider"]
+    wrong += [] if browser.run(WIDE) > before else ["+ doesn't make steps wider"]
     browser.press("f")
-    wrong += differs(browser.run(wide), before, "f")
+    wrong += differs(browser.run(WIDE), before, "f")
+    browser.press("/", *"stop", "ArrowRight")
+    wrong += differs([text(browser, "#found"), heading(browser)], ["3 of 6", "initial state"], "a search")
+    focus(browser, "steps")
+    for pressed, expected in (("ArrowDown", "Step 2"), ("ArrowDown", "Step 4"), ("End", "Step 6"), ("ArrowUp", "Step 4"), ("Home", "Step 2"),
+                              ("PageDown", "Step 6"), ("PageUp", "Step 2")):
+        browser.press(pressed)
+        wrong += differs(heading(browser)[:6], expected, f"{pressed} in what is found")
+    focus(browser, "at")
+    browser.press("ArrowRight")
+    said = browser.run("const it = document.getElementById('at'); return [it.type, it.max, it.getAttribute('aria-valuetext')]")
+    wrong += differs(said, ["range", "6", "Step 3 of 6: up f1 f2"], "the slider")
     browser.run("document.activeElement.blur()")
     reached = []
-    for _ in range(24):
+    for _ in range(34):
         browser.press("Tab")
         reached.append(browser.run("return document.activeElement.id"))
-    wanted = ["rows", "which", "order", "fit", "grid", "find", "steps", "detail", "filter", "only", "state"]
-    return wrong + differs([name for name in wanted if name in reached], wanted, "by the tabulator")
+    wanted = ["previous", "play", "next", "at", "narrower", "wider", "fit", "save", "theme", "rows", "which", "order", "only", "grid", "step",
+              "find", "steps", "filter", "state"]
+    wrong += differs([name for name in wanted if name in reached], wanted, "by the tabulator")
+    focus(browser, "state")
+    browser.press("ArrowDown", "ArrowDown", "Enter")
+    return wrong + comes("a fact by keys", lambda: browser.run("return location.hash.startsWith('#fact-')"), True)
+
+
+def escape(browser, reports):
+    """Escape empties a search field, and what it kept away is there again."""
+    page, _ = reports.page(*example("elevator"))
+    shown_in(browser, page)
+    wrong = []
+    for field, count, some, all_of_them in (("filter", "matched", "1 of 5", "5"), ("find", "found", "1 of 6", "6"),
+                                            ("rows", "shown", "1 of 5 variables", "5 of 5 variables")):
+        focus(browser, field)
+        browser.press(*("up f1" if field == "find" else "lift"))
+        wrong += differs(text(browser, f"#{count}"), some, f"{field}: words")
+        browser.press("Escape")
+        found = browser.run("return document.getElementById(arguments[0]).value", field)
+        wrong += differs((found, text(browser, f"#{count}")), ("", all_of_them), f"{field}: Escape")
+    return wrong
+
+
+def paged(browser, box, what):
+    """Says what is wrong where keys don't page a box. A browser that is busy may take the first key late."""
+    down, wrong = "return document.getElementById(arguments[0]).scrollTop", []
+    for key, is_there_then in (("PageDown", lambda top: top > 60), ("End", lambda top: top > 60), ("Home", lambda top: top < 5)):
+        for _ in range(4):
+            browser.press(key)
+            end = time.monotonic() + 3
+            while not (is_done := is_there_then(browser.run(down, box))) and time.monotonic() < end:
+                time.sleep(0.1)
+            if is_done:
+                break
+        wrong += [] if is_done else [f"{key} in {what}: {browser.run(down, box)}"]
+    return wrong
+
+
+def paging(browser, reports):
+    """Each list can be paged where the focus is, also one whose rows aren't all elements; the selected step stays. The order of rows is
+    that of the variables, but that those of the step come first."""
+    wrong = []
+    for page, name in ((reports.large, "5,000 variables"), (reports.wide, "300 variables")):
+        shown_in(browser, page)
+        step = heading(browser)
+        for box in ("state", "step", "compared"):
+            if not browser.run("const it = document.getElementById(arguments[0]); return it.checkVisibility() && it.scrollHeight > it.clientHeight + 40", box):
+                continue
+            focus(browser, box)
+            wrong += paged(browser, box, f"{name}, {box}")
+        wrong += differs(heading(browser), step, f"{name}: the step")
+        order = browser.run("return [...document.querySelectorAll('#state .row')].map(it => [it.classList.contains('here'), it.querySelector('.var').hash])")
+        numbers = [(not is_here, 0 if is_here else int(re.search(r"fact-(\d+)", address)[1])) for is_here, address in order]
+        wrong += [] if numbers == sorted(numbers) else [f"{name}: the order of the state"]
+        wrong += [] if order[0][0] else [f"{name}: what the step changes isn't first"]
+    return wrong
 
 
 def choose(browser, name, value):
@@ -486,10 +690,14 @@ def choose(browser, name, value):
 
 
 def fields(browser, reports):
-    """Filters keep what has the words; the rows and their order are chosen."""
+    """Filters keep what has the words; the rows and their order are chosen. The step that fails shows what it requires and would do."""
     page, _ = reports.page(*example("short"))
     shown_in(browser, page)
     wrong = differs(heading(browser), "Step 2 take f2", "the failing step")
+    rows = browser.run("return [...document.querySelectorAll('#step li.fact')].map(it => it.innerText.replace(/\\s+/g, ' ').trim())")
+    wrong += differs(rows, ["✗ Atom handempty() it is NegatedAtom handempty() since step 1", "✓ Atom lying(f2) since the start"], "what it requires")
+    wrong += differs("Atom holding(f2)" in text(browser, "#step"), True, "what it would do")
+    wrong += differs(browser.run("return document.querySelectorAll('#step .reasons').length"), 0, "reasons are said twice")
     for which, expected in (("all", 8), ("derived", 3), ("goal", 1), ("changing", 2), ("main", 3)):
         choose(browser, "which", which)
         wrong += differs(text(browser, "#shown"), f"{expected} of 8 variables", which)
@@ -497,6 +705,7 @@ def fields(browser, reports):
         choose(browser, "order", order)
     choose(browser, "rows", "hand")
     wrong += differs(text(browser, "#shown"), "1 of 8 variables", "rows")
+    choose(browser, "rows", "")
     for words, expected in (("lit", "2 of 8"), ("LYING(F2)", "1 of 8"), ("nothing", "0 of 8"), ("", "8")):
         choose(browser, "filter", words)
         wrong += differs(text(browser, "#matched"), expected, f"filter {words}")
@@ -504,56 +713,101 @@ def fields(browser, reports):
     browser.run("document.querySelector('.reasons a[href=\"#step-1\"]').click()")
     wrong += comes("a link", lambda: heading(browser), "Step 1 take f1")
     choose(browser, "only", True)
-    wrong += differs(text(browser, "#matched"), "2 of 8", "changed only")
+    wrong += differs([text(browser, "#matched"), text(browser, "#shown")], ["2 of 8", "2 of 8 variables"], "only this step's")
+    for words, expected in (("holding(f1)", "1 of 3"), ("take", "2 of 3"), ("", "3")):
+        choose(browser, "find", words)
+        wrong += differs(text(browser, "#found"), expected, f"find {words}")
+    focus(browser, "grid")
     browser.press("End")
-    wrong += differs("Not judged: step 2 fails before it." in text(browser, "#detail"), True, "not judged")
+    wrong += differs("Not judged: step 2 fails before it." in text(browser, "#step"), True, "not judged")
     shown_in(browser, page, "#step-3")
-    return wrong + differs(heading(browser), "Step 3 put f2 feed", "an address")
+    wrong += differs(heading(browser), "Step 3 put f2 feed", "an address")
+    for address, first, marks in (("#fact-0-0", "rule 3", "✗✗"), ("#fact-7-1", "rule 9", "✓")):
+        # a derived fact that is false, and a default that another value has replaced
+        shown_in(browser, page, address)
+        tree = text(browser, "#fact .tree")
+        wrong += differs((tree.split("\n")[0].strip(), "".join(re.findall("[✓✗]", tree))[:len(marks)]), (first, marks), f"rules of {address}")
+    links = browser.run("return [...document.querySelectorAll('#fact .tree a')].map(it => /^#fact-\\d+(-\\d+)?$/.test(it.hash))")
+    return wrong + differs(bool(links) and all(links), True, "links of rules")
+
+
+def buttons(browser, reports):
+    """Buttons go to the next step and back, play the plan, and make steps wider. Who wants no motion isn't offered to play."""
+    page, _ = reports.page(*example("elevator"))
+    shown_in(browser, page)
+    wrong, press = [], "document.getElementById(arguments[0]).click()"
+    for name, expected in (("next", "Step 2"), ("next", "Step 3"), ("previous", "Step 2")):
+        browser.run(press, name)
+        wrong += differs(heading(browser)[:6], expected, name)
+    before = browser.run(WIDE)
+    browser.run(press, "wider")
+    wrong += [] if browser.run(WIDE) > before else ["wider"]
+    browser.run(press, "narrower")
+    browser.run(press, "play")
+    wrong += differs(browser.run("return document.getElementById('play').ariaLabel"), "Pause", "while it plays")
+    wrong += comes("played", lambda: heading(browser)[:6], "Step 6")
+    wrong += comes("played to the end", lambda: browser.run("return document.getElementById('play').ariaLabel"), "Play")
+    wrong += differs("Step 6 of 6" in text(browser, "#live"), True, "what is told")
+    light = "return getComputedStyle(document.body).backgroundColor"
+    before = browser.run(light)
+    browser.run(press, "theme")
+    wrong += [] if browser.run(light) != before else ["dark is as light"]
+    if isinstance(browser, Chromium):
+        browser.prefer("prefers-reduced-motion", "reduce")
+        wrong += differs(browser.run("return document.getElementById('play').checkVisibility()"), False, "play without motion")
+        browser.prefer("forced-colors", "active")
+        colours = browser.run("const it = getComputedStyle(document.documentElement); return ['card', 'ink'].map(name => it.getPropertyValue('--' + name))")
+        wrong += differs([it.strip() for it in colours], ["Canvas", "CanvasText"], "forced colours")
+        browser.chrome("Emulation.setEmulatedMedia", features=[])
+    return wrong
 
 
 def pointer(browser, reports):
-    """A click on the timeline or on the map selects a step. The wheel with the control key changes the scale."""
+    """A click on the timeline or on the map selects a step, on a label it shows the variable. The wheel with the control key changes the
+    scale."""
     page, _ = reports.page(*example("elevator"))
     shown_in(browser, page)
     wrong, places = [], {}
     for name in ("grid", "cost"):
         place = "const it = document.getElementById(arguments[0]).getBoundingClientRect(); return [it.left, it.top, it.width]"
         places[name] = browser.run(place, name)
-    browser.click(places["grid"][0] + 255, places["grid"][1] + 60)
-    wrong += differs(heading(browser), "Initial state", "the first column")
-    right = places["cost"][0] + places["cost"][2] - 160
-    browser.click(right, places["cost"][1] + 30)
+    bar = browser.run("const it = document.querySelector('#grid svg g path').getBoundingClientRect(); return [it.left, it.right]")
+    browser.click(bar[0] + 10, places["grid"][1] + 60)
+    wrong += differs(heading(browser), "initial state", "the first column")
+    browser.click(bar[1] - 10, places["cost"][1] + 30)
     wrong += differs(heading(browser)[:6], "Step 6", "the end of the map")
-    wide = "return parseFloat(document.querySelector('#grid > div').style.width)"
-    before = browser.run(wide)
-    browser.wheel(places["grid"][0] + 600, places["grid"][1] + 60, -400)
-    wrong += comes("the wheel makes it wider", lambda: browser.run(wide) > before, True)
+    before = browser.run(WIDE)
+    browser.wheel(places["grid"][0] + 400, places["grid"][1] + 60, -400)
+    wrong += comes("the wheel makes it wider", lambda: browser.run(WIDE) > before, True)
     browser.point(places["grid"][0] + 300, places["grid"][1] + 60)
     said = browser.run("return document.getElementById('grid').title")
-    return wrong + ([] if "var" in said else [f"below the pointer: {said}"])
+    wrong += [] if "var" in said else [f"below the pointer: {said}"]
+    browser.click(places["grid"][0] + 30, places["grid"][1] + 60)
+    return wrong + differs("Changes: 3" in text(browser, "#fact"), True, "a click on a label")
 
 
 def several(browser, reports):
-    """Several plans are listed, and two of them are compared."""
+    """Several plans are listed, the best first, and two of them are compared."""
     task, plan = example("valid")
     short, late = example("short")[1], plan.replace(b"(put f2 feed)", b"(put f2 link)")
-    page, status = reports.page(task, ("a.plan", plan), ("b.plan", short), ("c.plan", late), ("d.plan", b"x\n"))
+    page, status = reports.page(task, ("d.plan", plan), ("b.plan", short), ("c.plan", late), ("a.plan", b"x\n"))
     shown_in(browser, page)
     wrong = differs(status, 1, "status")
     rows = browser.run("return [...document.querySelectorAll('#listed tr')].map(row => [...row.cells].map(cell => cell.textContent))")
     wrong += differs(rows, [
-        ["a.plan", "✓ plan valid: 4 steps, cost 4", "4", "4"], ["b.plan", "✕ plan invalid: step 2: not applicable", "3", "–"],
-        ["c.plan", "✕ plan invalid: step 4: not applicable", "4", "–"], ["d.plan", "! plan refused: line 1: keyword", "–", "–"],
+        ["d.plan", "✓ plan valid: 4 steps, cost 4", "4", "4"], ["b.plan", "✕ plan invalid: step 2: not applicable", "3", "–"],
+        ["c.plan", "✕ plan invalid: step 4: not applicable", "4", "–"], ["a.plan", "! plan refused: line 1: keyword", "–", "–"],
     ], "the list")
-    wrong += differs(text(browser, "#parts"), "They part at step 2. Steps at the end that are the same: 2.", "where they part")
-    pairs = """return [...document.querySelectorAll("#compared .row")].map(
+    wrong += differs(text(browser, "#best"), "4 plans, 1 valid, best cost 4: d.plan", "the best")
+    wrong += differs(text(browser, "#parts"), "1 difference: 1 only in d.plan.", "what differs")
+    compared = """return [...document.querySelectorAll("#compared .row")].map(
         row => [...row.children].map(cell => cell.innerText.replace(/\\s+/g, " ").trim()))"""
-    steps = [["1 take f1", "1 take f1"], ["2 put f1 link", ""], ["3 take f2", "2 take f2"], ["4 put f2 feed", "3 put f2 feed"]]
-    wrong += differs(browser.run(pairs), steps, "side by side")
-    browser.run("const it = document.getElementById('other'); it.value = 2; it.dispatchEvent(new Event('change'))")
-    wrong += differs(text(browser, "#parts"), "They part at step 4.", "another pair")
+    steps = [["1 take f1", "1 take f1"], ["2 put f1 link", ""], ["3 take f2", "✕ 2 take f2"], ["4 put f2 feed", "3 put f2 feed"]]
+    wrong += differs(browser.run(compared), steps, "side by side")
+    browser.run("const it = document.getElementById('other'); it.selectedIndex = 2; it.dispatchEvent(new Event('change'))")
+    wrong += differs(text(browser, "#parts"), "2 differences: 1 only in d.plan, 1 only in c.plan.", "another pair")
     shown = "return document.querySelector('article:not([hidden]) h1')?.textContent"
-    for address, verdict in (("#plan-2", rows[1][1][2:]), ("#plan-4", rows[3][1][2:]), ("#plan-1-step-3", rows[0][1][2:])):
+    for address, verdict in (("#plan-2", rows[1][1][2:]), ("#plan-1", rows[3][1][2:]), ("#plan-4-step-3", rows[0][1][2:])):
         # the page is late, so that the note of the last selection is due before it follows
         browser.run("const end = performance.now() + 400; while (performance.now() < end); location.hash = arguments[0]", address)
         wrong += comes(address, lambda: browser.run(shown), verdict)
@@ -562,13 +816,98 @@ def several(browser, reports):
     return wrong + comes("back", lambda: browser.run("return document.querySelector('main').hidden"), True)
 
 
+def moved_steps(browser, reports):
+    """Steps that only stand elsewhere are moved, each one difference; what is common is found, however often names repeat."""
+    task, chance, wrong = example("valid")[0], random.Random(SEED), []
+    names = [f"s{i}" for i in range(12)]
+    cases = [(names, [*names[1:7], names[0], *names[7:]], (1, 0, 0)), (list("udududud"), list("dududud"), (0, 1, 0)), (names, names, (0, 0, 0)),
+             (names, [*names[:4], "new", *names[4:]], (0, 0, 1)), (list("aab"), list("baa"), (1, 0, 0)), ([], names, (0, 0, 12))]
+    for _ in range(12):
+        some = [chance.choice("abc") for _ in range(chance.randrange(9))]
+        other = [chance.choice("abc") for _ in range(chance.randrange(9))]
+        cases.append((some, other, None))
+    for some, other, expected in cases:
+        plans = [b"".join(b"(%s)\n" % it.encode() for it in steps) + b"; cost = 0 (unit cost)\n" for steps in (some, other)]
+        page, _ = reports.page(task, *plans)
+        shown_in(browser, page)
+        said = text(browser, "#parts")
+        found = tuple(int(it[1]) if it else 0 for it in (re.search(rf"(\d+) {words}", said) for words in ("moved", r"only in p\.1", r"only in p\.2")))
+        wrong += differs(found, expected, f"{some} and {other}") if expected else []
+        rows = browser.run("return [...document.querySelectorAll('#compared .row')].map(row => [...row.children].map(it => it.querySelector('.name')?.textContent ?? null))")
+        sides = [[row[side] for row in rows if row[side] is not None] for side in (0, 1)]
+        wrong += differs(sides, [some, other], "the steps of both, in their order")
+        same = sum(a == b for a, b in rows)
+        wrong += differs(same, longest_common(some, other), f"the steps in common of {some} and {other}")
+    return wrong
+
+
+def longest_common(some, other):
+    """Returns the length of the longest common subsequence."""
+    last = [0] * (len(other) + 1)
+    for it in some:
+        row = [0]
+        for place, its in enumerate(other):
+            row.append(last[place] + 1 if it == its else max(row[-1], last[place + 1]))
+        last = row
+    return last[-1]
+
+
+@functools.lru_cache(None)
+def linked_pages(reports):
+    """Returns pages of random plans with goals, with their tasks and the names of their steps."""
+    chance, pages = random.Random(SEED), []
+    while len(pages) < TASKS:
+        task, plans = walked_task(chance)
+        names, cost = plans[0]
+        has_conditions = any(facts for _, _, effects, _ in task["operators"] for facts, _, _, _ in effects)
+        is_small = len(task["ranges"]) <= VARIABLES and len(names) >= STEPS
+        if any(layer is not None for layer in task["layers"]) and is_small and has_conditions:
+            texts = [it.encode("latin-1") for it in (task_text(task), plan_text(names, cost))]
+            pages.append((reports.page(*texts)[0], task, names))
+    return pages
+
+
+# what the page says of each of these addresses of facts
+FACTS = """const addresses = arguments[0]; return (async () => {
+    const said = [];
+    for (const address of addresses) {
+      const changed = new Promise(resolve => addEventListener("hashchange", resolve, {once: true}));
+      location.hash = address;
+      await changed;
+      said.push([document.querySelector("#fact h3").innerText, [...document.querySelectorAll("#fact .times li")].map(it => it.innerText)]);
+    }
+    return said; })()"""
+
+
+def causal_links(browser, reports):
+    """What a page says about what steps need is so, by the meaning of the task, and so are the steps that nothing needs."""
+    wrong, count = [], 0
+    for page, task, names in linked_pages(reports):
+        shown_in(browser, page)
+        goal, found = len(names) + 1, set()
+        facts = [(var, value) for var, size in enumerate(task["ranges"]) for value in range(size)]
+        said = browser.run(FACTS, [f"#fact-{var}-{value}" for var, value in facts])
+        for (var, value), (title, lines) in zip(facts, said):
+            # a value that doesn't occur isn't in the page
+            for line in lines if title == f"Atom v{var}({value})" else []:
+                form = re.search(r"(?:made true by step (\d+)|from the start)(?:, needed by (.*?))?(?:, until step \d+)?$", line)
+                users = form[2].split(", ") if form and form[2] else []
+                found |= {(int(form[1] or 0), var, goal if it == "the goal" else int(it.split()[1])) for it in users}
+        expected = links_of(task, names)
+        count += len(expected)
+        wrong += [f"{page}: {what}: {sorted(them)}" for what, them in (("missing", expected - found), ("too many", found - expected)) if them]
+        marked = browser.run("return [...document.querySelectorAll('#steps .row')].filter(it => it.querySelector('.unneeded')).map(it => +it.id.slice(4))")
+        wrong += differs(marked, unneeded_steps(task, names), f"{page}: steps that nothing needs")
+    return wrong + ([] if count > 30 else [f"only {count} links"])
+
+
 def edges(browser, reports):
     """Plans and tasks that are hardly there, other line ends, and great costs."""
     minimal, (task, plan) = as_bytes(why.MINIMAL), example("valid")
     wrong, huge = [], 2**64 - 1
     for name, (task, plan), status, words in (
-        ("an empty plan", (minimal, b"; cost = 0 (unit cost)\n"), 0, ["plan valid: 0 steps, cost 0", "Initial state"]),
-        ("an empty plan, not valid", (task, b"; cost = 0 (unit cost)\n"), 1, ["goal fact 0 not reached", "Initial state"]),
+        ("an empty plan", (minimal, b"; cost = 0 (unit cost)\n"), 0, ["plan valid: 0 steps, cost 0", "initial state"]),
+        ("an empty plan, not valid", (task, b"; cost = 0 (unit cost)\n"), 1, ["goal fact 0 not reached", "initial state"]),
         ("a failure at step 1", (task, b"(no)\n; cost = 0 (unit cost)\n"), 1, ["step 1: no operator of that name", "Step 1 no"]),
         ("CR LF", [data.replace(b"\n", b"\r\n") for data in (task, plan)], 0, ["plan valid: 4 steps, cost 4", "Step 1 take f1"]),
         ("a great cost", (task, plan.replace(b"4", b"%d" % huge)), 1, [f"plan invalid: cost is 4, not {huge}", f"says {huge}."]),
@@ -578,17 +917,19 @@ def edges(browser, reports):
         wrong += differs(found, status, f"{name}: status") + differs(text(browser, "#trouble"), "", f"{name}: trouble")
         seen = re.sub(r"\s+", " ", text(browser, "body"))
         wrong += [f"{name}: {word} isn't shown" for word in words if word not in seen]
+        focus(browser, "grid")
         browser.press("ArrowRight", "f", "End", "f", "+", "Home")
-        wrong += differs(heading(browser), "Initial state", f"{name}: after keys")
+        wrong += differs(heading(browser), "initial state", f"{name}: after keys")
     if isinstance(browser, Chromium):  # its scripts see the classes of the page
-        sums = """const task = {moves: [[0]], operators: [[0, 2147483647, "", []]], initial: [], variables: [], goal: []};
-            return String(new Run(task, {steps: Array(5e6).fill(0), rest: [], answer: []}, []).cost[5e6])"""
+        sums = """const task = {moves: [[0]], operators: new Map([[0, {cost: 2147483647}]]), variables: [], goal: []};
+            const plan = {steps: Array(5e6).fill(0), rest: [], missing: [], clash: []};
+            return String(new Run(task, plan, []).cost[5e6])"""
         wrong += differs(browser.run(sums), str(5000000 * (2**31 - 1)), "a sum of costs")
     return wrong
 
 
 def paper(browser, reports):
-    """Paper has all steps and is light; afterwards the page is as before. The dark is dark."""
+    """Paper is light, and has all steps and rows; afterwards the page is as before. The dark is dark."""
     page, _ = reports.page(*example("elevator"))
     shown_in(browser, page)
     light = "return getComputedStyle(document.body).backgroundColor"
@@ -596,24 +937,50 @@ def paper(browser, reports):
     browser.darken(True)
     dark = browser.run(light)
     wrong += [] if dark != before else ["the dark is as light"]
-    browser.run("document.getElementById('steps').parentElement.style.maxHeight = '90px'; return document.body.offsetHeight")
-    count = "return document.querySelectorAll('#steps .row').length"
     browser.run("dispatchEvent(new Event('beforeprint'))")
+    count = "return ['#steps .row', '#state .row', '#paper tbody tr'].map(it => document.querySelectorAll(it).length)"
     card = "return getComputedStyle(document.documentElement).getPropertyValue('--card').trim()"
-    wrong += differs(browser.run(count), 7, "steps on paper") + differs(browser.run(card), "#ffffff", "the colour of paper")
-    if isinstance(browser, Chromium):
-        browser.request("POST", "/goog/cdp/execute", {"cmd": "Emulation.setEmulatedMedia", "params": {"media": "print"}})
-        looks = """return ["#find", "#steps .row"].map(it => getComputedStyle(document.querySelector(it)))
-            .map(it => it.display + " " + it.position)"""
-        wrong += differs(browser.run(looks), ["none static", "flex static"], "the style of paper")
-        browser.request("POST", "/goog/cdp/execute", {"cmd": "Emulation.setEmulatedMedia", "params": {"media": ""}})
-        browser.darken(True)
+    lost = """return [...document.querySelectorAll("#paper path")].map(it => /url.#([^)]+)/.exec(it.getAttribute("fill"))?.[1])
+        .filter(id => id && !document.querySelector("#paper #" + id))"""
+    wrong += differs(browser.run(lost), [], "patterns that paper lacks")
+    wrong += differs(browser.run(count), [7, 5, 5], "rows on paper") + differs(browser.run(card), "#ffffff", "the colour of paper")
     browser.run("dispatchEvent(new Event('afterprint'))")
     wrong += differs(browser.run(light), dark, "afterwards")
-    wrong += [] if browser.printed().startswith(b"%PDF") else ["nothing is printed"]
-    browser.press("ArrowRight")
     browser.darken(False)
-    return wrong + differs(heading(browser)[:6], "Step 2", "a key after that")
+    labels = [f"var{i}" for i in range(300)]
+    wrong += looks.paper_pages(browser, reports.wide, labels, shown_in)
+    wrong += looks.printed_at_once(reports.wide, labels) if isinstance(browser, Chromium) else []
+    shown_in(browser, reports.large)
+    browser.run("dispatchEvent(new Event('beforeprint'))")
+    said = browser.run("return [document.getElementById('paper').innerText, document.getElementById('steps').textContent].join()")
+    wrong += [] if re.search(r"99,\d{3} more", said) else ["what is left out on paper isn't said"]
+    browser.run("dispatchEvent(new Event('afterprint'))")
+    return wrong
+
+
+def appearance(browser, reports):
+    """How pages look: boxes, names, colours, and the picture that is saved."""
+    task, plan = example("valid")
+    late = plan.replace(b"(put f2 feed)", b"(put f2 link)")
+    pages = [("elevator", reports.page(*example("elevator"))[0]), ("short", reports.page(*example("short"))[0]), ("wide", reports.wide),
+             ("long names", long_names(reports)), ("several", reports.page(task, plan, example("short")[1], late)[0]),
+             ("refused", reports.page(task, b"(take f1)\n(put\n")[0])]
+    wrong = looks.geometry(browser, pages[:5], shown_in) + looks.senses(browser, [pages[i] for i in (0, 1, 3, 4)], shown_in)
+    wrong += looks.colours(browser, pages[0][1], shown_in) + looks.patterns(browser, pages[0][1], shown_in)
+    wrong += looks.saved(browser, pages[0][1], shown_in)
+    some, other = (looks.looks_of(browser, page, shown_in) for page in (pages[0][1], reports.page(*example("elevator"))[0]))
+    wrong += differs({name: kinds[0] for name, kinds in some.items()}, {name: kinds[0] for name, kinds in other.items()}, "colours by names")
+    browser.resize(1920, 1080)
+    shown_in(browser, reports.wide)
+    high = browser.run("return document.getElementById('grid').clientHeight")
+    return wrong + ([] if high > 800 else [f"the picture has {high} of 1080 pixels"])
+
+
+def long_names(reports):
+    """Returns a page whose names are as long as some are."""
+    long = b"transport-the-very-large-container-by-the-northern-ferry"
+    task, plan = (data.replace(b"take", long).replace(b"lit(", b"illuminated-by-any-lamp-of-the-house(") for data in example("short"))
+    return reports.page(task, plan)[0]
 
 
 def large_report(reports):
@@ -622,11 +989,12 @@ def large_report(reports):
     pieces = task_pieces(domain), plan_pieces(domain.plan(100000))
     task, plan = reports.files(*("".join(it).encode() for it in pieces))
     page = os.path.join(os.path.dirname(task), "report.html")
-    process = subprocess.Popen([*reports.command, task, plan, "-o", page, "--sas", reports.sas])
+    process = subprocess.Popen([*reports.command, task, plan, "-o", page, "--sas", reports.sas], stdout=subprocess.DEVNULL)
     _, status, used = os.wait4(process.pid, 0)
     found = {"seconds": used.ru_utime + used.ru_stime, "megabytes": used.ru_maxrss / 1024, "bytes": os.path.getsize(page)}
     print("large report:", ", ".join(f"{value:.0f} {name}" if value > 9 else f"{value:.1f} {name}" for name, value in found.items()))
-    reports.large = page
+    reports.large, domain = page, Gripper(297)
+    reports.wide, _ = reports.page(*("".join(it).encode() for it in (task_pieces(domain), plan_pieces(domain.plan(900)))))
     wrong = differs(os.waitstatus_to_exitcode(status), 0, "status")
     return wrong + [f"{value} {name}" for name, value in found.items() if value > LARGE[name]]
 
@@ -649,12 +1017,13 @@ def large_page(browser, reports):
     print(f"large page in {type(browser).__name__}: first picture {first:.1f} s, the slowest key {key:.2f} s")
     wrong = [f"the first picture took {first} s"] * (first > LARGE["picture"]) + [f"a key took {key} s"] * (key > LARGE["key"])
     wrong += differs(heading(browser).split(" ")[1], "100,000", "the last step")
-    last = browser.run("return [...document.querySelectorAll('#steps .row')].pop().innerText.split(/\\s/)[0]")
+    last = browser.run("return document.querySelector('#steps .row.on').innerText.split(/\\s/)[0]")
     rows = browser.run("return document.querySelectorAll('#steps .row').length")
     wrong += differs(last, "100,000", "the last row") + [f"{rows} rows"] * (rows > 200)
+    wrong += comes("rows of the state", lambda: browser.run("return document.querySelectorAll('#state .row').length"), 5000)
     box = browser.run("""const it = document.getElementById("grid"), box = it.getBoundingClientRect();
         return [box.left, box.top, it.clientWidth, it.scrollWidth]""")
-    browser.click(box[0] + box[2] - 160, box[1] + 60)
+    browser.click(box[0] + box[2] - 170, box[1] + 60)
     wrong += differs(heading(browser).split(" ")[1], "100,000", "the column at the right end")
     browser.run("document.getElementById('grid').scrollLeft = arguments[0]", box[3] // 2)
     browser.run(FRAMES + "return frame().then(frame).then(() => 1)")
@@ -663,8 +1032,10 @@ def large_page(browser, reports):
     return wrong + ([] if 49900 < middle < 50100 else [f"the middle is step {middle}"])
 
 
-ALONE = (statuses, read_once, closed_streams, signals, limits, found_programs, with_library, large_report)
-IN_BROWSER = (states, hostile, keys, fields, pointer, several, edges, paper, large_page)
+ALONE = (statuses, said, names_of_plans, one_run, later_lines, read_once, closed_streams, signals, limits, found_programs, with_library,
+         large_report)
+IN_BROWSER = (states, causal_links, hostile, keys, escape, paging, fields, buttons, pointer, several, moved_steps, edges, paper, appearance,
+              large_page)
 
 
 def tried(test, *given):

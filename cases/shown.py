@@ -59,7 +59,8 @@ def section_of(document, heading):
 def transcripts(text):
     """Returns the commands that the consoles in a text show, each with what it prints."""
     blocks = re.findall(r"```console\n(.*?)```", text, re.DOTALL)
-    return [part.partition("\n")[::2] for block in blocks for part in re.split(r"^\$ ", block, flags=re.MULTILINE)[1:]]
+    lines = [f"{MARGIN}{line}" for block in blocks for line in block.splitlines()]
+    return [(case["command"], case["output"]) for case in commands_in(lines, "")]
 
 
 def commands_in(lines, document):

@@ -110,18 +110,18 @@ def words_of(part):
     return f"{'none' if part is None else part};"
 
 
-def shown(held, most, stays):
-    """Returns a text as reasons show it: its first bytes, and ` ..` after them if there are more, or a space at its end as `\\x20`. Bytes
-    that don't stay are shown by their numbers."""
-    first = "".join(chr(byte) if stays(byte) else f"\\x{byte:02x}" for byte in held[:most])
+def shown(held, most):
+    """Returns a text as lines with two spaces in front show it: its first bytes, and ` ..` after them if there are more, or a space at its
+    end as `\\x20`. Bytes from 32 to 126 stay, but for the backslash, and all others are shown by their numbers."""
+    first = "".join(chr(byte) if 32 <= byte <= 126 and byte != 92 else f"\\x{byte:02x}" for byte in held[:most])
     if held[most:]:
         return f"{first} .."
     return f"{first[:-1]}\\x20" if held[-1:] == b" " else first
 
 
 def shown_name(name):
-    """Returns a name as lines with two spaces in front show it."""
-    return shown(name.encode("latin-1"), 256, lambda byte: byte >= 32 and byte != 127)
+    """Returns a name as such lines show it."""
+    return shown(name.encode("latin-1"), 256)
 
 
 def with_line(name, line, text):

@@ -11,6 +11,7 @@ Those, and the random ones that are made here, are given to `plan` too, which pr
 import random
 
 from following import long_runs
+from oracles.reasons import reasons
 from oracles.tasks import plan_of, plan_text, task_of, text_of, value_name
 from oracles.traces import lines_of, traced
 from texts import as_bytes, latin, made_by, table
@@ -79,16 +80,25 @@ def named(chance, task):
     return {**task, "names": [[chance.choice((name, name, *NAMES)) for name in names] for names in own]}
 
 
+def why(task, names, cost):
+    """Returns the lines of `plan --why`."""
+    verdict, after = reasons(task, names, cost)
+    return [verdict, *after]
+
+
 def random_cases():
     """Yields plans made at random, which fail in each way. They could show a wrong definition of traces, in a case that no
-    one thought of, and another verdict than that of `plan`."""
+    one thought of, another verdict than that of `plan`, and other reasons behind it."""
     chance = random.Random(SEED)
     for number in range(WALKED + TURNED):
         made = walked_again(chance) if number < WALKED else turned(chance)
         for place, (task, names, cost) in enumerate(made):
             task = named(chance, task)
-            name = f"traced plan {place} of task {number}"
-            yield from twice(name, text_of(task), plan_text(names, cost), traced(task, names, cost))
+            name, files = f"traced plan {place} of task {number}", (text_of(task), plan_text(names, cost))
+            lines, (verdict, *after) = traced(task, names, cost), why(task, names, cost)
+            assert verdict == lines[-1]
+            yield from twice(name, *files, lines)
+            yield case_of(f"{name}, with reasons", *files, [*lines, *after], ("trace", "--why", *TRACE[1:]))
 
 
 def trace_cases():

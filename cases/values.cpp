@@ -76,6 +76,12 @@ static void write_reasons(std::ostream &out, const sas::Reasons &it) {
     if (const auto &similar = it.similar_operator) {
         out << "  similar operator " << similar->op << " line " << similar->line << ' ' << similar->name << '\n';
     }
+    for (const sas::UnknownStep &further : it.further_steps) {
+        out << "  step " << further.step.number << ' ' << further.step.name << '\n';
+        if (const auto &similar = further.similar_operator) {
+            out << "  similar operator " << similar->op << " line " << similar->line << ' ' << similar->name << '\n';
+        }
+    }
     if (it.failing && it.total) {
         out << "  " << *it.failing << " of " << *it.total << (it.step ? " steps name no operator\n" : " goal facts fail\n");
     }

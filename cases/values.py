@@ -90,6 +90,8 @@ def answers():
         files = (*run.whole_cases(), *run.line_cases(), *run.plan_cases(folder), *run.group_cases())
         cases = (*files, *map(run.with_why, files), *run.verdict_cases(), *run.why_cases(), *run.trace_cases())
     answered = (it for it in cases if it["status"] < 2 and "output" in it and not it.get("error"))
+    # of a trace the library has no call with reasons
+    answered = (it for it in answered if not {"trace", "--why"} <= set(it["words"]))
     asked = (it for it in answered if (it["words"] or ["steps"])[0] in REQUESTS)
     return dict.fromkeys((it["status"], as_bytes(it["output"])) for it in asked)
 

@@ -70,6 +70,12 @@ fn write_reasons(out: &mut Vec<u8>, it: &sas::Reasons) {
     if let Some(similar) = it.similar_operator {
         line!(out, format!("  similar operator {} line {} ", similar.operator, similar.line), similar.name);
     }
+    for further in &it.further_steps {
+        line!(out, format!("  step {} ", further.step.number), further.step.name);
+        if let Some(similar) = further.similar_operator {
+            line!(out, format!("  similar operator {} line {} ", similar.operator, similar.line), similar.name);
+        }
+    }
     if let (Some(failing), Some(total)) = (it.failing, it.total) {
         line!(out, format!("  {failing} of {total} "), if it.step.is_some() { "steps name no operator" } else { "goal facts fail" });
     }

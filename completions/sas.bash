@@ -12,8 +12,7 @@ _sas() {
         if [[ ${COMP_WORDS[place]} != -?* ]]; then ((files += 1)); fi
     done
     case $request in
-    plan) flags="--why $flags" most=2 ;;
-    trace) most=2 ;;
+    plan | trace) flags="--why $flags" most=2 ;;
     plans) most=1000000 ;;
     mutex | show | check | print | steps) flags="--why $flags" most=1 ;;
     esac

@@ -118,6 +118,12 @@ struct CostFacts {
     std::uint64_t metric = 0, steps = 0, cost_lines = 0;
 };
 
+// A step whose name no operator has, and an operator that may be meant.
+struct UnknownStep {
+    NamedStep step;
+    std::optional<SimilarOperator> similar_operator;
+};
+
 // The first step that could also be a later operator of its name, and the first such operator.
 struct CouldAlsoBe {
     std::uint64_t step = 0;
@@ -128,6 +134,7 @@ struct CouldAlsoBe {
 struct Reasons {
     std::optional<NamedStep> step;
     std::optional<SimilarOperator> similar_operator;
+    std::vector<UnknownStep> further_steps; // up to four of the other steps that name no operator
     std::vector<BlockedOperator> operators;
     std::optional<Conflict> conflict;
     std::optional<std::uint64_t> failing, total; // of `K of N steps name no operator`, or of `K of N goal facts fail`
@@ -141,6 +148,10 @@ struct Reasons {
 namespace detail {
 
 inline bool starts(std::string_view text, std::string_view words) noexcept { return text.substr(0, words.size()) == words; }
+
+inline bool ends(std::string_view text, std::string_view words) noexcept {
+    return text.size() >= words.size() && text.substr(text.size() - words.size()) == words;
+}
 
 // Takes a line off the front of a text.
 inline std::string_view next_line(std::string_view &text) noexcept {
@@ -221,13 +232,16 @@ inline void add(Reasons &to, std::string_view line, std::string_view verdict) {
     Effect effect;
     CostFacts cost = to.cost.value_or(CostFacts());
     std::uint64_t number = 0, all = 0;
-    // a step may have any name, so the first line about one is never the one about what it could also be
+    // a step may have any name, so before the line that counts them none is about what a step could also be
+    const bool is_unknown = !to.total && ends(verdict, ": no operator of that name");
     if (!to.step && starts(verdict, "plan invalid: step ") && matches(line, "  step ", step.number, " ", step.name)) {
         to.step = step;
+    } else if (is_unknown && matches(line, "  step ", step.number, " ", step.name)) {
+        to.further_steps.push_back({step, {}});
     } else if (matches(line, "  step ", number, " could also be operator ", it.op)) {
         to.could_also_be = CouldAlsoBe{number, it.op};
     } else if (matches(line, "  similar operator ", it.op, " line ", it.line, " ", it.name)) {
-        to.similar_operator = it;
+        (to.further_steps.empty() ? to.similar_operator : to.further_steps.back().similar_operator) = it;
     } else if (verdict.find("conflicting") != verdict.npos && matches(line, "  operator ", it.op, " line ", it.line)) {
         to.conflict = Conflict{it.op, it.line, {}};
     } else if (to.conflict && matches(line, "    effect ", effect.number, " sets ", effect.fact)) {

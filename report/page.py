@@ -1,97 +1,111 @@
-"""The page: the verdicts, the data of the timelines, style and scripts."""
+"""The page: its data, the verdicts, the style and the scripts."""
+import array
 import base64
 import hashlib
 import html
 import json
-import os
+import pathlib
 import re
 import zlib
 
-from .task import Moves, Task, lines, text
-from .verdict import SIGNS, article, kind
+from .task import Task, text
+from .verdict import SIGNS, article, bdi
 
-FOLDER = os.path.join(os.path.dirname(os.path.abspath(__file__)), "page")
-SCRIPTS = ("data", "labels", "geometry", "drawing", "lists", "panels", "reasons", "plans", "input")
-FACT = re.compile(r" +(?:requires|effect \d+ sets|rule \d+ derives) (\d+) (\d+) ")
-DERIVES = re.compile(r" +rule (\d+) derives ")
-
-
-class Plan:
-    """A plan file with what `sas` printed about it.
-
-    Attributes:
-        answer: The lines of `sas plan --why`: the verdict, and the reasons.
-        steps: Of each step that went through its move.
-        rest: The names of the steps after these. The first one failed, and the others weren't judged.
-    """
-
-    def __init__(self, label, data, why, trace, moves):
-        self.label, self.data, self.steps = label, data, moves.steps(trace)
-        self.answer = [text(line, len(line)) for line in lines(why)]
-        names = [] if kind(self.answer[0]) == "refused" else [text(line[1:-1]) for line in lines(data) if line.startswith(b"(")]
-        self.rest = names[len(self.steps):]
-
-    def numbers(self, moves):
-        costs = {number: moves.operators[move[0]][0] for move, number in moves.found.items()}
-        cost = sum(costs[step] for step in self.steps)
-        judged = {"went through": len(self.steps), "cost so far": cost} if self.rest else {"cost": cost}
-        return {} if kind(self.answer[0]) == "refused" else {"steps": len(self.steps) + len(self.rest), **judged}
+FOLDER = pathlib.Path(__file__).resolve().parent / "page"
+SCRIPTS = ("data causes labels lists geometry drawing paper facts panels plans input").split()
+POLICY = ("default-src 'none'; style-src 'sha256-%s'; script-src 'sha256-%s'; base-uri 'none'; "
+          "form-action 'none'; require-trusted-types-for 'script'; trusted-types 'none'")
+# bytes of data that stand in the page as they are, so that it is whole when it is loaded
+PLAIN = 1_000_000
 
 
-def differences(rows):
-    """Returns the rows with the difference to the row before in the first place, which takes less room."""
-    return [[row[0] - before[0], *row[1:]] for before, row in zip([[0]] + rows, rows)]
+def unpacked(moves):
+    """Yields each move as text. It has the difference to the operator before, which is shorter."""
+    last = 0
+    for packed in moves:
+        move = array.array("I")
+        move.frombytes(packed)
+        operator, *changes = move
+        yield "[%s]" % ",".join(map(str, [operator - last, *changes]))
+        last = operator
 
 
 def task_data(task, moves, plans):
-    """Returns what the page needs of a task: of variables the values that occur, the operators, and the moves of all plans."""
-    facts = [fact for conditions in task.conditions.values() for fact in conditions] + task.goal
-    facts += [(int(found[1]), int(found[2])) for plan in plans for found in map(FACT.match, plan.answer) if found]
-    for _, *changes in moves.found:
-        facts += zip(changes[::2], changes[1::2])
+    """Returns what the page needs of a task: of variables the values that occur, and the rest."""
     used = [{value} for value in moves.initial or [0] * len(task.variables)]
-    for var, value in facts:
+    facts = [(it["var"], it["value"]) for plan in plans for it in plan.reasons if "var" in it]
+    rows = [*task.rules, *(fact for _, prevail, _ in task.operators.values() for fact in prevail)]
+    for _, _, effects in task.operators.values():
+        rows += [(*effect[:-2], effect[-1]) for effect in effects]
+        rows += [effect[-3:-1] for effect in effects if effect[-2] >= 0]
+    facts += [fact for row in rows for fact in zip(row[::2], row[1::2])]
+    for packed in moves.found:
+        changes = array.array("I", packed)[1:]
+        facts += zip(changes[::2], changes[1::2])
+    for var, value in facts + task.goal:
         used[var].add(value)
-    places = {number: place for place, number in enumerate(moves.operators)}
-    return {
-        "counts": task.counts, "goal": task.goal, "rules": task.conditions, "initial": moves.initial,
-        "variables": [[text(name), layer, {value: text(names[value]) for value in sorted(values)}]
-                      for (name, layer, names), values in zip(task.variables, used)],
-        "operators": differences([[it, cost, text(name), task.requires[it]] for it, (cost, name) in moves.operators.items()]),
-        "moves": differences([[places[operator], *changes] for operator, *changes in moves.found]),
-    }
+    variables = [[text(name), layer, {it: text(names[it]) for it in sorted(values)}, default]
+                 for (name, layer, names, default), values in zip(task.variables, used)]
+    operators = {it: [*known, moves.operators.get(it)] for it, known in task.operators.items()}
+    return {"goal": task.goal, "rules": task.rules, "initial": moves.initial,
+            "operators": operators, "variables": variables}
+
+
+def summary(plans):
+    """Returns what `sas plan` prints of one plan, or the last line of `sas plans` of several."""
+    if not plans[1:] or plans[0].verdict.startswith("task"):
+        return plans[0].verdict
+    valid = [plan for plan in plans if plan.kind == "valid"]
+    best = min(valid, key=lambda plan: plan.cost, default=None)
+    named = ", best cost %d: %s" % (best.cost, best.label) if best else ""
+    return "%d plans, %d valid%s" % (len(plans), len(valid), named)
+
+
+def listed(plans):
+    """Returns the rows of the table of plans: valid ones by their costs, then the others."""
+    kinds = list(SIGNS)
+    rank = [(kinds.index(it.kind), it.cost * (it.kind == "valid"), i) for i, it in enumerate(plans)]
+    row = '<tr class=%s><td><a href="#plan-%d">%s</a><td>%s %s<td>%s<td>%s'
+    return "".join(row % (
+        plan.kind, i + 1, bdi(plan.label), SIGNS[plan.kind], html.escape(plan.verdict),
+        "–" if plan.kind == "refused" else format(len(plan.steps) + len(plan.rest), ","),
+        format(plan.cost, ",") if plan.kind == "valid" else "–")
+        for *_, i in sorted(rank) for plan in [plans[i]])
 
 
 def part(name):
-    with open(os.path.join(FOLDER, name), encoding="utf-8") as file:
-        return file.read()
+    return FOLDER.joinpath(name).read_text("utf-8")
 
 
 def encoded(data):
     return base64.b64encode(data).decode()
 
 
-def page(version, task_name, task_bytes, answers):
-    """Returns the page, and whether every plan is valid. Of each plan `answers` has its name, its bytes, and what `sas plan --why` and
-    `sas trace` print. They are taken one by one, as they may be large."""
-    moves, names = Moves(), {}
-    plans = [Plan(*answer, moves) for answer in answers]
-    first = plans[0].answer[0]
-    rules = {int(found[1]) for plan in plans for found in map(DERIVES.match, plan.answer) if found}
-    task = None if first.startswith("task refused: line ") else Task(task_bytes, moves.operators, rules)
-    data = {"task": task and task_data(task, moves, plans), "plans": [
-        {"label": plan.label, "answer": plan.answer, "steps": plan.steps, "rest": [names.setdefault(it, len(names)) for it in plan.rest]}
-        for plan in plans], "names": list(names)}
-    refused = [{"task refused": task_bytes, "plan refused": plan.data}.get(plan.answer[0][:12]) for plan in plans]
-    articles = [article(i, plan.label, task_name, plan.answer, it, [plan.numbers(moves), task.counts if task else {}])
-                for i, (plan, it) in enumerate(zip(plans, refused), 1)]
-    title = "%s %s" % (SIGNS[kind(first)], plans[0].label) if len(plans) == 1 else "%d plans of %s" % (len(plans), task_name)
-    parts = {"title": html.escape(title), "version": html.escape(version), "articles": "".join(articles), "style": part("style.css"),
-             "script": "".join(part(name + ".js") for name in SCRIPTS),
-             "data": encoded(zlib.compress(json.dumps(data, separators=(",", ":")).encode(), 9))}
+def page(version, task_name, task_bytes, plans, moves):
+    """Returns the bytes of the page."""
+    names, first = {}, plans[0]
+    wanted = {number for plan in plans for number in plan.operators()}
+    is_read = not first.verdict.startswith("task refused: line ")
+    task = Task(task_bytes, wanted | moves.operators.keys()) if is_read else None
+    data = json.dumps({"task": task and task_data(task, moves, plans), "plans": [
+        {"label": plan.label, "kind": plan.kind, "verdict": plan.verdict,
+         "missing": plan.facts("requires"), "clash": plan.facts("sets"),
+         "operators": plan.operators(), "steps": plan.steps.tolist(),
+         "rest": [names.setdefault(it, len(names)) for it in plan.rest]}
+        for plan in plans], "names": list(names)}, separators=(",", ":"))
+    data = '{"moves":[%s],%s' % (",".join(unpacked(moves.found)), data[1:])
+    is_plain = len(data) <= PLAIN
+    articles = [article(i, plan, plans[1:], task_name, task_bytes, task.counts if task else {})
+                for i, plan in enumerate(plans, 1)]
+    several, single = (len(plans), task_name), (SIGNS[first.kind], first.label)
+    title = "%d plans of %s" % several if plans[1:] else "%s %s" % single
+    packed = data.replace("<", "\\u003c") if is_plain else encoded(zlib.compress(data.encode(), 9))
+    parts = {"title": html.escape(title), "version": html.escape(version),
+             "articles": "".join(articles), "listed": listed(plans),
+             "summary": html.escape(summary(plans)),
+             "style": part("style.css"), "script": "".join(part(it + ".js") for it in SCRIPTS),
+             "kind": "json" if is_plain else "deflate", "data": packed}
     # only this style and this script are allowed, by their digests, and no address is
-    digests = {word: encoded(hashlib.sha256(parts[word].encode()).digest()) for word in ("style", "script")}
-    parts["policy"] = ("default-src 'none'; style-src 'sha256-%(style)s'; script-src 'sha256-%(script)s'; base-uri 'none'; "
-                       "form-action 'none'; require-trusted-types-for 'script'; trusted-types 'none'" % digests)
-    written = re.sub(r"\{\{(\w+)\}\}", lambda found: parts[found[1]], part("page.html"))
-    return written, all(kind(plan.answer[0]) == "valid" for plan in plans)
+    digests = [hashlib.sha256(parts[it].encode()).digest() for it in ("style", "script")]
+    parts["policy"] = POLICY % tuple(map(encoded, digests))
+    return re.sub(r"\{\{(\w+)\}\}", lambda found: parts[found[1]], part("page.html")).encode()

@@ -5,9 +5,10 @@ stand in front of each, four where it belongs to the line above. A task here is 
 A run is the task, the names of a plan's steps, the operators of those steps that go through, and the states: the initial one, and
 the one after each of these steps. A fact fails that doesn't hold in the last of them.
 
-    no operator of that name    step S NAME, then `similar operator I line L NAME` of the first operator whose name is the same but
-                                for capitals, spaces at the ends and the number of spaces elsewhere, if there is one; how many of all
-                                steps have no operator of their name
+    no operator of that name    for each of the first five steps of which no operator has the name: step S NAME, then
+                                `similar operator I line L NAME` of the first operator whose name has the same words in the same order, or
+                                else in another, if there is one; how many of all steps these are; a hint where there are two steps or
+                                more, all of them are such, and none of the five has a similar operator
     not applicable              step S NAME, then each operator of the name, with the cause of each precondition that fails
     conflicting effects         step S NAME, operator I line L, and two of its effects that fire: E is the first that contradicts one
                                 before it, D the first that it contradicts
@@ -15,7 +16,8 @@ the one after each of these steps. A fact fails that doesn't hold in the last of
     cost differs                metric M, steps S, sum of cost lines N, also where the metric doesn't count them; a hint where the
                                 plan's cost is the one of the other metric
 
-L is the line of the file on which the operator begins. Names are shown as texts.py has it.
+L is the line of the file on which the operator begins. Names are shown as texts.py has it. The words of a name stand between spaces,
+tabs, and the marks `-`, `_`, `(`, `)` and `,`; capitals from A to Z are the same as small letters.
 
 After each of these comes the first step that went through and could also be an operator after the one that it meant, as
 that has the name too and was applicable, with the first such operator.
@@ -31,12 +33,16 @@ whose variable has no rule in the list, and each of whose conditions that needs 
 its default, is on a variable that has one. The derivation of a variable has its rule in the list, and with each one those of the
 variables for which this one needs rules; so none rests on itself.
 """
+import re
 from functools import cached_property
 
 from oracles.layers import fact_said
 from oracles.steps import conflict, holds, initial, meant, next_state, preconditions, verdict
 from oracles.tasks import operator_line
 from texts import shown_name
+
+# how many steps are reported of those that name no operator
+REPORTED = 5
 
 
 class Run:
@@ -67,16 +73,19 @@ def operators_named(task, name):
     return [place for place, operator in enumerate(task["operators"]) if operator[0] == name]
 
 
-def folded(name):
-    """Returns the words of a name, which spaces separate, with A to Z made small; other letters stay."""
+def words(name):
+    """Returns the words of a name, with A to Z made small; other letters stay."""
     small = "".join(chr(ord(letter) + 32) if "A" <= letter <= "Z" else letter for letter in name)
-    return [word for word in small.split(" ") if word]
+    return [word for word in re.split(r"[ \t\-_(),]", small) if word]
 
 
 def like(task, name):
-    """Returns the first operator whose name is like this one; None where none is."""
-    names = (operator[0] for operator in task["operators"])
-    return next((place for place, its in enumerate(names) if folded(its) == folded(name)), None)
+    """Returns the first operator whose name has the words of this one, or, where none has, the first that has them in another order;
+    None where none is."""
+    names, sought = [words(operator[0]) for operator in task["operators"]], words(name)
+    if sought in names:
+        return names.index(sought)
+    return next((place for place, its in enumerate(names) if sorted(its) == sorted(sought)), None)
 
 
 def rules_of(task, var):
@@ -176,15 +185,19 @@ def operator_said(task, place):
     return f"operator {place} line {operator_line(task, place)}"
 
 
-def name_reasons(run, name):
-    """Returns the line of the operator whose name is like this one, if there is one, and how many steps have no operator."""
-    operator = like(run.task, name)
-    unknown = [its for its in run.names if not operators_named(run.task, its)]
-    count = f"  {len(unknown)} of {len(run.names)} steps name no operator"
-    if operator is None:
-        return [count]
-    its_name = shown_name(run.task["operators"][operator][0])
-    return [f"  similar {operator_said(run.task, operator)} {its_name}", count]
+def name_reasons(run):
+    """Returns the lines of the first five steps that no operator has the name of, each with the operator whose name is like it, if there
+    is one; how many there are; and a hint."""
+    unknown = [step for step, name in enumerate(run.names, 1) if not operators_named(run.task, name)]
+    said = []
+    for step in unknown[:REPORTED]:
+        said.append(f"  step {step} {shown_name(run.names[step - 1])}")
+        operator = like(run.task, run.names[step - 1])
+        if operator is not None:
+            said.append(f"  similar {operator_said(run.task, operator)} {shown_name(run.task['operators'][operator][0])}")
+    hint = len(run.names) > 1 and len(unknown) == len(run.names) and not any(line.startswith("  similar ") for line in said)
+    said.append(f"  {len(unknown)} of {len(run.names)} steps name no operator")
+    return [*said, "  hint the plan may be of another task"] if hint else said
 
 
 def blocked_reasons(run, operator):
@@ -206,8 +219,8 @@ def step_reasons(run):
     name = run.names[step - 1]
     operator = meant(run.task, run.last, name)
     if operator == "Unknown":
-        said = name_reasons(run, name)
-    elif operator == "Blocked":
+        return name_reasons(run)
+    if operator == "Blocked":
         said = [line for its in operators_named(run.task, name) for line in blocked_reasons(run, its)]
     else:
         said = conflict_reasons(run, operator)

@@ -2,7 +2,7 @@
 after it. Two spaces stand in front of each.
 
     at PLACE                  where the refused line of a task stands
-    expected WORDS            what is expected there; of a plan it follows from the kind of fault
+    expected WORDS            what is expected there, and of a name or a number what it is; of a plan it follows from the kind of fault
     number K must be A to B   of a task, for `value` on a line of several numbers: the first number that may not stand there
     line K counts N           of a task, where an item of a list is expected, or the line after its last one: the line that has the
                               number of its items, and that number
@@ -30,9 +30,11 @@ EFFECT = "effect: COUNT, COUNT times VAR VALUE, VAR OLD NEW"
 STEP, COST = "(NAME)", "; cost = N (unit cost) or ; cost = N (general cost)"
 # what is expected in a plan, by the kind of fault
 PLAN_EXPECTED = {"name": STEP, "shape": COST, "keyword": f"{STEP} or {COST}", "end": f"{STEP} or {COST}", "trailing": "end of file"}
+COST_LINE = b"; cost = 0 (unit cost)\n"
 # how compressed files begin: those of gzip, bzip2, xz and zstd
 COMPRESSED = (b"\x1f\x8b", b"BZh", b"\xfd7zXZ\0", b"\x28\xb5\x2f\xfd")
-BYTE_ORDER_MARK = b"\xef\xbb\xbf"
+# byte order marks: of UTF-8, and two of UTF-16
+BYTE_ORDER_MARKS = (b"\xef\xbb\xbf", b"\xff\xfe", b"\xfe\xff")
 
 
 def spelled(word, most=MOST):
@@ -55,18 +57,18 @@ def fixed(text):
     return text, lambda line: None if line == text.encode() else ("keyword", [])
 
 
-def name():
-    return "a name", lambda line: None if line and b"\r" not in line else ("name", [])
+def name(what):
+    return f"a name: {what}", lambda line: None if line and b"\r" not in line else ("name", [])
 
 
-def number(least, most=MOST):
+def number(what, least=0, most=MOST):
     def judge(line):
         value = signed(line) if least < 0 else spelled(line)
         if value is None:
             return "shape", []
         return None if least <= value <= most else ("value", [])
 
-    return f"number {least} to {most}", judge
+    return f"number {least} to {most}: {what}", judge
 
 
 def numbers(expected, ranges):
@@ -111,9 +113,9 @@ def words_fault(expected, ranges, words):
     return None
 
 
-def counted(place, expected, least=0, before=None):
+def counted(place, what, expected, least=0, before=None):
     """Yields the slots of a count, and of so many lines. The count may itself be the line after a list. Returns the count."""
-    line, held = yield place, number(least), before
+    line, held = yield place, number(what, least), before
     count = line, int(held)
     for _ in range(int(held)):
         yield place, expected, count
@@ -122,45 +124,45 @@ def counted(place, expected, least=0, before=None):
 
 def one_number(place, least, most):
     yield place, fixed(f"begin_{place}"), None
-    yield place, number(least, most), None
+    yield place, number(place, least, most), None
     yield place, fixed(f"end_{place}"), None
 
 
 def variable(place, ranges, all_counted):
     yield place, fixed("begin_variable"), all_counted
-    yield place, name(), None
-    yield place, number(-1), None
-    count = yield from counted(place, name(), 1)
+    yield place, name("variable"), None
+    yield place, number("axiom layer", -1), None
+    count = yield from counted(place, "range", name("value"), 1)
     yield place, fixed("end_variable"), count
     ranges.append(count[1])
 
 
 def group(place, ranges, all_counted, word="mutex_group"):
     yield place, fixed(f"begin_{word}"), all_counted
-    count = yield from counted(place, numbers(FACT, ranges))
+    count = yield from counted(place, "number of facts", numbers(FACT, ranges))
     yield place, fixed(f"end_{word}"), count
 
 
-def state(place, ranges, before):
-    """Yields the slots of the state, which comes after a list."""
+def state(place, ranges, variables, before):
+    """Yields the slots of the state, which comes after a list. Its values are counted by the number of variables."""
     yield place, fixed("begin_state"), before
-    for size in ranges:
-        yield place, number(0, size - 1), None
-    yield place, fixed("end_state"), None
+    for variable, size in enumerate(ranges):
+        yield place, number(f"value of variable {variable}", 0, size - 1), variables
+    yield place, fixed("end_state"), variables
 
 
 def operator(place, ranges, all_counted):
     yield place, fixed("begin_operator"), all_counted
-    yield place, name(), None
-    count = yield from counted(place, numbers(FACT, ranges))
-    count = yield from counted(place, numbers(EFFECT, ranges), before=count)
-    yield place, number(0), count
+    yield place, name("operator"), None
+    count = yield from counted(place, "number of prevail conditions", numbers(FACT, ranges))
+    count = yield from counted(place, "number of effects", numbers(EFFECT, ranges), before=count)
+    yield place, number("cost"), count
     yield place, fixed("end_operator"), None
 
 
 def rule(place, ranges, all_counted):
     yield place, fixed("begin_rule"), all_counted
-    count = yield from counted(place, numbers(FACT, ranges))
+    count = yield from counted(place, "number of conditions", numbers(FACT, ranges))
     yield place, numbers(HEAD, ranges), count
     yield place, fixed("end_rule"), None
 
@@ -168,7 +170,7 @@ def rule(place, ranges, all_counted):
 def each(part, ranges, least=0, before=None):
     """Yields the slots of a count, and of so many parts. Returns the count."""
     one = part.__name__
-    line, held = yield f"{one}s", number(least), before
+    line, held = yield f"{one}s", number(f"number of {one}s", least), before
     count = line, int(held)
     for place in range(int(held)):
         yield from part(f"{one} {place}", ranges, count)
@@ -180,9 +182,9 @@ def task_slots():
     ranges = []
     yield from one_number("version", 3, 3)
     yield from one_number("metric", 0, 1)
-    count = yield from each(variable, ranges, 1)
-    count = yield from each(group, ranges, before=count)
-    yield from state("state", ranges, count)
+    variables = yield from each(variable, ranges, 1)
+    count = yield from each(group, ranges, before=variables)
+    yield from state("state", ranges, variables, count)
     yield from group("goal", ranges, None, "goal")
     count = yield from each(operator, ranges)
     return (yield from each(rule, ranges, before=count))
@@ -235,24 +237,44 @@ def slots_by(what):
 
 # a file that is refused: "task" or "plan", its bytes, and the line, the kind and the text of its fault
 Refused = namedtuple("Refused", "what text line kind found")
-# the hints, each with what it is for; the first that applies is given
+# the hints in order, each with what it is for; the first that applies is given
 HINTS = {
+    "the file is empty": lambda it: it.text == b"",
     "the file is compressed": lambda it: it.line == 1 and it.text.startswith(COMPRESSED),
-    "the file begins with a byte order mark": lambda it: it.line == 1 and it.text.startswith(BYTE_ORDER_MARK),
+    "the file begins with a byte order mark": lambda it: it.line == 1 and it.text.startswith(BYTE_ORDER_MARKS),
+    "line ends are CR alone": lambda it: (it.line, it.kind) == (1, "end") and b"\r" in it.text[:-1],
     "this is a task: the order is TASK PLAN": lambda it: (it.what, it.line, it.kind, it.found) == ("plan", 1, "keyword", b"begin_version"),
     "this is a plan or PDDL: the task is the file output.sas":
         lambda it: (it.what, it.line, it.kind) == ("task", 1, "keyword") and it.found.startswith((b"(", b";")),
     "only version 3 is read": lambda it: (it.what, it.line, it.kind) == ("task", 2, "value"),
-    "comments aren't read": lambda it: (it.what, it.kind) == ("plan", "keyword") and it.found.startswith(b";"),
-    "only the last line end is missing": lambda it: it.kind == "end" and first_fault(slots_by(it.what), it.text + b"\n") is None,
-    "the cost line is missing": lambda it: (it.what, it.kind, it.found) == ("plan", "end", b"") and it.line > 1,
-    "the file is cut off": lambda it: it.kind == "end" and it.text != b"",
+    "this isn't the form of a cost line": lambda it: (it.what, it.kind) == ("plan", "keyword") and b"cost" in it.found.lower(),
+    "comments aren't read": lambda it: it.what == "plan" and is_comment(it.kind, it.found),
+    "the cost line must be the last line": lambda it: (it.what, it.kind, it.found) == ("plan", "trailing", b"("),
+    "an empty line follows the last line": lambda it: it.kind == "trailing" and it.found in (b"\n", b"\r"),
+    "plan.awk of the examples converts plans of other planners": lambda it: (it.what, it.kind) == ("plan", "keyword"),
+    "only the last line end is missing": lambda it: it.kind == "end" and is_text(it.what, it.text + b"\n"),
+    "the cost line is missing": lambda it: (it.what, it.kind) == ("plan", "end") and is_text("plan", ended(it.text) + COST_LINE),
+    "the file is cut off": lambda it: it.kind == "end",
 }
+
+
+def is_comment(kind, found):
+    """Returns whether a plan with this text at a fault of this kind has a comment there."""
+    return found.startswith(b";") if kind in ("keyword", "trailing") else kind == "name" and b";" in found
+
+
+def is_text(what, text):
+    return first_fault(slots_by(what), text) is None
+
+
+def ended(text):
+    """Returns the bytes with LF behind them if they don't end with LF."""
+    return text if text.endswith(b"\n") or not text else text + b"\n"
 
 
 def shown(text):
     """Returns a text that was found as it is shown."""
-    return texts.shown(text, SHOWN, lambda byte: 32 <= byte <= 126 and byte != 92)
+    return texts.shown(text, SHOWN)
 
 
 def found_line(kind, found):

@@ -1,91 +1,111 @@
-// Drawing: the timeline and the curve of the cost, on canvases of the size of what is in view.
+// Drawing: the timeline, on a grid, as SVG.
 
-const PAPER = "page card ink quiet line soft accent tint good bad badtint onvalue onempty busy v0 v1 v2 v3 v4 v5 v6 v7 v8 v9".split(" ");
+const SVG = "http://www.w3.org/2000/svg", FAMILY = getComputedStyle(document.body).fontFamily;
+const NAMES = ("card ink quiet line accent tint good bad badtint busy v0 v1 v2 v3 v4 v5 v9 empty "
+  + "dark light").split(" ");
+// patterns: the size of a tile and what is drawn on it; those of values are the first
+const TILES = [[1, ""], [6, "M-1 7L7 -1"], [5, "M1 2.5h2"], [6, "M-1 -1L7 7"], [2, "M1.5 0v2"],
+  [7, "M-1 8L8 -1"]];
+const PATTERNS = 4, BUSY = 4, HATCH = 5, INKS = ["dark", "light", "empty", "busy", "line"];
 const EVERY = [1, 10, 100, 1e3, 1e4, 1e5, 1e6].flatMap(n => [n, 2 * n, 5 * n]);
-const MAP = 58;
-const group = number => number.toLocaleString("en");
+const ruler = document.createElement("canvas").getContext("2d");
+const rounded = it => typeof it === "number" ? Math.round(it * 100) / 100 : it;
+const font = (size, weight = 400, style = "normal") => ({ size, weight, style });
+const SMALL = font(11), STRONG = font(11, 600);
 
-class Picture {
-  constructor(box, map) {
-    Object.assign(this, { box, map, canvas: box.querySelector("canvas"), bars: document.createElement("canvas"), grid: new Grid(box) });
-    Object.assign(this, { selected: 0, drawn: "", colours: {}, family: getComputedStyle(document.body).fontFamily });
+// Makes an element of an SVG.
+function shape(tag, attributes, ...children) {
+  const it = document.createElementNS(SVG, tag);
+  for (const [key, value] of Object.entries(attributes)) it.setAttribute(key, rounded(value));
+  it.append(...children);
+  return it;
+}
+
+function sheet(width, height, ...children) {
+  const frame = { width, height, viewBox: `0 0 ${width} ${height}`, "font-family": FAMILY };
+  return shape("svg", frame, ...children);
+}
+
+// The colours of the page as it is.
+function theme() {
+  const style = getComputedStyle(document.documentElement);
+  return Object.fromEntries(NAMES.map(name => [name, style.getPropertyValue("--" + name).trim()]));
+}
+
+// The colour of what is written on a colour of values.
+const over = colour => colour === 0 ? "empty" : colour === 4 || colour === 5 ? "light" : "dark";
+
+function length(text, { size, weight, style }) {
+  ruler.font = `${style} ${weight} ${size}px ${FAMILY}`;
+  return ruler.measureText(text).width;
+}
+
+// Collects rectangles and texts. The rectangles of one paint are one path, so that many are quick.
+// `name` is that of its patterns.
+class Pen {
+  constructor(colours, name = "screen") {
+    Object.assign(this, { colours, name, paths: new Map(), patterned: new Map(), texts: [] });
   }
 
-  // Takes the colours of the page, which may have turned dark.
-  theme() {
-    const style = getComputedStyle(document.documentElement);
-    for (const name of PAPER) this.colours[name] = style.getPropertyValue("--" + name).trim();
-    this.stripes = this.tile(2, 1, g => { this.fill(g, "v0", 0, 0, 1, 1); this.fill(g, "busy", 1, 0, 1, 1); });
-    this.hatch = this.tile(7, 7, g => { for (let i = 0; i < 7; i++) this.fill(g, "line", i, 6 - i, 1.4, 1.4); });
+  rect(x, y, w, h, colour, pattern = 0, ink = "dark") {
+    const [wide, path] = [rounded(w), `M${rounded(x)} ${rounded(y)}h${rounded(w)}v${rounded(h)}`];
+    const into = (paths, fill) => paths.set(fill, `${paths.get(fill) ?? ""}${path}h${-wide}z`);
+    into(this.paths, this.colours[colour]);
+    if (pattern) into(this.patterned, `url(#${this.name}-${pattern}-${ink})`);
   }
-
-  tile(width, height, draw) {
-    const canvas = Object.assign(document.createElement("canvas"), { width, height }), g = canvas.getContext("2d");
-    draw(g);
-    return g.createPattern(canvas, "repeat");
-  }
-
-  layout() { this.drawn = ""; this.grid.layout(this.run.total + 1, this.run.goal.size ? 132 : 12); }
-
-  draw() {
-    const { grid, box } = this, [w, h] = [box.clientWidth, box.clientHeight];
-    grid.across.read();
-    grid.down.read();
-    const g = this.g = this.sheet(this.canvas, w, h), key = [w, h, grid.across.offset, grid.down.offset, devicePixelRatio].join();
-    this.foot = Math.min(h, grid.y(grid.rows.length));
-    this.visible = grid.visible();
-    if (key !== this.drawn) {  // a selection leaves the bars as they are
-      const bars = this.sheet(this.bars, w, h);
-      this.font(bars, clamp(grid.high - 10, 11, 12));
-      for (const row of this.visible) this.drawRow(bars, grid.rows[row], grid.y(row));
-    }
-    this.drawn = key;
-    g.drawImage(this.bars, 0, 0, w, h);
-    this.drawFault();
-    this.drawAxis();
-    this.drawSelection();
-    this.drawLabels(w, h);
-    this.drawMap();
-  }
-
-  // Returns the context of a canvas of this size, empty.
-  sheet(canvas, w, h) {
-    const ratio = devicePixelRatio || 1, g = canvas.getContext("2d"), [width, height] = [Math.round(w * ratio), Math.round(h * ratio)];
-    if (canvas.width !== width || canvas.height !== height) Object.assign(canvas, { width, height });
-    Object.assign(canvas.style, { width: w + "px", height: h + "px" });
-    g.setTransform(ratio, 0, 0, ratio, 0, 0);
-    g.clearRect(0, 0, w, h);
-    g.textBaseline = "middle";
-    return g;
-  }
-
-  font(g, size, weight = 400, style = "") { g.font = `${style} ${weight} ${size}px ${this.family}`; }
-
-  // Fills a rectangle with a colour, or a pattern.
-  fill(g, colour, x, y, w, h) { g.fillStyle = this.colours[colour] || colour; g.fillRect(x, y, w, h); }
 
   // Writes as much of a text as there is room for, if that is two letters or more.
-  write(g, colour, text, x, y, room) {
+  text(x, y, text, colour, room, letters = SMALL, halo = "") {
+    const { size, weight, style } = letters, stroke = this.colours[halo] ?? "none";
     let shown = text, keep = Math.min(text.length, Math.floor(room / 4));
-    if (text.length > keep || g.measureText(text).width > room) {
-      while (keep > 1 && g.measureText(text.slice(0, keep) + "…").width > room) keep--;
+    if (text.length > keep || length(text, letters) > room) {
+      while (keep > 1 && length(text.slice(0, keep) + "…", letters) > room) keep--;
       shown = keep > 1 ? text.slice(0, keep) + "…" : "";
     }
-    g.fillStyle = this.colours[colour];
-    g.fillText(shown, x, y);
+    const place = { x, y: y + size * .35, fill: this.colours[colour], stroke, "stroke-width": 4 };
+    const fonts = { "font-size": size, "font-weight": weight, "font-style": style };
+    const look = { ...place, ...fonts, "paint-order": "stroke" };
+    if (shown) this.texts.push(shape("text", look, shown));
   }
 
-  // A bar for each value, as long as it holds. Where a pixel has several, there are fine stripes.
-  drawRow(g, v, y) {
-    const { grid, run } = this, { layer, values } = this.variables[v], pad = layer >= 0 ? grid.high * .15 : grid.high > 8 ? 1 : 0;
-    const top = Math.round(y + pad), tall = Math.max(1, Math.round(y + grid.high - pad) - top);
+  // What was drawn since the last time.
+  layer() {
+    const paths = [...this.paths, ...this.patterned].map(([fill, d]) => shape("path", { d, fill }));
+    const group = shape("g", {}, ...paths, ...this.texts);
+    Object.assign(this, { paths: new Map(), patterned: new Map(), texts: [] });
+    return group;
+  }
+
+  tiles() {
+    const tile = ([size, d], number, ink) => {
+      const id = `${this.name}-${number}-${ink}`;
+      const path = shape("path", { d, stroke: this.colours[ink] });
+      const place = { id, width: size, height: size, patternUnits: "userSpaceOnUse", fill: "none" };
+      return shape("pattern", place, path);
+    };
+    return shape("defs", {}, ...TILES.flatMap((it, i) => INKS.map(ink => tile(it, i, ink))));
+  }
+}
+
+// Draws a plan on a grid.
+class Drawing {
+  constructor(grid, run = null) {
+    Object.assign(this, { grid, run, selected: -1e9 });
+  }
+
+  // A bar for each value of a variable, as long as it holds. Where a pixel has several, there are
+  // fine stripes. Then what fails.
+  row(pen, v, y) {
+    const { grid, run } = this, { layer, values } = run.task.variables[v], { wide, high } = grid;
+    const pad = layer >= 0 ? high * .15 : high > 8 ? 1 : 0, top = Math.round(y + pad);
+    const tall = Math.max(1, Math.round(y + high - pad) - top);
     let t = Math.max(0, grid.column(grid.labels)), count = run.count(v, t), busy = -1;
     const crowd = end => {
-      if (busy >= 0) this.fill(g, this.stripes, busy, top, Math.round(end) - busy, tall);
+      if (busy >= 0) pen.rect(busy, top, Math.round(end) - busy, tall, "v0", BUSY, "busy");
       busy = -1;
     };
     while (t <= run.judged && grid.x(t) < grid.right) {
-      const stop = count < run.when[v].length ? run.when[v][count] : run.judged + 1;
+      const stop = run.when[v][count] ?? run.judged + 1;
       const left = Math.max(grid.labels, grid.x(t)), end = Math.min(grid.right, grid.x(stop));
       if (end - left < 1 && stop <= run.judged) {
         if (busy < 0) busy = Math.floor(left);
@@ -94,123 +114,165 @@ class Picture {
         continue;
       }
       crowd(left);
-      const start = Math.round(left), wide = Math.round(end) - start - (grid.wide > 4 && stop <= run.judged ? 1 : 0);
-      const { colour, short } = values[run.after(v, count)];
-      this.fill(g, "v" + colour, start, top, wide, tall);
-      if (grid.high >= 13 && wide > 26) this.write(g, colour ? "onvalue" : "onempty", short, start + 5, y + grid.high / 2, wide - 8);
+      const start = Math.round(left), gap = wide > 4 && stop <= run.judged ? 1 : 0;
+      const room = Math.round(end) - start - gap;
+      this.bar(pen, start, y, top, room, tall, values[run.after(v, count)]);
       t = stop;
       count++;
     }
     crowd(Math.min(grid.x(t), grid.right));
+    this.fault(pen, v, y);
   }
 
-  // What the failing step requires of a variable, or the two values that it would set.
-  fault(v) {
-    const { missing, clash } = this.run, shorts = them => them.get(v).map(k => this.variables[v].values[k].short);
-    return missing.has(v) ? "requires " + shorts(missing).join(" or ") : clash.has(v) ? "sets " + shorts(clash).join(" and ") : "";
+  bar(pen, x, y, top, room, tall, { colour, pattern, short }) {
+    const { high } = this.grid, ink = over(colour), base = "v" + colour;
+    pen.rect(x, top, room, tall, base, high < 4 ? 0 : pattern, ink);
+    if (high < 13 || room <= 26) return;
+    pen.text(x + 5, y + high / 2, short, ink, room - 8, font(12), pattern ? base : "");
   }
 
-  // The failing step, and the steps after it, which weren't judged. Or the goal facts that don't hold at the end.
-  drawFault() {
-    const { g, grid, run } = this, end = grid.x(run.judged + 1), wide = run.failing ? Math.max(1, grid.wide - 1) : 6;
-    const left = run.failing ? end : end - wide, tall = this.foot - HEAD;
-    if (run.failing) this.fill(g, "badtint", left, HEAD, wide, tall);
-    if (run.failing) this.fill(g, this.hatch, left + wide + 1, HEAD, grid.x(run.total + 1) - left - wide - 1, tall);
-    this.font(g, clamp(grid.high - 10, 11, 12), 600);
-    for (const row of this.visible) {
-      const text = this.fault(grid.rows[row]), y = grid.y(row);
-      if (text) this.fill(g, "bad", left, y + 1, wide, Math.max(1, grid.high - 2));
-      if (grid.high >= 13) this.write(g, "card", text, left + 6, y + grid.high / 2, wide - 9);
-    }
-    [g.strokeStyle, g.lineWidth] = [this.colours.bad, 1.5];
-    if (run.failing) g.strokeRect(left + .75, HEAD, wide - 1.5, tall);
+  // The failing step, and the steps after it, which weren't judged; or what the goal misses.
+  fault(pen, v, y) {
+    const { grid, run } = this, { high, right } = grid, end = grid.x(run.judged + 1);
+    const wide = run.failing ? Math.max(1, grid.wide - 1) : 6, text = run.about(v);
+    const left = run.failing ? end : end - wide, rest = left + wide + 1;
+    const far = Math.min(right, grid.x(run.total + 1));
+    if (left >= right || !(text || run.failing)) return;
+    pen.rect(left, y, wide, high - 1, text ? "bad" : "badtint");
+    if (run.failing && far > rest) pen.rect(rest, y, far - rest, high, "card", HATCH, "line");
+    if (high >= 13) pen.text(left + 6, y + high / 2, text, "card", wide - 9, STRONG);
   }
 
-  // The numbers of the steps, and their names if there is room.
-  drawAxis() {
-    const { g, grid, run } = this, isNamed = grid.wide >= 60, need = isNamed ? 1 : 18 + 8 * group(run.total).length;
-    const every = EVERY.find(n => n * grid.wide >= need), first = Math.ceil(Math.max(0, grid.column(grid.labels)) / every) * every;
-    this.fill(g, "card", grid.labels, 0, grid.right - grid.labels, HEAD);
-    for (let t = first; t <= run.total && grid.x(t) < grid.right; t += every) {
-      const left = Math.max(grid.x(t), grid.labels), room = Math.min(grid.x(t + 1), grid.right) - left - 8;
-      const [mark, colour] = t && t === run.failing ? ["✕ ", "bad"] : ["", "quiet"], number = mark + group(t);
-      this.font(g, 11, 600);
+  // The numbers of the steps, and their names if there is room. What nothing needs is marked.
+  axis(pen) {
+    const { grid, run } = this, { wide, right, labels } = grid, isNamed = wide >= 60;
+    const need = isNamed ? 1 : 18 + 8 * group(run.total).length;
+    const every = EVERY.find(n => n * wide >= need);
+    const end = Math.min(run.total, grid.column(right - 1));
+    const first = Math.max(0, grid.column(labels));
+    pen.rect(labels, 0, right - labels, HEAD, "card");
+    for (let t = Math.ceil(first / every) * every; t <= end; t += every) {
+      const left = Math.max(grid.x(t), labels) + 5;
+      const room = Math.min(grid.x(t + 1), right) - left - 3;
+      const isFailing = t > 0 && t === run.failing, number = (isFailing ? "✕ " : "") + group(t);
+      const colour = isFailing ? "bad" : "quiet", half = length(number, STRONG) / 2;
+      const middle = Math.max(grid.x(t + .5), labels + half + 2);
+      const isFree = Math.abs(grid.x(t) - grid.x(this.selected)) > need && middle + half < right;
       if (isNamed) {
-        this.write(g, colour, number, left + 5, 13, room);
-        this.font(g, 12);
-        this.write(g, t > run.judged || !t ? colour : "ink", run.name(t), left + 5, 31, room);
-      } else if (Math.abs(grid.x(t) - grid.x(this.selected)) > need && grid.x(t) < grid.right - need / 2) {
-        this.write(g, colour, number, Math.max(grid.x(t + .5) - g.measureText(number).width / 2, grid.labels + 2), 33, need);
-      }
+        pen.text(left, 13, number, colour, room, STRONG);
+        pen.text(left, 30, run.name(t), t && t <= run.judged ? "ink" : colour, room, font(12));
+      } else if (isFree) pen.text(middle - half, 33, number, colour, need, STRONG);
+    }
+    for (let t = first; wide >= 4 && t <= end; t++) {
+      const left = Math.max(labels, grid.x(t));
+      if (!run.causes.isNeeded(t)) pen.rect(left + 1, HEAD - 5, wide - 3, 3, "bad");
     }
   }
 
-  drawSelection() {
-    const { g, grid, foot } = this, left = grid.x(this.selected), wide = Math.max(2, grid.wide - (grid.wide > 4 ? 1 : 0));
-    if (left + wide <= grid.labels || left >= grid.right) return;
-    [g.strokeStyle, g.lineWidth] = [this.colours.accent, 2];
-    if (grid.wide >= 6) g.strokeRect(left - .5, 3, wide, foot - 4); else this.fill(g, "accent", left, 30, 2, foot - 30);
-    if (grid.wide >= 60) return;
-    this.font(g, 11, 600);
-    const text = group(this.selected), full = g.measureText(text).width + 14;
-    const start = clamp(left + (wide - full) / 2, grid.labels, grid.right - full);
-    this.fill(g, "accent", start, 24, full, 18);
-    this.write(g, "card", text, start + 7, 33.5, full);
+  // What the goal requires of a variable.
+  wanted(v) {
+    const { run } = this, shorts = run.goal.get(v)?.map(k => run.task.variables[v].values[k].short);
+    const text = shorts?.join(" and ") ?? "";
+    if (run.failing || !text) return { text, colour: "quiet" };
+    const [mark, colour] = run.missing.has(v) ? ["✕ ", "bad"] : ["✓ ", "good"];
+    return { text: mark + text, colour };
+  }
+}
+
+// The timeline on the screen.
+class Picture extends Drawing {
+  constructor(box, map) {
+    super(new Grid(box));
+    Object.assign(this, { box, map, frame: box.firstElementChild, colours: theme() });
+    Object.assign(this, { drawn: "", bars: null });
   }
 
-  // The labels of the rows, and what the goal requires of them.
-  drawLabels(w, h) {
-    const { g, grid, run } = this, isWide = grid.labels >= 200;
-    const room = grid.labels - (isWide ? 88 : 24), sides = [[0, grid.labels, "Step"], [grid.right, grid.tail, run.goal.size ? "Goal" : ""]];
-    for (const [x, wide] of sides) this.fill(g, "card", x, 0, wide, h);
-    for (let place = 0, next = -Infinity; place < this.visible.length; place++) {
-      const v = grid.rows[this.visible[place]], top = grid.y(this.visible[place]), middle = top + Math.max(grid.high, 13) / 2;
+  layout() {
+    this.drawn = "";
+    this.grid.layout(this.run.total + 1, this.run.goal.size > 0);
+  }
+
+  draw() {
+    const { grid, box: { clientWidth: w, clientHeight: h } } = this, pen = new Pen(this.colours);
+    grid.across.read();
+    grid.down.read();
+    const key = [w, h, grid.across.offset, grid.down.offset].join();
+    // a selection leaves the bars as they are
+    if (key !== this.drawn) this.bars = this.rows(pen);
+    this.drawn = key;
+    this.frame.replaceChildren(sheet(w, h, pen.tiles(), this.bars, ...this.around(pen, w, h)));
+    this.map.replaceChildren(this.curve(pen, w));
+  }
+
+  rows(pen) {
+    for (const row of this.grid.visible()) this.row(pen, this.grid.rows[row], this.grid.y(row));
+    return pen.layer();
+  }
+
+  // What is drawn over the bars.
+  around(pen, w, h) {
+    const foot = Math.min(h, this.grid.y(this.grid.rows.length));
+    this.axis(pen);
+    const layers = [pen.layer(), ...this.selection(pen, foot)];
+    this.labels(pen, w);
+    return [...layers, pen.layer()];
+  }
+
+  selection(pen, foot) {
+    const { grid, selected, colours: { accent: stroke } } = this, left = grid.x(selected);
+    const width = Math.max(2, grid.wide - 1), full = length(group(selected), STRONG) + 14;
+    if (left + width <= grid.labels || left >= grid.right) return [];
+    const place = { x: left - .5, y: 3, width, height: foot - 4, fill: "none", stroke };
+    const start = clamp(left + (width - full) / 2, grid.labels, grid.right - full);
+    if (grid.wide < 60) {
+      pen.rect(start, 24, full, 18, "accent");
+      pen.text(start + 7, 33, group(selected), "card", full, STRONG);
+    }
+    return [shape("rect", { ...place, "stroke-width": Math.min(2, grid.wide / 3) }), pen.layer()];
+  }
+
+  // The labels of the rows, as many as don't meet, and what the goal requires of them.
+  labels(pen, w) {
+    const { grid, run } = this, { labels } = grid, isWide = labels >= 200;
+    const room = labels - (isWide ? 88 : 20);
+    let next = HEAD - 8;
+    for (const row of grid.visible()) {
+      const v = grid.rows[row], top = grid.y(row), middle = top + Math.max(grid.high, 14) / 2;
       if (top < next) continue;
-      next = top + Math.min(grid.high, 12);
-      const { name, label, quiet, layer, values } = this.variables[v];
-      const fails = !run.failing && run.missing.has(v), mark = run.failing ? "" : fails ? "✕ " : "✓ ";
-      this.font(g, 11);
-      if (isWide) this.write(g, "quiet", name, grid.labels - 10 - Math.min(56, g.measureText(name).width), middle, 56);
-      this.font(g, clamp(grid.high - 9, 11, 13), 400, layer < 0 ? "" : "italic");
-      this.write(g, "ink", label, 14, middle, room);
-      const used = g.measureText(label).width + 7;
-      this.write(g, "quiet", quiet, 14 + used, middle, room - used);
-      this.font(g, clamp(grid.high - 10, 10, 12), fails ? 700 : 400);
-      const wanted = run.goal.has(v) ? mark + run.goal.get(v).map(k => values[k].short).join(" and ") : "";
-      this.write(g, run.failing ? "quiet" : fails ? "bad" : "good", wanted, grid.right + 12, middle, grid.tail - 16);
+      next = top + 15;
+      const { name, label, quiet, layer } = run.task.variables[v];
+      const letters = font(12, 400, layer < 0 ? "normal" : "italic");
+      const { text, colour } = this.wanted(v), used = length(label, letters) + 7;
+      const bold = colour === "bad" ? STRONG : SMALL;
+      if (isWide) pen.text(labels - 66, middle, name, "quiet", 56);
+      pen.text(12, middle, label, "ink", room, letters);
+      pen.text(12 + used, middle, quiet, "quiet", room - used, letters);
+      pen.text(grid.right + 8, middle, text, colour, grid.tail - 10, bold);
     }
-    this.font(g, 11, 600);
-    for (const [x, wide, word] of sides) {
-      this.fill(g, "card", x, 0, wide, HEAD);
-      this.write(g, "quiet", word, x + 13, 33, wide);
-    }
-    this.fill(g, "line", 0, HEAD - 1, w, 1);
+    pen.rect(0, 0, labels, HEAD, "card");
+    pen.rect(grid.right, 0, grid.tail, HEAD, "card");
+    pen.rect(0, HEAD - 1, w, 1, "line");
+    pen.text(12, 33, "Step", "quiet", 90, STRONG);
+    pen.text(grid.right + 12, 33, run.goal.size ? "Goal" : "", "quiet", 90, STRONG);
   }
 
   // The cost of the whole plan. It is the map of the timeline, with a frame around what is in view.
-  drawMap() {
-    const { grid, run } = this, g = this.sheet(this.map, this.box.clientWidth, MAP), span = grid.across.room, base = MAP - 9;
-    const most = Number(run.cost[run.judged]) || 1, x = t => grid.labels + t / (run.total + 1) * span;
-    const y = t => base - Number(run.cost[t]) / most * (base - 16), points = Math.min(run.judged, Math.ceil(span));
-    g.beginPath();
-    g.moveTo(x(0), base);
-    for (let i = 0; i <= points; i++) {
-      const t = Math.round(i / (points || 1) * run.judged);
-      g.lineTo(x(t), y(t));
-      g.lineTo(x(t + 1), y(t));
-    }
-    g.lineTo(x(run.judged + 1), base);
-    g.fillStyle = this.colours.tint;
-    g.fill();
-    if (run.failing) this.fill(g, this.hatch, x(run.failing), 6, grid.right - x(run.failing), base - 6);
-    if (run.failing) this.fill(g, "bad", x(run.failing), 6, 2, base - 6);
-    g.strokeStyle = this.colours.quiet;
-    const start = x(grid.across.offset / grid.wide), seen = Math.max(3, span * span / grid.across.length);
-    if (grid.across.most >= 1) g.strokeRect(start + .5, 3.5, seen - 1, base - 3);
-    this.fill(g, "line", grid.labels, base, span, 1);
-    this.fill(g, "accent", x(this.selected + .5) - .75, 4, 1.5, base - 4);
-    g.beginPath();
-    g.arc(x(Math.min(this.selected, run.judged) + .5), y(Math.min(this.selected, run.judged)), 3.5, 0, 7);
-    g.fill();
+  curve(pen, w) {
+    const { grid, run, colours } = this, span = grid.across.room, base = MAP - 9, tall = base - 16;
+    const most = Number(run.cost[run.judged]) || 1, points = Math.min(run.judged, Math.ceil(span));
+    const x = t => rounded(grid.labels + t / (run.total + 1) * span), at = x(this.selected + .5);
+    const y = t => rounded(base - Number(run.cost[Math.min(t, run.judged)]) / most * tall);
+    const steps = count(points + 1, i => Math.round(i / (points || 1) * run.judged));
+    const d = `M${x(0)} ${base}${steps.map(t => `L${x(t)} ${y(t)}H${x(t + 1)}`).join("")}V${base}z`;
+    const seen = x(grid.across.offset / grid.wide) + .5, width = span * span / grid.across.length;
+    const frame = { x: seen, width, y: 3.5, height: base - 3, fill: "none", stroke: colours.quiet };
+    pen.rect(grid.labels, base, span, 1, "line");
+    const left = grid.right - x(run.failing);
+    if (run.failing) pen.rect(x(run.failing), 6, left, tall, "card", HATCH, "line");
+    const back = pen.layer();
+    pen.rect(at - .75, 4, 1.5, base - 4, "accent");
+    pen.rect(at - 3, y(this.selected) - 3, 6, 6, "accent");
+    const view = grid.across.most >= 1 ? [shape("rect", frame)] : [];
+    return sheet(w, MAP, shape("path", { d, fill: colours.tint }), back, pen.layer(), ...view);
   }
 }

@@ -1,82 +1,126 @@
 // Input: what the reader chooses, by keys, by a pointer, by fields and by addresses.
 
+// milliseconds of a step that is played; how many values the legend has
+const TICK = 700, LEGEND = 16;
+const ADDRESS = /^#(?:plan-(\d+)-?)?(?:step-(\d+)|fact-(\d+)(?:-(\d+))?)?$/;
+const FAR = { Home: -Infinity, End: Infinity };
+
 class Page {
-  constructor({ task, plans, names }) {
-    this.runs = plans.map(plan => task && kindOf(plan) !== "refused" ? new Run(task, plan, names) : null);
-    this.variables = task ? task.variables.map((it, v) => new Variable(it, v)) : [];
-    this.prefixes = plans.map((_, i) => plans.length > 1 ? `plan-${i + 1}-` : "");
-    const keys = colour(this.variables, this.runs.filter(Boolean));
-    const legend = ([text, c]) => make("span", "", make("span", "swatch c" + c), make("bdi", "", text));
-    get("legend").prepend(...(keys.length > COLOURS ? ["More values than colours: colours repeat"] : keys.map(legend)));
+  constructor({ task, plans, names, moves }) {
+    this.task = task && new Task(task, moves);
+    const run = plan => task && plan.kind !== "refused" ? new Run(this.task, plan, names) : null;
+    Object.assign(this, { runs: plans.map(run), run: null, prefix: "", overview: null });
+    Object.assign(this, { noting: 0, playing: 0, isDue: false, isDark: false });
+    this.keys = spread(this.task?.variables ?? [], this.runs.filter(Boolean));
     this.picture = new Picture(get("grid"), get("cost"));
-    this.panels = new Panels(t => this.select(t), v => this.picture.fault(v));
-    document.querySelectorAll(".printed").forEach(it => {  // a table in place of the lines
-      const i = it.closest("article").id.slice(5) - 1;
-      it.replaceWith(reasons(plans[i], task, this.prefixes[i])[1]);
-    });
-    if (plans.length > 1) this.overview = new Overview(plans, this.runs);
-    this.picture.theme();
+    this.facts = new Facts();
+    this.panels = new Panels(t => this.select(t), this.facts);
+    if (plans.length > 1) this.overview = new Overview(this.runs);
+    this.legend();
+    this.darken(matchMedia("(prefers-color-scheme: dark)").matches);
     this.listen();
     this.follow();
   }
 
-  // Shows the plan and the step of the address.
+  legend() {
+    const left = this.keys.length - LEGEND;
+    const items = this.keys.slice(0, LEGEND)
+      .map(([text, value]) => make("span", "", swatch(value), make("bdi", "", text)));
+    get("legend").prepend(...items, left > 0 ? `and ${group(left)} more` : "");
+  }
+
+  // Shows the plan, the step or the fact of the address.
   follow() {
+    const [, plan = 0, step, v, k] = ADDRESS.exec(location.hash) ?? [];
+    const i = this.overview ? plan - 1 : 0, run = this.runs[i];
+    const isPlan = i in this.runs, isOther = run !== this.run;
     clearTimeout(this.noting);
-    const [, plan = 0, step] = /^#(?:plan-(\d+)-?)?(?:step-(\d+))?$/.exec(location.hash) || [], i = this.overview ? plan - 1 : 0;
-    const run = this.runs[i], isPlan = i in this.runs;
+    this.play(false);
     get("plans").hidden = isPlan;
     get("back").hidden = !this.overview || !isPlan;
     document.querySelectorAll("article").forEach((article, k) => { article.hidden = k !== i; });
     document.querySelector("main").hidden = !run;
-    if (run && run !== this.run) this.show(run, i); else this.run = run;
-    if (run) this.select(step ? +step : run.failing || (run.missing.size ? run.judged : Math.min(1, run.total)));
-    if (!isPlan && this.overview) this.overview.compare();
+    this.run = run;
+    if (!isPlan) this.overview?.compare();
+    if (!run) return;
+    if (isOther) this.show(this.overview ? `plan-${plan}-` : "");
+    const usual = run.failing || (run.missing.size ? run.judged : Math.min(1, run.total));
+    if (isOther || v === undefined) this.select(step ? +step : usual);
+    if (v in this.task.variables) this.facts.open(+v, k);
   }
 
-  show(run, i) {
-    Object.assign(this, { run, prefix: this.prefixes[i] });
-    Object.assign(this.picture, { run, variables: this.variables });
-    this.panels.show(run, this.variables, this.prefix);
+  show(prefix) {
+    const { run, task: { variables } } = this, changes = run.when.map(when => when.length);
+    const sum = changes.reduce((a, b) => a + b, 0), most = Math.max(...changes);
+    const often = sum ? `: ${variables[changes.indexOf(most)].label} has most, ${group(most)}` : "";
+    const counted = `${group(variables.length)} variables, ${group(sum)} changes`;
+    get("summary").textContent = `${counted}${often}.`;
+    get("at").max = run.total;
+    this.prefix = prefix;
+    this.picture.run = run;
+    this.panels.show(run);
+    this.facts.show(run, prefix, 0);
     this.choose();
-    // the timeline takes the height that is left
-    const style = get("grid").style, high = clamp(HEAD + this.picture.grid.rows.length * USUAL + 20, 110, 640);
-    style.height = high + "px";
-    style.height = clamp(high - (document.documentElement.scrollHeight - innerHeight), Math.min(high, 230), high) + "px";
-    this.layout();
     if (run.failing && this.picture.grid.wide < 12) this.zoom(WIDEST);
   }
 
-  layout() { this.picture.layout(); this.draw(); }
+  layout() {
+    const high = HEAD + Math.max(3, this.picture.grid.rows.length) * USUAL + 20;
+    get("grid").style.setProperty("--high", high + "px");
+    this.picture.layout();
+    this.draw();
+  }
 
   draw() {
-    if (!this.isDue) requestAnimationFrame(() => { this.isDue = false; this.picture.draw(); });
+    if (!this.isDue) requestAnimationFrame(() => this.drawn());
     this.isDue = true;
   }
 
-  select(t) {
-    const { run, picture } = this, selected = picture.selected = clamp(t, 0, run.total);
-    // Browsers allow some 200 addresses in ten seconds, so it is noted later. An address that came in the meantime is still to be followed.
-    const { hash } = location, address = `#${this.prefix}step-${selected}`;
+  drawn() {
+    this.isDue = false;
+    this.picture.draw();
+  }
+
+  select(step) {
+    const { run, picture, picture: { grid }, prefix } = this, t = clamp(step, 0, run.total);
+    // Browsers allow some 200 addresses in ten seconds, so it is noted later. An address that came
+    // in the meantime is still to be followed.
+    const { hash } = location, note = () => history.replaceState(null, "", `#${prefix}step-${t}`);
     clearTimeout(this.noting);
-    this.noting = setTimeout(() => { if (location.hash === hash) history.replaceState(null, "", address); }, 300);
-    get("spent").replaceChildren(make("b", "", group(run.cost[Math.min(selected, run.judged)])), " of " + group(run.cost[run.judged]));
-    picture.grid.across.reveal(selected);
-    this.panels.choose(selected);
+    this.noting = setTimeout(() => location.hash === hash && note(), 300);
+    const name = t ? `Step ${group(t)} of ${group(run.total)}: ${run.name(t)}` : "Initial state";
+    const cost = `cost ${group(run.cost[Math.min(t, run.judged)])}`;
+    get("spent").textContent = `${cost} of ${group(run.cost[run.judged])}`;
+    get("at").value = picture.selected = t;
+    get("at").setAttribute("aria-valuetext", name);
+    tell(`${name}, ${cost}`);
+    if (get("only").checked) this.choose();
+    grid.across.reveal(t);
+    const rows = run.involved(t).map(v => grid.rows.indexOf(v)).filter(row => row >= 0);
+    if (rows.length) grid.down.reveal(Math.min(...rows));
+    this.panels.choose(t);
+    this.facts.show(run, prefix, t);
     this.draw();
   }
 
   // Chooses the rows of the timeline and their order.
   choose() {
-    const { run, variables, picture } = this, words = get("rows").value.toLowerCase(), changes = v => run.when[v].length;
-    const isMarked = v => run.missing.has(v) || run.clash.has(v);
-    const first = v => isMarked(v) ? -1 : changes(v) ? run.when[v][0] : run.total + 1;
-    const which = { main: v => changes(v) || run.goal.has(v) || isMarked(v), changing: changes, goal: v => run.goal.has(v), all: () => true,
-      derived: v => variables[v].layer >= 0 }[get("which").value];
-    const order = { first, often: v => -changes(v), number: () => 0 }[get("order").value];
-    const rows = variables.map((_, v) => v).filter(v => which(v) && variables[v].search.includes(words));
-    picture.grid.rows = rows.sort((a, b) => order(a) - order(b));
-    get("shown").textContent = `${group(rows.length)} of ${group(variables.length)} variables`;
+    const { run, picture: { grid, selected }, task: { variables } } = this;
+    const changes = v => run.when[v].length, isMarked = v => run.missing.has(v) || run.clash.has(v);
+    const first = v => isMarked(v) ? -1 : run.when[v][0] ?? run.total + 1;
+    const which = {
+      main: v => changes(v) || run.goal.has(v) || isMarked(v),
+      changing: changes,
+      goal: v => run.goal.has(v),
+      derived: v => variables[v].layer >= 0,
+      all: () => true,
+    }[get("which").value];
+    const order = { first, often: v => -changes(v), number: v => v }[get("order").value];
+    const isHere = get("only").checked && selected > 0, words = get("rows").value.toLowerCase();
+    const rows = isHere ? run.involved(selected) : [...variables.keys()].filter(which);
+    const kept = rows.filter(v => variables[v].search.includes(words));
+    grid.rows = kept.sort((a, b) => order(a) - order(b));
+    get("shown").textContent = `${group(grid.rows.length)} of ${group(variables.length)} variables`;
     this.layout();
   }
 
@@ -96,28 +140,69 @@ class Page {
     this.layout();
   }
 
+  // Shows step after step.
+  play(isOn) {
+    const { picture } = this, isEnd = () => picture.selected >= this.run.total;
+    const next = () => isEnd() ? this.play(false) : this.select(picture.selected + 1);
+    clearInterval(this.playing);
+    this.playing = isOn ? setInterval(next, TICK) : 0;
+    const [textContent, ariaLabel] = isOn ? ["❚❚", "Pause"] : ["▶", "Play"];
+    Object.assign(get("play"), { textContent, ariaLabel });
+  }
+
+  darken(isDark) {
+    this.isDark = isDark;
+    document.documentElement.classList.toggle("dark", isDark);
+    get("theme").ariaPressed = isDark;
+    this.picture.colours = theme();
+    if (this.run) this.layout();
+  }
+
+  save() {
+    const { label, verdict } = this.run.plan;
+    const svg = savedPicture(this.picture, `${label}: ${verdict}`, this.keys);
+    const href = URL.createObjectURL(new Blob([svg], { type: "image/svg+xml" }));
+    make("a", { href, download: "plan.svg" }).click();
+    setTimeout(() => URL.revokeObjectURL(href), 1000);
+  }
+
   listen() {
-    const { picture, picture: { grid }, panels } = this;
-    const on = (it, kinds, act) => kinds.split(" ").forEach(kind => it.addEventListener(kind, act, { passive: false }));
-    for (const id of ["rows", "which", "order"]) on(get(id), "input", () => this.choose());
-    for (const id of ["filter", "only"]) on(get(id), "input", () => panels.filter());
-    on(get("find"), "input", () => panels.search());
-    on(get("fit"), "click", () => this.fit());
+    const { picture, picture: { grid }, panels } = this, choose = () => this.choose();
+    const on = (it, kinds, act) => kinds.split(" ").forEach(kind =>
+      it.addEventListener(kind, act, { passive: false }));
+    const typed = {
+      rows: choose, which: choose, order: choose, only: choose,
+      at: () => this.select(+get("at").value),
+      filter: () => panels.filter(), find: () => panels.search(),
+    };
+    const pressed = {
+      fit: () => this.fit(), save: () => this.save(), play: () => this.play(!this.playing),
+      previous: () => this.select(picture.selected - 1),
+      next: () => this.select(picture.selected + 1),
+      narrower: () => this.zoom(grid.wide / 1.5), wider: () => this.zoom(grid.wide * 1.5),
+      theme: () => this.darken(!this.isDark),
+    };
+    for (const [id, act] of Object.entries(typed)) on(get(id), "input change", act);
+    on(get("only"), "input change", () => panels.filter());
+    for (const [id, act] of Object.entries(pressed)) on(get(id), "click", act);
     on(get("grid"), "scroll", () => this.draw());
-    on(get("grid"), "click", event => { if (this.place(event).t >= 0) this.select(this.place(event).t); });
+    on(get("grid"), "click", event => this.click(this.place(event)));
     on(get("grid"), "pointermove", event => { get("grid").title = this.about(this.place(event)); });
-    on(get("grid"), "wheel", event => {
-      if (event.ctrlKey) event.preventDefault();
-      if (event.ctrlKey) this.zoom(grid.wide * Math.exp(-event.deltaY / 200), this.place(event).x);
-    });
+    on(get("grid"), "wheel", event => this.turn(event));
     on(get("cost"), "pointerdown pointermove", event => {
-      if (event.buttons) this.select(Math.floor((event.offsetX - grid.labels) / grid.across.room * (this.run.total + 1)));
+      const part = (this.place(event).x - grid.labels) / grid.across.room;
+      if (event.buttons) this.select(Math.floor(part * (this.run.total + 1)));
     });
-    on(window, "keydown", event => this.key(event));
+    on(get("timeline"), "keydown", event => this.key(event));
+    on(get("steps"), "keydown", event => this.pick(event));
+    on(window, "keydown", event => { if (event.key === "Escape") this.escape(event.target); });
     on(window, "hashchange", () => this.follow());
     on(window, "beforeprint afterprint", event => this.print(event.type === "beforeprint"));
-    on(matchMedia("(prefers-color-scheme: dark)"), "change", () => { picture.theme(); if (this.run) this.layout(); });
-    const sized = new ResizeObserver(() => { if (this.run) { this.layout(); panels.steps.draw(); panels.values.draw(); } });
+    on(matchMedia("(prefers-color-scheme: dark)"), "change", event => this.darken(event.matches));
+    const sized = new ResizeObserver(() => {
+      if (this.run) this.layout();
+      for (const list of [panels.steps, panels.values]) list.draw();
+    });
     for (const id of ["grid", "steps", "state"]) sized.observe(get(id));
   }
 
@@ -126,43 +211,72 @@ class Page {
     return this.picture.grid.place(event.clientX - box.left, event.clientY - box.top);
   }
 
-  // Describes what is at a place of the timeline.
-  about({ t, row, isGoal }) {
-    const { run } = this, v = this.picture.grid.rows[row], step = t > 0 ? `step ${t}: ${run.name(t)}` : "";
-    if (v === undefined) return step;
-    const { label, name, values } = this.variables[v];
-    const shown = isGoal ? run.goal.get(v) || [] : t >= 0 && t <= run.judged ? [run.value(v, t)] : [];
-    return [`${label} (${name})`, ...shown.map(k => values[k].name), step].join("\n");
+  click({ t, row, isGoal }) {
+    const v = this.picture.grid.rows[row];
+    if (t >= 0) this.select(t);
+    else if (v !== undefined) this.facts.open(v, isGoal ? this.run.goal.get(v)?.[0] : null);
   }
 
+  // Describes what is at a place of the timeline.
+  about({ t, row, isGoal }) {
+    const { run } = this, v = this.picture.grid.rows[row];
+    const step = t > 0 ? [`step ${t}: ${run.name(t)}`] : [];
+    if (v === undefined) return step.join();
+    const { label, name, values } = this.task.variables[v];
+    const held = t >= 0 && t <= run.judged ? [run.value(v, t)] : [];
+    const shown = isGoal ? run.goal.get(v) ?? [] : held;
+    return [`${label} (${name})`, ...shown.map(k => values[k].name), ...step].join("\n");
+  }
+
+  // The wheel with the control key makes steps wider.
+  turn(event) {
+    if (!event.ctrlKey) return;
+    event.preventDefault();
+    this.zoom(this.picture.grid.wide * Math.exp(-event.deltaY / 200), this.place(event).x);
+  }
+
+  // Keys in the timeline, where nothing is typed. Those that move act where the steps are drawn.
   key(event) {
-    const { picture: { grid, selected }, panels: { found } } = this, isTyping = event.target.matches("input[type=search], select");
-    if (event.key === "Escape" && isTyping) event.target.blur();
-    if (!this.run || event.ctrlKey || event.metaKey || event.altKey || isTyping) return;
-    const down = event.target === get("steps") ? { ArrowUp: -1, ArrowDown: 1 }[event.key] : 0, at = found ? found.indexOf(selected) : -1;
-    const move = down || { ArrowLeft: -1, ArrowRight: 1, PageUp: -10, PageDown: 10, Home: -Infinity, End: Infinity }[event.key];
-    const zoom = { "+": 1.5, "-": 1 / 1.5 }[event.key];
-    const act = zoom ? () => this.zoom(grid.wide * zoom) : { "/": () => get("find").focus(), f: () => this.fit() }[event.key];
-    if (!move && !act) return;
-    if (act) act(); else this.select(down && at >= 0 ? found[clamp(at + down, 0, found.length - 1)] : selected + move);
+    const { picture: { grid, selected } } = this, { target, key } = event;
+    if (event.ctrlKey || event.metaKey || event.altKey || target.matches("input, select")) return;
+    const move = { ArrowLeft: -1, ArrowRight: 1, PageUp: -10, PageDown: 10, ...FAR }[key];
+    const go = move && target === get("grid") && (() => this.select(selected + move));
+    const act = go || {
+      "+": () => this.zoom(grid.wide * 1.5), "-": () => this.zoom(grid.wide / 1.5),
+      "/": () => get("find").focus(), f: () => this.fit(),
+    }[key];
+    if (!act) return;
+    act();
     event.preventDefault();
   }
 
-  // Paper is light and has no scrollbars: it shows all steps, and rows as far as that makes sense.
+  // Keys in the list of steps.
+  pick(event) {
+    const { found, selected } = this.panels, page = Math.floor(get("steps").clientHeight / ROW) - 1;
+    const move = { ArrowUp: -1, ArrowDown: 1, PageUp: -page, PageDown: page, ...FAR }[event.key];
+    if (!move || !found.length) return;
+    this.select(found[clamp(found.indexOf(selected) + move, 0, found.length - 1)]);
+    event.preventDefault();
+  }
+
+  // Empties a search field, and shows what it kept away.
+  escape(field) {
+    if (!field.matches("input[type=search]")) return;
+    field.value = "";
+    field.dispatchEvent(new Event("input"));
+    field.blur();
+  }
+
+  // Paper is light, and has all rows.
   print(isOn) {
-    if (!this.run) return;
-    const { picture, picture: { grid }, panels } = this, style = get("grid").style;
-    document.documentElement.classList.toggle("printing", isOn);
-    if (isOn) this.screen = [style.height, grid.wide, grid.high];
-    const paper = [HEAD + 4 + Math.min(46, grid.rows.length) * USUAL + "px", 0, USUAL];
-    [style.height, grid.across.size, grid.down.size] = isOn ? paper : this.screen;
-    panels.steps.isPrinted = panels.values.isPrinted = isOn;
-    picture.theme();
-    picture.layout();
-    picture.draw();
-    panels.steps.draw();
-    panels.values.draw();
+    document.documentElement.classList.toggle("dark", this.isDark && !isOn);
+    if (this.run && isOn) fillPaper(this.run, this.picture.grid.rows, get("legend"));
+    for (const list of [this.panels.steps, this.panels.values]) {
+      list.isPrinted = isOn;
+      list.draw();
+    }
   }
 }
 
-unpacked(get("data").textContent).then(data => new Page(data)).catch(fault => get("trouble").append("No timeline: " + fault));
+unpacked(get("data")).then(data => new Page(data))
+  .catch(fault => get("trouble").append("No timeline: " + fault));

@@ -54,7 +54,6 @@ pub use Rattle.sas_answers.specs.Facts.{fact_line, initial_lines}
 pub use Rattle.sas_answers.specs.GroupWords.{verdict_lines, groups_status}
 pub use Rattle.sas_answers.specs.Laws.{IsReasonLine}
 pub use Rattle.sas_answers.specs.Shown.{hex_digit_of, in_digits, is_plain_byte, shown_byte, shown_whole, shown, shown_name}
-pub use Rattle.sas_answers.specs.declared.shown.PlainBytes.{PlainBytes}
 pub use Rattle.sas_core.specs.LineNumbers.{operator_line, rule_line}
 pub use Rattle.std.proofs.Math.Seq.{drop-append_seam}
 pub use Rattle.std.specs.Cmp.Lexicographic.{pointwise, same_text, other_text}
@@ -69,7 +68,7 @@ pub use Rattle.sas_answers.specs.declared.ending.Status.TheVariants.{Yes, No}
 pub use Rattle.sas_answers.specs.declared.ending.ToolFault.{ToolFault}
 pub use Rattle.sas_answers.specs.declared.ending.ToolFault.TheVariants.{Memory, Read, TooLong, Write}
 pub use Rattle.sas_answers.specs.declared.line.Line.{Line}
-pub use Rattle.sas_answers.specs.declared.line.Line.TheVariants.{Step, SimilarOperator, NamedOperator, GoalFact, Requires, Actual, SinceInitialState, SinceStep, RuleDerives, NoRuleDerives, RuleRequires, ConflictingEffect, Metric, Steps, CostLines, CouldBe, EffectSets, Rule, ConditionRequires, OldValue, DefaultValue, OnLayer, Derived, Holds, MayRemain, NamelessSteps, FailingGoalFacts, UnitCostHint, CostLineHint}
+pub use Rattle.sas_answers.specs.declared.line.Line.TheVariants.{Step, SimilarOperator, NamedOperator, GoalFact, Requires, Actual, SinceInitialState, SinceStep, RuleDerives, NoRuleDerives, RuleRequires, ConflictingEffect, Metric, Steps, CostLines, CouldBe, EffectSets, Rule, ConditionRequires, OldValue, DefaultValue, OnLayer, Derived, Holds, MayRemain, NamelessSteps, OtherTaskHint, LaterFailures, LaterFailure, FailingGoalLater, FailingGoalFacts, UnitCostHint, CostLineHint}
 pub use Rattle.sas_answers.specs.declared.sink.Sink.{Sink}
 pub use Rattle.sas_answers.specs.declared.words.Word.{Word}
 pub use Rattle.sas_answers.specs.declared.words.Word.TheVariants.{Text}

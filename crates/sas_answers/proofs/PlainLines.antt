@@ -1,6 +1,6 @@
 -- Each line begins with two spaces, and holds neither LF nor CR.
-use Rattle.sas_answers.proofs.Imports.{ℕ, ◌-◌, List, [], ◌∷◌, ◌++◌, get_or, refl, arith, if◌then◌else◌, codes, unwrap_or, Fact, Parts, operator_at, effect_at, rule_at, IsPlain, plain_without, plain-append, value_name, joined, Without-decimal, Line, Step, SimilarOperator, NamedOperator, GoalFact, Requires, Actual, SinceInitialState, SinceStep, RuleDerives, NoRuleDerives, RuleRequires, ConflictingEffect, Metric, Steps, CostLines, CouldBe, EffectSets, Rule, ConditionRequires, OldValue, DefaultValue, OnLayer, Derived, Holds, MayRemain, NamelessSteps, FailingGoalFacts, UnitCostHint, CostLineHint, change_of, fact_of, words_of, named_words, named_operator, rule_words, operator_line, rule_line, shown_name, named_effect, line_bytes, IsReasonLine}
-use Rattle.sas_answers.proofs.ShownTexts.{name_plain}
+use Rattle.sas_answers.proofs.Imports.{ℕ, ◌-◌, List, [], ◌∷◌, ◌++◌, get_or, refl, arith, if◌then◌else◌, codes, unwrap_or, Fact, Parts, operator_at, effect_at, rule_at, IsPlain, plain_without, plain-append, value_name, joined, Without-decimal, Line, Step, SimilarOperator, NamedOperator, GoalFact, Requires, Actual, SinceInitialState, SinceStep, RuleDerives, NoRuleDerives, RuleRequires, ConflictingEffect, Metric, Steps, CostLines, CouldBe, EffectSets, Rule, ConditionRequires, OldValue, DefaultValue, OnLayer, Derived, Holds, MayRemain, NamelessSteps, OtherTaskHint, LaterFailures, LaterFailure, FailingGoalLater, FailingGoalFacts, UnitCostHint, CostLineHint, change_of, fact_of, words_of, named_words, named_operator, rule_words, operator_line, rule_line, shown_name, named_effect, line_bytes, IsReasonLine}
+use Rattle.sas_answers.proofs.ShownTexts.{shown_plain}
 use Rattle.std.specs.Prelude.{decimal}
 use Rattle.sas_answers.specs.declared.line.Line.TheVariants.{Operator as TheOperator}
 
@@ -16,18 +16,18 @@ pub two : (behind : List ℕ) → IsPlain behind → IsReasonLine (32 ∷ 32 ∷
 two behind plain = record { behind = behind; spaces = refl; plain = plain }
 
 named : (n : ℕ) (name : List ℕ) → IsPlain (joined (named_words n name))
-named n name = number_then n (32 ∷ shown_name name) (name_plain name)
+named n name = number_then n (32 ∷ shown_name name) (shown_plain 256 name)
 
 module _ (p : Parts) (steps : List (List ℕ)) where
   operator : (o : ℕ) → IsPlain (joined (named_operator p o))
   operator o =
       let name = shown_name (operator_at p o).name in
       let line = operator_line p o in
-      number_then o (32 ∷ joined (codes "line" ∷ decimal line ∷ name ∷ [])) (number_then line (32 ∷ name) (name_plain (operator_at p o).name))
+      number_then o (32 ∷ joined (codes "line" ∷ decimal line ∷ name ∷ [])) (number_then line (32 ∷ name) (shown_plain 256 (operator_at p o).name))
 
   of_fact : (f : Fact) → IsPlain (joined (words_of p f))
   of_fact f = let name = unwrap_or (value_name p.variables f.var f.value) [] in
-      number_then f.var (32 ∷ decimal f.value ++ 32 ∷ shown_name name) (number_then f.value (32 ∷ shown_name name) (name_plain name))
+      number_then f.var (32 ∷ decimal f.value ++ 32 ∷ shown_name name) (number_then f.value (32 ∷ shown_name name) (shown_plain 256 name))
 
   part : (n : ℕ) (verb : List ℕ) (f : Fact) → IsPlain verb → IsPlain (joined (decimal n ∷ verb ∷ words_of p f))
   part n verb f plain = number_then n (32 ∷ joined (verb ∷ words_of p f)) (plain-append verb (32 ∷ joined (words_of p f)) plain (of_fact f))
@@ -72,6 +72,10 @@ module _ (p : Parts) (steps : List (List ℕ)) where
   is_reason_line (Holds f) = two _ (of_fact f)
   is_reason_line (MayRemain f) = two _ (of_fact f)
   is_reason_line (NamelessSteps k n) = two _ (k_of_n k n (codes "steps name no operator") refl)
+  is_reason_line OtherTaskHint = two _ refl
+  is_reason_line (LaterFailures k n) = two _ (k_of_n k n (codes "later steps fail") refl)
+  is_reason_line (LaterFailure n) = two _ (named n (get_or steps (n - 1) []))
+  is_reason_line (FailingGoalLater k n) = two _ (k_of_n k n (codes "goal facts fail") refl)
   is_reason_line (FailingGoalFacts k n) = two _ (k_of_n k n (codes "goal facts fail") refl)
   is_reason_line UnitCostHint = two _ refl
   is_reason_line CostLineHint = two _ refl

@@ -16,6 +16,7 @@ use Rattle.sas_answers.specs.declared.line.Line.TheVariants.{Actual, SinceInitia
 use Rattle.sas_answers.specs.declared.line.Line.TheVariants.{RuleRequires, ConflictingEffect, Metric, Steps, CostLines, CouldBe}
 use Rattle.sas_answers.specs.declared.line.Line.TheVariants.{EffectSets, Rule, ConditionRequires, OldValue, DefaultValue, OnLayer}
 use Rattle.sas_answers.specs.declared.line.Line.TheVariants.{Derived, Holds, MayRemain, NamelessSteps, FailingGoalFacts, UnitCostHint, CostLineHint}
+use Rattle.sas_answers.specs.declared.line.Line.TheVariants.{OtherTaskHint, LaterFailures, LaterFailure, FailingGoalLater}
 use Rattle.sas_answers.specs.Shown.{shown_name}
 
 -- the words of a fact: `VAR VALUE NAME`; a value that doesn't exist has no name
@@ -92,6 +93,13 @@ line_bytes p steps (Holds fact) = line 2 (codes "holds" ∷ words_of p fact)
 line_bytes p steps (MayRemain fact) = line 2 (codes "may remain" ∷ words_of p fact)
 line_bytes p steps (NamelessSteps count all) =
     line 2 (decimal count ∷ codes "of" ∷ decimal all ∷ codes "steps name no operator" ∷ [])
+line_bytes p steps OtherTaskHint = line 2 (codes "hint the plan may be of another task" ∷ [])
+line_bytes p steps (LaterFailures count all) = line 2 (codes "if made anyway" ∷ decimal count
+    ∷ codes "of" ∷ decimal all ∷ codes "later steps fail" ∷ [])
+line_bytes p steps (LaterFailure step) =
+    line 4 (codes "step" ∷ named_words step (slice_index_or steps (step - 1) []))
+line_bytes p steps (FailingGoalLater count all) = line 2 (codes "if made anyway" ∷ decimal count
+    ∷ codes "of" ∷ decimal all ∷ codes "goal facts fail" ∷ [])
 line_bytes p steps (FailingGoalFacts count all) =
     line 2 (decimal count ∷ codes "of" ∷ decimal all ∷ codes "goal facts fail" ∷ [])
 line_bytes p steps UnitCostHint = line 2 (codes "hint with metric 0 each step costs 1" ∷ [])

@@ -3,7 +3,6 @@
 #![tactic(auto)]
 
 mod answer;
-mod detail;
 mod ending;
 mod laws;
 mod layers;
@@ -19,7 +18,6 @@ mod wording;
 mod words;
 
 pub use answer::Answer;
-pub use detail::Detail;
 pub use ending::{Status, ToolFault};
 pub use laws::line_laws;
 pub use layers::{accept_layers, refuse_layers};
@@ -28,6 +26,6 @@ pub use names::{NameSource, given_by, operator_name, set_by, value_name};
 pub use pieces::Pieces;
 pub use plans::{accept_plan, answer_fault, answer_number_fault};
 pub use pushing::{push_lines, write_reasons};
-pub use shown::{PlainBytes, show, show_name};
+pub use shown::{show, show_name};
 pub use sink::Sink;
 pub use words::{NumberedLine, Word, Words};

@@ -60,6 +60,14 @@ pub enum Line {
     MayRemain { fact: Fact },
     /// `K of N steps name no operator`.
     NamelessSteps { count: usize, steps: usize },
+    /// `hint the plan may be of another task`.
+    OtherTaskHint,
+    /// `if made anyway K of M later steps fail`.
+    LaterFailures { count: usize, steps: usize },
+    /// Four spaces, `step T NAME`.
+    LaterFailure { step: usize },
+    /// `if made anyway K of N goal facts fail`.
+    FailingGoalLater { count: usize, facts: usize },
     /// `K of N goal facts fail`.
     FailingGoalFacts { count: usize, facts: usize },
     /// `hint with metric 0 each step costs 1`.

@@ -96,6 +96,16 @@ pub fn wording(line: Line) -> (&'static [u8], LineRest)
             b" ",
             LineRest::KOfN(count as u64, steps as u64, b"steps name no operator"),
         ),
+        Line::OtherTaskHint => (b"  hint the plan may be of another task", LineRest::Nothing),
+        Line::LaterFailures { count, steps } => (
+            b"  if made anyway",
+            LineRest::KOfN(count as u64, steps as u64, b"later steps fail"),
+        ),
+        Line::LaterFailure { step } => (b"    step", LineRest::Step(step)),
+        Line::FailingGoalLater { count, facts } => (
+            b"  if made anyway",
+            LineRest::KOfN(count as u64, facts as u64, b"goal facts fail"),
+        ),
         Line::FailingGoalFacts { count, facts } => (
             b" ",
             LineRest::KOfN(count as u64, facts as u64, b"goal facts fail"),

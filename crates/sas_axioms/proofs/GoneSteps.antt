@@ -1,8 +1,8 @@
 -- Updating the counters for the basic variables that changed, one at a time.
-use Rattle.sas_axioms.proofs.Imports.{◌≡◌, ◌≢◌, ℕ, zero, suc, ◌<◌, List, [], ◌∷◌, length, get_or, set, refl, sym, ◌∙◌, ap, subst, inl, inr, arith, All, cases_eq, get_or-set_same, get_or-set_other, set-get_or, All-nil, All-cons, All-head, All-tail, Reverse, Fact, Parts, rule_at, IsState, HaveGone, IsBasic, IsOnLayer, IsSettledAt, Holds, differs_same, Work, LayerRule, IsEmpty, SourcesHold, CountsChange, IsFollowed, IsBetween, IsRuleOn, settled_where_empty}
+use Rattle.sas_axioms.proofs.Imports.{◌≡◌, ◌≢◌, ℕ, zero, suc, ◌<◌, List, [], ◌∷◌, length, get_or, set, refl, sym, ◌∙◌, ap, subst, inl, inr, arith, All, cases_eq, get_or-set_same, get_or-set_other, set-get_or, All-nil, All-cons, All-head, All-tail, Reverse, Fact, Parts, IsState, HaveGone, IsBasic, IsOnLayer, IsSettledAt, Holds, differs_same, Work, LayerRule, IsEmpty, SourcesHold, CountsChange, IsFollowed, IsBetween, IsRuleOn}
 use Rattle.std.proofs.lemmas.Grind.{same_number_lists}
 use Rattle.sas_axioms.proofs.FallingSteps.{noted_moved}
-use Rattle.sas_axioms.proofs.Sources.{sources_same, given_at_default}
+use Rattle.sas_axioms.proofs.Sources.{sources_same}
 use Rattle.sas_axioms.proofs.Tracking.{track_moved}
 
 -- ---- the facts that are gone
@@ -80,9 +80,3 @@ counted_more p s0 m w w' v value basic state same_sources so_far moves = record 
   where
     kept : (layer u : ℕ) → IsOnLayer p layer u → get_or (set m v value) u 0 ≡ get_or m u 0
     kept layer u on = get_or-set_other m v u value 0 (λ e. (let a = subst (λ x. IsOnLayer p layer x) e on in let b = basic in cc))
-
--- ---- where no variable is derived
-
--- each state is settled, and followed with what was counted before
-pub idle_followed : (p : Parts) (s s' : List ℕ) (w : Work) → ((layer v : ℕ) → IsOnLayer p layer v → ⊥) → IsState p.variables s' → IsFollowed p s w → IsFollowed p s' w
-idle_followed p s s' w none state followed = grind (arith, settled_where_empty, rule_at, given_at_default)

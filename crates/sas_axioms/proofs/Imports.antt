@@ -37,7 +37,7 @@ pub use Rattle.sas_meaning.proofs.Settling.{default_off, forced_at_default, sett
 pub use Rattle.sas_meaning.proofs.Spans.{basic_kept, at_default, state_reset}
 pub use Rattle.sas_meaning.proofs.Unique.{differs_decides}
 pub use Rattle.sas_meaning.specs.DerivedVariables.{AreDerivedSpans, CopiesSpans}
-pub use Rattle.sas_meaning.specs.Following.{HaveGone}
+pub use Rattle.sas_meaning.specs.Following.{HaveGone, ListsDerived}
 pub use Rattle.sas_meaning.specs.Forced.{SameOff, AtDefault, OnlyForced, HasFired, equal_places, Occurs}
 pub use Rattle.sas_meaning.specs.Layers.{IsLayered, IsBasic, IsOnLayer, default_of, CanFire, can_fire, LooksDown}
 pub use Rattle.sas_meaning.specs.Places.{places, can_give}
@@ -46,7 +46,7 @@ pub use Rattle.sas_meaning.specs.States.{Holds, AllHold}
 pub use Rattle.sas_axioms.specs.Agenda.{layer_cmp, entry_for, IsOnAgenda, AddsToAgenda, work_left, IsOrdered, IsAwaited, AreBehind, RemovesFromAgenda, IsMadeReady, AreMadeReady, IsEmpty, NoLowerLayer, Lowest}
 pub use Rattle.sas_axioms.specs.ByLayers.{SettlesNext, SettlesLayer}
 pub use Rattle.sas_axioms.specs.Conditions.{asking, waiting_entry, waiting_at, released, occurrences, open_conditions, IsOfRule, entries, IsFullIndex, AreCounted, IsCounted, waits_for, CanCount}
-pub use Rattle.sas_axioms.specs.Following.{NotesMore, IsFollowed, SameWork, CountsTo, SameFrom, ChangesAreNoted, CountsChange, IsOnTrack, IsFalling, IsRising, IsBetween, IsUpdatedTo, AsksAbout, HasRisen, KeepsRoom}
+pub use Rattle.sas_axioms.specs.Following.{AddsChanged, NotesMore, IsFollowed, SameWork, CountsTo, SameFrom, ChangesAreNoted, CountsChange, IsOnTrack, IsFalling, IsRising, IsBetween, IsUpdatedTo, AsksAbout, HasRisen, KeepsRoom}
 pub use Rattle.sas_axioms.specs.LayerRules.{IsRuleOn, AreReadyFrom, StandsFrom, AreWaiting, layer_at, IsLate, AreFirstRules, AreRulesOf, IsLayerSpan}
 pub use Rattle.sas_axioms.specs.Sources.{AreGiven, SameSourcesOff, IsHolding, HaveSources, SourcesHold, IsSourceOf}
 pub use Rattle.sas_axioms.specs.Worklist.{AreCountedBy, value_seen, IsRunning, WorkHasRoom, IsFiring, IsAtWork, IsAtRest, WorkGoesOn, with_source, LayerBeginsAt, left_to_do}

@@ -12,4 +12,5 @@ pub mod AgendaOrder
 pub mod Recounting
 pub mod CountingEntries
 pub mod RulesOf
+pub mod SetVariables
 mod Imports

@@ -44,6 +44,14 @@ pub record SameWork (w w' : Work) : Type 0 where
   pub one_each : length w'.counters ≡ length w.counters
   pub sources : w'.sources ≡ w.sources
 
+-- variables of the task were added to the list, so that those with other values in s' than in s are
+-- on it
+pub record AddsChanged (p : Parts) (s s' list list' : List ℕ) : Type 0 where
+  pub keeps : (var : ℕ) → Contains list var → Contains list' var
+  pub exist : All (λ var. var < length p.variables) list
+      → All (λ var. var < length p.variables) list'
+  pub each : (var : ℕ) → (slice_index s' var ≡ slice_index s var) ⊎ Contains list' var
+
 -- more rules are noted, and each of the new ones satisfies `May`
 pub record NotesMore (p : Parts) (May : ℕ → Type 0) (a a' : Agenda) : Type 0 where
   pub keeps : (layer rule : ℕ) → IsOnAgenda a layer rule → IsOnAgenda a' layer rule

@@ -1,5 +1,5 @@
 // The rules that an update of a settled state still has to evaluate.
-ghost use Rattle.std.specs.Prelude.{◌≡◌, ◌+◌, ◌≤◌, [], IfOk, OnOk, IfSome, OnSome, IfNone};
+ghost use Rattle.std.specs.Prelude.{◌≡◌, ◌+◌, ◌≤◌, ◌∷◌, ◌++◌, [], IfOk, OnOk, IfSome, OnSome, IfNone};
 ghost use Rattle.std.specs.BinaryHeap.{heap_items};
 ghost use Rattle.sas_axioms.specs.Agenda.{IsEmpty, IsOrdered, NoLowerLayer, AreBehind, Lowest, AddsToAgenda, RemovesFromAgenda, IsMadeReady, work_left};
 
@@ -151,12 +151,19 @@ impl Agenda {
     pub fn make_ready(&mut self, rule: u32) -> Result<(), OverBudget>
         ensures { OnOk result (IsMadeReady rule self.old self.new) }
     {
-        if self.ready.len() == self.ready.capacity() {
-            return Err(OverBudget);
-        }
-        match self.ready.push(rule) {
-            Ok(()) => Ok(()),
-            Err(_) => Err(OverBudget),
-        }
+        push_within(&mut self.ready, rule)
+    }
+}
+
+/// Adds the entry to the list. Returns an error if there is no room.
+pub fn push_within(list: &mut Vec<u32>, entry: u32) -> Result<(), OverBudget>
+    ensures { OnOk result (list.new.items ≡ list.old.items ++ entry ∷ []) }
+{
+    if list.len() == list.capacity() {
+        return Err(OverBudget);
+    }
+    match list.push(entry) {
+        Ok(()) => Ok(()),
+        Err(_) => Err(OverBudget),
     }
 }

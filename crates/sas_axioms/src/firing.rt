@@ -4,7 +4,7 @@ ghost use Rattle.sas_core.specs.Grounded.{rule_at};
 ghost use Rattle.sas_core.specs.Variables.{IsState};
 ghost use Rattle.sas_meaning.specs.DerivedVariables.{AreDerivedSpans};
 ghost use Rattle.sas_meaning.specs.Forced.{AtDefault};
-ghost use Rattle.sas_meaning.specs.Following.{HaveGone};
+ghost use Rattle.sas_meaning.specs.Following.{HaveGone, ListsDerived};
 ghost use Rattle.sas_meaning.specs.Settled.{SameBasic};
 ghost use Rattle.sas_axioms.specs.ByLayers.{SettlesLayer};
 ghost use Rattle.sas_axioms.specs.declared.layer_rules.LayerRule.{LayerRule};
@@ -87,6 +87,8 @@ pub struct LayerSettler {
     rules_of: Lists<u32>,
     /// The data for settling a layer.
     work: Work,
+    /// The variables that the last update set.
+    pub changed: Vec<u32>,
 }
 
 impl LayerSettler {
@@ -105,6 +107,7 @@ impl LayerSettler {
             counted: ConditionCounts::new(alloc, layered)?,
             rules_of: rules_of_variables(alloc, layered)?,
             work,
+            changed: Vec::with_capacity(alloc, share)?,
         })
     }
 
@@ -183,7 +186,7 @@ impl LayerSettler {
     }
 
     /// Updates the state, which must be settled except that the facts `gone` may have become false. Gives up if the update takes too much
-    /// work.
+    /// work. Lists the variables that it sets in `changed`.
     pub fn follow<T: Grounded>(
         &mut self,
         layered: &Layered<T>,
@@ -198,13 +201,15 @@ impl LayerSettler {
         ensures state { IsState layered.now.variables state.new }
         ensures basic { SameBasic layered.now state.old state.new }
         ensures followed { OnOk result (IsFollowed layered.now state.new self.new.work) }
+        ensures changed { OnOk result
+            (ListsDerived layered.now state.old state.new self.new.changed.items) }
     {
         let indexed = IndexedRules {
             layered,
             waiting: &self.counted.index,
             setting: &self.rules_of,
         };
-        let followed = settle_gone(&indexed, gone, &mut self.work, state);
+        let followed = settle_gone(&indexed, gone, &mut self.work, &mut self.changed, state);
         self.work.agenda.end(followed);
         followed
     }

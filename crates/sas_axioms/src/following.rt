@@ -4,20 +4,20 @@
 // its default, then each variable whose source depended on that one, and so on. The remaining variables have sources that hold, and no
 // source depends on its own variable, so no two rules support only each other. Then the rules that hold set their variables, including
 // those that were reset.
-ghost use Rattle.std.specs.Prelude.{◌≡◌, ◌≢◌, ◌+◌, ◌<◌, ◌≤◌, ℕ, List, length, OnOk, OnErr, IsTrue, IsFalse, slice_index, slice_set};
+ghost use Rattle.std.specs.Prelude.{◌≡◌, ◌≢◌, ◌+◌, ◌<◌, ◌≤◌, ℕ, List, [], ◌∷◌, ◌++◌, length, OnOk, OnErr, IsTrue, IsFalse, slice_index, slice_set};
 ghost use Rattle.sas_core.specs.Grounded.{rule_at};
 ghost use Rattle.sas_core.specs.Variables.{IsState};
-ghost use Rattle.sas_meaning.specs.Following.{HaveGone};
+ghost use Rattle.sas_meaning.specs.Following.{HaveGone, ListsDerived};
 ghost use Rattle.sas_meaning.specs.Forced.{SameOff};
 ghost use Rattle.sas_meaning.specs.Settled.{SameBasic, differs};
 ghost use Rattle.sas_axioms.specs.Agenda.{IsEmpty, IsOnAgenda, IsOrdered, AreMadeReady, work_left};
 ghost use Rattle.sas_axioms.specs.Conditions.{AreCounted};
 ghost use Rattle.sas_axioms.specs.LayerRules.{IsRuleOn};
 ghost use Rattle.sas_axioms.specs.Sources.{SameSourcesOff};
-ghost use Rattle.sas_axioms.specs.Following.{SameWork, KeepsRoom, NotesMore, CountsTo, CountsChange};
+ghost use Rattle.sas_axioms.specs.Following.{SameWork, KeepsRoom, AddsChanged, NotesMore, CountsTo, CountsChange};
 ghost use Rattle.sas_axioms.specs.Following.{IsBetween, IsFalling, IsRising, HasRisen, IsFollowed};
 
-use crate::agenda::{Agenda, OverBudget};
+use crate::agenda::{Agenda, OverBudget, push_within};
 use crate::conditions::{ValueChange, count_after};
 use crate::firing::Work;
 use crate::indexed_rules::IndexedRules;
@@ -52,11 +52,12 @@ fn count_gone<T: Grounded>(
 }
 
 /// Updates the state, which must be settled except that the facts `gone` may have become false. Settles the layers with noted rules, one by
-/// one.
+/// one. Lists the variables that it sets in `changed`.
 pub fn settle_gone<T: Grounded>(
     indexed: &IndexedRules<'_, '_, T>,
     gone: &[Fact],
     work: &mut Work,
+    changed: &mut Vec<u32>,
     state: &mut State,
 ) -> Result<(), OverBudget>
     requires state { IsState indexed.now.variables state.old }
@@ -68,13 +69,16 @@ pub fn settle_gone<T: Grounded>(
     ensures one_each { length work.new.counters ≡ length work.old.counters }
     ensures sources { length work.new.sources ≡ length work.old.sources }
     ensures followed { OnOk result (IsFollowed indexed.now state.new work.new) }
+    ensures changed { OnOk result
+        (ListsDerived indexed.now state.old state.new changed.new.items) }
 {
     work.agenda.begin();
+    changed.clear();
     count_gone(indexed, gone, work, state)?;
     while let Some(layer) = work.agenda.lowest() {
         work.layer = layer;
-        fall(indexed, work, state)?;
-        rise(indexed, work, state)?;
+        fall(indexed, work, changed, state)?;
+        rise(indexed, work, changed, state)?;
     }
     Ok(())
 }
@@ -83,6 +87,7 @@ pub fn settle_gone<T: Grounded>(
 fn fall<T: Grounded>(
     indexed: &IndexedRules<'_, '_, T>,
     work: &mut Work,
+    changed: &mut Vec<u32>,
     state: &mut State,
 ) -> Result<(), OverBudget>
     requires falling { (s : List ℕ) × IsFalling indexed.now s state.old work.old }
@@ -93,6 +98,8 @@ fn fall<T: Grounded>(
     ensures rising { OnOk result ((s : List ℕ) → IsFalling indexed.now s state.old work.old
         → IsRising indexed.now s state.new work.new) }
     ensures left { OnOk result (work_left work.new.agenda < work_left work.old.agenda) }
+    ensures changed { OnOk result
+        (AddsChanged indexed.now state.old state.new changed.old.items changed.new.items) }
 {
     let layered = indexed.layered;
     while let Some(rule) = work.agenda.take(work.layer) {
@@ -100,7 +107,7 @@ fn fall<T: Grounded>(
             let var = layered.rule_change(rule).var;
             let value = layered.initial_value(var);
             make_ready(indexed.setting.get(var as usize), &mut work.agenda)?;
-            set_to(indexed, Fact { var, value }, work, state)?;
+            set_to(indexed, Fact { var, value }, work, changed, state)?;
         } else {
             work.agenda.make_ready(rule)?;
         }
@@ -144,6 +151,7 @@ fn make_ready(rules: &[u32], agenda: &mut Agenda) -> Result<(), OverBudget>
 fn rise<T: Grounded>(
     indexed: &IndexedRules<'_, '_, T>,
     work: &mut Work,
+    changed: &mut Vec<u32>,
     state: &mut State,
 ) -> Result<(), OverBudget>
     requires { (s : List ℕ) × IsRising indexed.now s state.old work.old }
@@ -154,6 +162,8 @@ fn rise<T: Grounded>(
         → HasRisen indexed.now s state.new work.new) }
     ensures sources { SameSourcesOff indexed.now work.old.layer work.old.sources work.new.sources }
     ensures left { OnOk result (work_left work.new.agenda ≤ work_left work.old.agenda) }
+    ensures changed { OnOk result
+        (AddsChanged indexed.now state.old state.new changed.old.items changed.new.items) }
 {
     let layered = indexed.layered;
     while let Some(rule) = work.agenda.next(work.layer) {
@@ -163,7 +173,7 @@ fn rise<T: Grounded>(
                 var: change.var,
                 value: change.new,
             };
-            set_to(indexed, fact, work, state)?;
+            set_to(indexed, fact, work, changed, state)?;
             work.sources.set(change.var as usize, rule);
         }
     }
@@ -187,12 +197,13 @@ fn has_to_set<T: Grounded>(layered: &Layered<T>, rule: u32, work: &Work, state: 
     work.counters.as_slice()[rule as usize] == 0 && state.value(change.var) != change.new
 }
 
-/// Updates the counters of the rules with conditions on the variable for another value, and sets it to that value. On `Err`, the state is
-/// unchanged.
+/// Updates the counters of the rules with conditions on the variable for another value, and sets it to that value. Adds it to `changed`. On
+/// `Err`, the state is unchanged.
 fn set_to<T: Grounded>(
     indexed: &IndexedRules<'_, '_, T>,
     fact: Fact,
     work: &mut Work,
+    changed: &mut Vec<u32>,
     state: &mut State,
 ) -> Result<(), OverBudget>
     requires counts { AreCounted indexed.now state.old work.old.counters }
@@ -204,12 +215,14 @@ fn set_to<T: Grounded>(
     ensures same { SameWork work.old work.new }
     ensures moves { OnOk result
         (CountsChange indexed.now fact.var state.old work.old state.new work.new) }
+    ensures changed { OnOk result (changed.new.items ≡ changed.old.items ++ fact.var ∷ []) }
 {
     let moved = ValueChange {
         former: state.value(fact.var),
         value: fact.value,
     };
     recount(indexed, fact.var, moved, work)?;
+    push_within(changed, fact.var)?;
     state.set(fact);
     Ok(())
 }

@@ -1,6 +1,9 @@
 // Settles states by counters: a rule is evaluated only when the number of its open conditions changes.
-ghost use Rattle.std.specs.Prelude.{IfOk};
+ghost use Rattle.std.specs.Prelude.{◌≡◌, false, IfOk};
+ghost use Rattle.sas_core.specs.Variables.{IsState};
+ghost use Rattle.sas_meaning.specs.Settled.{Settles};
 ghost use Rattle.sas_axioms.specs.Worklist.{IsReadyFor};
+ghost use Rattle.sas_axioms.specs.Following.{IsFollowed};
 
 use crate::by_layers::{ByLayers, settle_by_layers};
 use crate::firing::LayerSettler;
@@ -21,6 +24,8 @@ pub struct Worklist {
     next: usize,
     /// The evaluator of single layers.
     firing: LayerSettler,
+    /// Whether the last state was settled by an update. Then the evaluator of layers lists what changed.
+    updated: bool,
 }
 
 impl Drop for Worklist {
@@ -30,6 +35,7 @@ impl Drop for Worklist {
             rules,
             next: _,
             firing,
+            updated: _,
         } = self;
         drop(derived);
         drop(rules);
@@ -44,22 +50,43 @@ impl Worklist {
     {
         let rules = first_rules(alloc, layered)?;
         let derived = derived_spans(alloc, layered)?;
-        let variables = derived
-            .iter()
-            .fold(0usize, |sum, span| sum.saturating_add(span.size()));
-        // Settling a state from scratch goes through the derived variables and the rules, mostly in order. An update jumps between them, so
-        // it may process half as many.
-        let share = variables.saturating_add(layered.rules() as usize) / 2;
+        let share = share_of(layered, derived.as_slice());
         Ok(Worklist {
             derived,
             rules,
             next: 0,
             firing: LayerSettler::new(alloc, layered, share)?,
+            updated: false,
         })
+    }
+
+    /// Settles the state layer by layer, whatever state was settled last.
+    fn settle_anew<T: Grounded>(&mut self, layered: &Layered<T>, state: &mut State)
+        requires ready { IsReadyFor layered.now self.old }
+        requires state { IsState layered.now.variables state.old }
+        ensures ready { IsReadyFor layered.now self.new }
+        ensures follows { IsFollowed layered.now state.new self.new.firing.work }
+        ensures anew { self.new.updated ≡ false }
+        ensures settles { Settles layered.now state.old state.new }
+    {
+        settle_by_layers(self, layered, state);
+        self.updated = false;
     }
 }
 
+/// Returns how many list entries an update may process. Settling a state from scratch goes through the derived variables and the rules,
+/// mostly in order. An update jumps between them, so it may process half as many. From scratch, all variables are compared, too. An entry
+/// takes as long as sixteen of them.
+fn share_of<T: Grounded>(layered: &Layered<T>, derived: &[VariableSpan]) -> usize {
+    let settled = derived
+        .iter()
+        .fold(0usize, |sum, span| sum.saturating_add(span.size()));
+    let fired = settled.saturating_add(layered.rules() as usize) / 2;
+    fired.saturating_add(layered.variables() as usize / 16)
+}
+
 impl<T: Grounded> Settle<T> for Worklist {
+    ghost use Rattle.std.specs.Prelude.{◌≡◌, IsTrue};
     ghost use Rattle.sas_axioms.specs.Worklist.{IsReadyFor};
     ghost use Rattle.sas_axioms.specs.Following.{IsFollowed};
 
@@ -67,17 +94,24 @@ impl<T: Grounded> Settle<T> for Worklist {
 
     ghost follows = { λ w p s. IsFollowed p s w.firing.work };
 
+    ghost changed = { λ w listed. IsTrue w.updated × (listed ≡ w.firing.changed.items) };
+
     fn settle(&mut self, layered: &Layered<T>, state: &mut State) {
-        settle_by_layers(self, layered, state);
+        self.settle_anew(layered, state);
     }
 
     fn settle_on(&mut self, layered: &Layered<T>, gone: &[Fact], state: &mut State) {
-        if self.derived.is_empty() {
-            // No rule can fire, so the state is already settled.
-            return;
+        match self.firing.follow(layered, gone, state) {
+            Ok(()) => self.updated = true,
+            Err(_) => self.settle_anew(layered, state),
         }
-        if self.firing.follow(layered, gone, state).is_err() {
-            settle_by_layers(self, layered, state);
+    }
+
+    fn changed(&self) -> Option<&[u32]> {
+        if self.updated {
+            Some(self.firing.changed.as_slice())
+        } else {
+            None
         }
     }
 }

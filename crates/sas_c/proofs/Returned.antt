@@ -1,5 +1,5 @@
 -- What is returned follows from how a run ended.
-use Rattle.sas_c.proofs.Imports.{◌≡◌, ℕ, ◌<◌, List, [], ◌++◌, length, take, drop, codes, arith, refl, sym, ap, subst, ◌∙◌, inr, Option, Some, None, Result, Ok, Err, IfSome, Appends, Parts, LayerFault, IsLayered, ReadsAs, most_bytes, task_format, Status, Yes, No, ToolFault, Memory, Read, TooLong, Write, Output, EndsCounting, layers_verdict, VerdictAnswer, HoldsTask, IsWritten, Returns, ReturnsHeadline, EndsInLine, ReturnsLastLine, ReturnsInvariants, number_of_fault, number_of_status, PlanParts, WhyVerdict, TraceVerdict, Plan, Mutex, Check, Headline, Invariants, Out, FileOut, TaskOut, UnlayeredAnswer, plain_refusal, PlanOutBy, VerdictOut, same_output, ReportsValid, headline_of, Refuses, ReportsGroups, invariants_of, headline_why, invariants_why, judged_by, check_yes, check_no, task_refused, Plain, Reasons, PlanFileReasons, OutWhy, WithReasons, TraceOut, traced_headline}
+use Rattle.sas_c.proofs.Imports.{◌≡◌, ℕ, ◌<◌, false, List, [], ◌++◌, length, take, drop, arith, refl, sym, ap, subst, ◌∙◌, Option, Some, None, Result, Ok, Err, IfSome, Appends, Parts, IsLayered, ReadsAs, most_bytes, task_format, Status, Yes, No, ToolFault, Memory, Read, TooLong, Write, Output, EndsCounting, layers_verdict, HoldsTask, IsWritten, Returns, ReturnsHeadline, ReturnsInvariants, number_of_fault, number_of_status, Detail, VerdictBy, PlanBy, OutBy, SaysLine, Plan, Mutex, Check, Headline, Invariants, Out, TaskOut, UnlayeredAnswer, plain_refusal, same_output, judged_by, check_yes, check_no, task_refused, headline_of_text, invariants_of_text}
 
 same_number : (s t : Status) → number_of_status s ≡ number_of_status t → s ≡ t
 same_number Yes Yes e = refl
@@ -101,22 +101,10 @@ module _ (Out : Option Output → Type 0) (was items : List ℕ) (empty : was �
 
 -- ---- whether a plan solves a task
 
-pub headline_reported : (Verdict : Parts → PlanParts → Output → Type 0) (refused : Parts → LayerFault → Option Output) → ReportsValid Verdict → Refuses refused → (b c before room : List ℕ) (size number : ℕ) → Returns (PlanOutBy Verdict refused b c) before room size number → ReturnsHeadline b c room size number
-headline_reported Verdict refused reports refuses b c before room size number t = λ status is.
+pub headline_reported : (detail : Detail) (b c before room : List ℕ) (size number : ℕ) → Returns (OutBy detail Plan b c) before room size number → ReturnsHeadline detail.trace b c room size number
+headline_reported detail b c before room size number t = λ status is.
     let x = t.answer status is in
-    subst (λ (text : List ℕ). Headline b c (λ line. text ≡ line) status) (sym x.4) (headline_of Verdict refused reports refuses b c x.0 x.1 (Some []) (Some (x.0).text) [] status refl (sym x.2) refl)
-
--- the same with reasons
-pub headline_why_reported : (b c before room : List ℕ) (size number : ℕ) → Returns (OutWhy Plan b c) before room size number → ReturnsHeadline b c room size number
-headline_why_reported b c before room size number t = λ status is.
-    let x = t.answer status is in
-    subst (λ (text : List ℕ). Headline b c (λ line. text ≡ line) status) (sym x.4) (headline_why b c x.0 x.1 (Some []) (Some (x.0).text) [] status refl (sym x.2) refl)
-
--- the same behind a trace
-pub last_line_reported : (b c before room : List ℕ) (size number : ℕ) → Returns (TraceOut b c) before room size number → ReturnsLastLine b c room size number
-last_line_reported b c before room size number t = λ status is.
-    let x = t.answer status is in
-    subst (λ (text : List ℕ). Headline b c (EndsInLine text) status) (sym x.4) (subst (λ (s : Status). Headline b c (EndsInLine (x.0).text) s) x.2 (traced_headline b c x.0 x.1))
+    subst (λ (text : List ℕ). Headline b c (SaysLine detail.trace text) status) (sym x.4) (subst (λ (s : Status). Headline b c (SaysLine detail.trace (x.0).text) s) x.2 (headline_of_text detail b c x.0 x.1))
 
 -- ---- a plan of a task that is held
 
@@ -126,42 +114,27 @@ module _ (For : Parts → Option Output → Type 0) (Out : Option Output → Typ
   held_reported None holds t = absurd holds
   held_reported (Some loaded) (reads, layered) t = reports_by (For loaded) Out (to loaded layered reads) before room size number t
 
-module _ (b c before room : List ℕ) (size number : ℕ) (held : Option Parts) (holds : HoldsTask b held) where
-  pub plan_reported : IfSome held (λ loaded. Returns (VerdictOut VerdictAnswer loaded c) before room size number) → Returns (Out Plan b c) before room size number
-  plan_reported t = held_reported (λ p. VerdictOut VerdictAnswer p c) (Out Plan b c) b before room size number (λ p layered reads o out. inr (p, reads, layered, out)) held holds t
-
-  abbrev PlanWhy : Parts → Option Output → Type 0
-  PlanWhy p = WithReasons (VerdictOut WhyVerdict p c) (PlanFileReasons c)
-
-  pub why_reported : IfSome held (λ loaded. Returns (PlanWhy loaded) before room size number) → Returns (OutWhy Plan b c) before room size number
-  why_reported t = held_reported PlanWhy (OutWhy Plan b c) b before room size number (λ p layered reads o. judged_by Reasons b c o p layered reads) held holds t
-
-  pub trace_reported : IfSome held (λ loaded. Returns (VerdictOut TraceVerdict loaded c) before room size number) → Returns (TraceOut b c) before room size number
-  trace_reported t = held_reported (λ p. VerdictOut TraceVerdict p c) (TraceOut b c) b before room size number (λ p layered reads o out. inr (p, reads, layered, out)) held holds t
+pub plan_reported : (detail : Detail) (b c before room : List ℕ) (size number : ℕ) (held : Option Parts) → HoldsTask b held → IfSome held (λ loaded. Returns (PlanBy detail.reasons (VerdictBy detail loaded) c) before room size number) → Returns (OutBy detail Plan b c) before room size number
+plan_reported detail b c before room size number held holds t =
+    held_reported (λ p. PlanBy detail.reasons (VerdictBy detail p) c) (OutBy detail Plan b c) b before room size number (λ p layered reads o. judged_by detail b c o p layered reads) held holds t
 
 -- ---- which mutex groups are exclusive
 
-pub invariants_reported : (IsAnswer : Parts → Output → Type 0) → ReportsGroups IsAnswer → (b before room : List ℕ) (size number : ℕ) → Returns (FileOut task_format (codes "task") IsAnswer b) before room size number → ReturnsInvariants b room size number
-invariants_reported IsAnswer reports b before room size number t = λ status is.
+pub invariants_reported : (detail : Detail) (b c before room : List ℕ) (size number : ℕ) → Returns (OutBy detail Mutex b c) before room size number → ReturnsInvariants b room size number
+invariants_reported detail b c before room size number t = λ status is.
     let x = t.answer status is in
-    subst (λ (text : List ℕ). Invariants b (λ out. text ≡ out)) (sym x.4) (invariants_of IsAnswer reports b x.0 x.1 (Some []) (Some (x.0).text) [] refl refl)
-
--- the same with reasons
-pub invariants_why_reported : (b c before room : List ℕ) (size number : ℕ) → Returns (OutWhy Mutex b c) before room size number → ReturnsInvariants b room size number
-invariants_why_reported b c before room size number t = λ status is.
-    let x = t.answer status is in
-    subst (λ (text : List ℕ). Invariants b (λ out. text ≡ out)) (sym x.4) (invariants_why b c x.0 x.1 (Some []) (Some (x.0).text) [] refl refl)
+    subst (λ (text : List ℕ). Invariants b (λ out. text ≡ out)) (sym x.4) (invariants_of_text detail b c x.0 x.1)
 
 -- ---- a task that was read
 
 -- a layered task is reported as one
 pub layered_out : (p : Parts) (b : List ℕ) → ReadsAs task_format most_bytes b (Ok p) → IsLayered p → (o : Option Output) → o ≡ layers_verdict None → Out Check b [] o
-layered_out p b reads layered o is = (Ok p, reads, (_, check_yes Plain p layered, is))
+layered_out p b reads layered o is = (Ok p, reads, (_, check_yes false p layered, is))
 
 -- one that is refused is reported as by `check`, and never as layered
 refused_out : (b : List ℕ) (o : Option Output) → TaskOut (UnlayeredAnswer plain_refusal) b o → Out Check b [] o
 refused_out b o (Err fault, reads, is) = (Err fault, reads, is)
-refused_out b o (Ok p, reads, (answer, refused, is)) = (Ok p, reads, (answer, check_no Plain p answer refused, is))
+refused_out b o (Ok p, reads, (answer, refused, is)) = (Ok p, reads, (answer, check_no false p answer refused, is))
 
 module _ (b was items : List ℕ) (empty : was ≡ []) (r : Result Status ToolFault) (before room : List ℕ) (size number : ℕ) (ends : EndsCounting (TaskOut (UnlayeredAnswer plain_refusal) b) (Appends (Some was) (Some items)) r) (written : Returns (IsWritten items r) before room size number) where
   refused : Returns (TaskOut (UnlayeredAnswer plain_refusal) b) before room size number

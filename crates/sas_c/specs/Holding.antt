@@ -38,7 +38,7 @@ NumbersOut p operators cost output =
 
 -- the output of a call about a plan of the task that is held
 abbrev pub HeldOut : PlanCall → Parts → Option Output → Type 0
-HeldOut (Bytes detail plan) p = PlanBy detail (VerdictBy detail p) plan.now
+HeldOut (Bytes detail plan) p = PlanBy detail.reasons (VerdictBy detail p) plan.now
 HeldOut (Numbers plan) p = NumbersOut p plan.operators.now plan.cost
 
 -- What a call about the task that is held returns. `Out` holds of the right output for this task.

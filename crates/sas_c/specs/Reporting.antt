@@ -1,5 +1,5 @@
 -- What a call of the library returns: a number, and an answer in the caller's memory.
-use Rattle.std.specs.Prelude.{◌≡◌, ◌↔◌, ℕ, ◌<◌, ◌≤◌, List, length, take, drop, Option, Some, None}
+use Rattle.std.specs.Prelude.{◌≡◌, ◌↔◌, ℕ, ◌<◌, ◌≤◌, Bool, List, length, take, drop, Option, Some, None}
 use Rattle.sas_core.specs.declared.parts.Parts.{Parts}
 use Rattle.sas_run.specs.ByNumbers.{IsValidByNumbers}
 use Rattle.sas_answers.specs.declared.ending.Status.{Status}
@@ -10,7 +10,7 @@ use Rattle.sas_answers.specs.Ending.{Output}
 use Rattle.sas_answers.specs.ValidLine.{valid_line}
 use Rattle.sas_requests.specs.Headline.{Headline}
 use Rattle.sas_requests.specs.Invariants.{Invariants}
-use Rattle.sas_requests.specs.TraceOut.{EndsInLine}
+use Rattle.sas_requests.specs.OutBy.{SaysLine}
 
 -- the number of an answer that is written
 abbrev pub number_of_status : Status → ℕ
@@ -46,10 +46,11 @@ pub record Returns (Out : Option Output → Type 0) (before room : List ℕ) (si
   pub as_long : length room ≡ length before
 
 -- If an answer about the bytes b of the task and c of the plan is written, `plan valid` is in
--- the room exactly if the plan solves the task at that cost, and exactly then the answer is yes.
-abbrev pub ReturnsHeadline : List ℕ → List ℕ → List ℕ → ℕ → ℕ → Type 0
-ReturnsHeadline b c room size number = (status : Status) → number ≡ number_of_status status
-    → Headline b c (λ line. take size room ≡ line) status
+-- the room, after a trace as the last line, exactly if the plan solves the task at that cost, and
+-- exactly then the answer is yes.
+abbrev pub ReturnsHeadline : (trace : Bool) → (b c room : List ℕ) → (size number : ℕ) → Type 0
+ReturnsHeadline trace b c room size number = (status : Status) → number ≡ number_of_status status
+    → Headline b c (SaysLine trace (take size room)) status
 
 -- the operators with these numbers are a plan that is valid for the task p at this cost, and the
 -- line says so
@@ -70,11 +71,6 @@ abbrev pub ReturnsByNumbers : Parts → List ℕ → ℕ → List ℕ → ℕ �
 ReturnsByNumbers p operators cost room size number = (status : Status)
     → number ≡ number_of_status status
     → HeadlineByNumbers p operators cost (take size room) status
-
--- If an answer is written after a trace, the same holds of the last line in the room.
-abbrev pub ReturnsLastLine : List ℕ → List ℕ → List ℕ → ℕ → ℕ → Type 0
-ReturnsLastLine b c room size number = (status : Status) → number ≡ number_of_status status
-    → Headline b c (EndsInLine (take size room)) status
 
 -- If an answer is written about the mutex groups of the task b, `group K exclusive` is a line of it
 -- only if group K is an invariant of the task.

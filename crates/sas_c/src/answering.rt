@@ -1,5 +1,5 @@
 // How a question about bytes in memory is answered.
-ghost use Rattle.sas_requests.specs.Answering.{QuestionOut};
+ghost use Rattle.sas_requests.specs.OutBy.{OutBy};
 ghost use Rattle.sas_c.specs.Reporting.{Returns};
 
 use crate::reporting::report_ended;
@@ -22,7 +22,8 @@ pub fn answer_call(
     room: &mut [u8],
     size: &mut usize,
 ) -> u32
-    ensures { Returns (QuestionOut question inputs.entry.task.now inputs.entry.plan.now)
+    ensures { Returns (OutBy question.detail question.request
+        inputs.entry.task.now inputs.entry.plan.now)
         room.old room.new size.new result }
 {
     let mut task = Watched::new(inputs.task);

@@ -1,14 +1,13 @@
 // Plans of a task that is held. It stays held.
-ghost use Rattle.std.specs.Prelude.{◌≡◌, List, ℕ, IfSome};
+ghost use Rattle.std.specs.Prelude.{◌≡◌, false, true, List, ℕ, IfSome};
 ghost use Rattle.sas_answers.specs.Answers.{VerdictAnswer};
 ghost use Rattle.sas_meaning.specs.Layers.{IsLayered};
 ghost use Rattle.sas_plan_reasons.specs.Verdict.{WhyVerdict};
 ghost use Rattle.sas_requests.specs.Output.{Out, VerdictOut};
 ghost use Rattle.sas_plan_reasons.specs.Traced.{TraceVerdict};
 ghost use Rattle.sas_requests.specs.FileReasons.{PlanFileReasons};
-ghost use Rattle.sas_requests.specs.Why.{OutWhy, WithReasons};
-ghost use Rattle.sas_requests.specs.TraceOut.{TraceOut};
-ghost use Rattle.sas_c.specs.Reporting.{Returns, ReturnsByNumbers, ReturnsHeadline, ReturnsLastLine};
+ghost use Rattle.sas_requests.specs.OutBy.{OutBy, WithReasons, explained, traced};
+ghost use Rattle.sas_c.specs.Reporting.{Returns, ReturnsByNumbers, ReturnsHeadline};
 ghost use Rattle.sas_c.specs.Holding.{HeldOut, HoldsTask, NumbersOut, ReturnsHeld};
 
 use crate::numbers::{NO_TASK, OUT_OF_MEMORY};
@@ -33,9 +32,9 @@ pub extern "C" fn sas_task_plan(
     ensures bytes { (b : List ℕ) → HoldsTask b task.old.pointer.task
         → Returns (Out Request.Plan b plan.now) room.old room.new size.new result }
     ensures headline { (b : List ℕ) → HoldsTask b task.old.pointer.task
-        → ReturnsHeadline b plan.now room.new size.new result }
+        → ReturnsHeadline false b plan.now room.new size.new result }
 {
-    let call = PlanCall::Bytes(Detail::Plain, plan);
+    let call = PlanCall::Bytes(Detail::PLAIN, plan);
     answer_held(alloc, task, call, room, size)
 }
 
@@ -52,11 +51,11 @@ pub extern "C" fn sas_task_plan_why(
         WithReasons (VerdictOut WhyVerdict loaded plan.now) (PlanFileReasons plan.now))
         task.old.pointer.task task.new.pointer.task room.old room.new size.new result }
     ensures bytes { (b : List ℕ) → HoldsTask b task.old.pointer.task
-        → Returns (OutWhy Request.Plan b plan.now) room.old room.new size.new result }
+        → Returns (OutBy explained Request.Plan b plan.now) room.old room.new size.new result }
     ensures headline { (b : List ℕ) → HoldsTask b task.old.pointer.task
-        → ReturnsHeadline b plan.now room.new size.new result }
+        → ReturnsHeadline false b plan.now room.new size.new result }
 {
-    let call = PlanCall::Bytes(Detail::Reasons, plan);
+    let call = PlanCall::Bytes(Detail::REASONS, plan);
     answer_held(alloc, task, call, room, size)
 }
 
@@ -69,14 +68,14 @@ pub extern "C" fn sas_task_trace(
     room: &mut [u8],
     size: &mut usize,
 ) -> u32
-    ensures answers { ReturnsHeld (λ loaded. VerdictOut TraceVerdict loaded plan.now)
+    ensures answers { ReturnsHeld (λ loaded. VerdictOut (TraceVerdict false) loaded plan.now)
         task.old.pointer.task task.new.pointer.task room.old room.new size.new result }
     ensures bytes { (b : List ℕ) → HoldsTask b task.old.pointer.task
-        → Returns (TraceOut b plan.now) room.old room.new size.new result }
+        → Returns (OutBy traced Request.Plan b plan.now) room.old room.new size.new result }
     ensures headline { (b : List ℕ) → HoldsTask b task.old.pointer.task
-        → ReturnsLastLine b plan.now room.new size.new result }
+        → ReturnsHeadline true b plan.now room.new size.new result }
 {
-    let call = PlanCall::Bytes(Detail::Trace, plan);
+    let call = PlanCall::Bytes(Detail::TRACE, plan);
     answer_held(alloc, task, call, room, size)
 }
 

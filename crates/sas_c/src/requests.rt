@@ -1,13 +1,12 @@
 // The calls of the library about a task, a plan, or both. Each takes an input as a pointer that isn't null and a length, and writes the
 // answer to the front of `room`, and its length in bytes to `size`. Behind the answer the room stays as it was.
-ghost use Rattle.std.specs.Prelude.{[]};
+ghost use Rattle.std.specs.Prelude.{false, true, []};
 ghost use Rattle.sas_requests.specs.Output.{Out};
-ghost use Rattle.sas_requests.specs.Why.{OutWhy};
-ghost use Rattle.sas_requests.specs.TraceOut.{TraceOut};
-ghost use Rattle.sas_c.specs.Reporting.{Returns, ReturnsHeadline, ReturnsInvariants, ReturnsLastLine};
+ghost use Rattle.sas_requests.specs.OutBy.{OutBy, explained, traced};
+ghost use Rattle.sas_c.specs.Reporting.{Returns, ReturnsHeadline, ReturnsInvariants};
 
 use crate::answering::{Inputs, answer_call};
-use sas_requests::{Question, Request};
+use sas_requests::{Detail, Question, Request};
 use std::alloc::Global;
 
 /// Answers whether the plan solves the task.
@@ -20,10 +19,17 @@ pub extern "C" fn sas_plan(
     size: &mut usize,
 ) -> u32
     ensures answers { Returns (Out Request.Plan task.now plan.now) room.old room.new size.new result }
-    ensures headline { ReturnsHeadline task.now plan.now room.new size.new result }
+    ensures headline { ReturnsHeadline false task.now plan.now room.new size.new result }
 {
-    let question = Question::Answer(Request::Plan);
-    answer_call(alloc, question, Inputs { task, plan }, room, size)
+    let request = Request::Plan;
+    let detail = Detail::PLAIN;
+    answer_call(
+        alloc,
+        Question { request, detail },
+        Inputs { task, plan },
+        room,
+        size,
+    )
 }
 
 /// Answers whether the task is layered.
@@ -31,8 +37,15 @@ pub extern "C" fn sas_plan(
 pub extern "C" fn sas_check(alloc: Global, task: &[u8], room: &mut [u8], size: &mut usize) -> u32
     ensures answers { Returns (Out Request.Check task.now []) room.old room.new size.new result }
 {
-    let question = Question::Answer(Request::Check);
-    answer_call(alloc, question, Inputs { task, plan: b"" }, room, size)
+    let request = Request::Check;
+    let detail = Detail::PLAIN;
+    answer_call(
+        alloc,
+        Question { request, detail },
+        Inputs { task, plan: b"" },
+        room,
+        size,
+    )
 }
 
 /// Answers which mutex groups of the task are exclusive.
@@ -41,8 +54,15 @@ pub extern "C" fn sas_mutex(alloc: Global, task: &[u8], room: &mut [u8], size: &
     ensures answers { Returns (Out Request.Mutex task.now []) room.old room.new size.new result }
     ensures invariants { ReturnsInvariants task.now room.new size.new result }
 {
-    let question = Question::Answer(Request::Mutex);
-    answer_call(alloc, question, Inputs { task, plan: b"" }, room, size)
+    let request = Request::Mutex;
+    let detail = Detail::PLAIN;
+    answer_call(
+        alloc,
+        Question { request, detail },
+        Inputs { task, plan: b"" },
+        room,
+        size,
+    )
 }
 
 /// Answers with the summary of the task.
@@ -50,8 +70,15 @@ pub extern "C" fn sas_mutex(alloc: Global, task: &[u8], room: &mut [u8], size: &
 pub extern "C" fn sas_show(alloc: Global, task: &[u8], room: &mut [u8], size: &mut usize) -> u32
     ensures answers { Returns (Out Request.Show task.now []) room.old room.new size.new result }
 {
-    let question = Question::Answer(Request::Show);
-    answer_call(alloc, question, Inputs { task, plan: b"" }, room, size)
+    let request = Request::Show;
+    let detail = Detail::PLAIN;
+    answer_call(
+        alloc,
+        Question { request, detail },
+        Inputs { task, plan: b"" },
+        room,
+        size,
+    )
 }
 
 /// Answers with the task, printed again.
@@ -59,8 +86,15 @@ pub extern "C" fn sas_show(alloc: Global, task: &[u8], room: &mut [u8], size: &m
 pub extern "C" fn sas_print(alloc: Global, task: &[u8], room: &mut [u8], size: &mut usize) -> u32
     ensures answers { Returns (Out Request.Print task.now []) room.old room.new size.new result }
 {
-    let question = Question::Answer(Request::Print);
-    answer_call(alloc, question, Inputs { task, plan: b"" }, room, size)
+    let request = Request::Print;
+    let detail = Detail::PLAIN;
+    answer_call(
+        alloc,
+        Question { request, detail },
+        Inputs { task, plan: b"" },
+        room,
+        size,
+    )
 }
 
 /// Answers with the steps of the plan and its cost, printed again.
@@ -68,8 +102,15 @@ pub extern "C" fn sas_print(alloc: Global, task: &[u8], room: &mut [u8], size: &
 pub extern "C" fn sas_steps(alloc: Global, plan: &[u8], room: &mut [u8], size: &mut usize) -> u32
     ensures answers { Returns (Out Request.Steps [] plan.now) room.old room.new size.new result }
 {
-    let question = Question::Answer(Request::Steps);
-    answer_call(alloc, question, Inputs { task: b"", plan }, room, size)
+    let request = Request::Steps;
+    let detail = Detail::PLAIN;
+    answer_call(
+        alloc,
+        Question { request, detail },
+        Inputs { task: b"", plan },
+        room,
+        size,
+    )
 }
 
 /// Answers whether the plan solves the task, with the reasons for a no.
@@ -81,12 +122,19 @@ pub extern "C" fn sas_plan_why(
     room: &mut [u8],
     size: &mut usize,
 ) -> u32
-    ensures answers { Returns (OutWhy Request.Plan task.now plan.now)
+    ensures answers { Returns (OutBy explained Request.Plan task.now plan.now)
         room.old room.new size.new result }
-    ensures headline { ReturnsHeadline task.now plan.now room.new size.new result }
+    ensures headline { ReturnsHeadline false task.now plan.now room.new size.new result }
 {
-    let question = Question::Explanation(Request::Plan);
-    answer_call(alloc, question, Inputs { task, plan }, room, size)
+    let request = Request::Plan;
+    let detail = Detail::REASONS;
+    answer_call(
+        alloc,
+        Question { request, detail },
+        Inputs { task, plan },
+        room,
+        size,
+    )
 }
 
 /// Answers whether the task is layered, with the reasons for a no.
@@ -97,10 +145,17 @@ pub extern "C" fn sas_check_why(
     room: &mut [u8],
     size: &mut usize,
 ) -> u32
-    ensures answers { Returns (OutWhy Request.Check task.now []) room.old room.new size.new result }
+    ensures answers { Returns (OutBy explained Request.Check task.now []) room.old room.new size.new result }
 {
-    let question = Question::Explanation(Request::Check);
-    answer_call(alloc, question, Inputs { task, plan: b"" }, room, size)
+    let request = Request::Check;
+    let detail = Detail::REASONS;
+    answer_call(
+        alloc,
+        Question { request, detail },
+        Inputs { task, plan: b"" },
+        room,
+        size,
+    )
 }
 
 /// Answers which mutex groups of the task are exclusive, with the reasons for a no.
@@ -111,11 +166,18 @@ pub extern "C" fn sas_mutex_why(
     room: &mut [u8],
     size: &mut usize,
 ) -> u32
-    ensures answers { Returns (OutWhy Request.Mutex task.now []) room.old room.new size.new result }
+    ensures answers { Returns (OutBy explained Request.Mutex task.now []) room.old room.new size.new result }
     ensures invariants { ReturnsInvariants task.now room.new size.new result }
 {
-    let question = Question::Explanation(Request::Mutex);
-    answer_call(alloc, question, Inputs { task, plan: b"" }, room, size)
+    let request = Request::Mutex;
+    let detail = Detail::REASONS;
+    answer_call(
+        alloc,
+        Question { request, detail },
+        Inputs { task, plan: b"" },
+        room,
+        size,
+    )
 }
 
 /// Answers whether the plan solves the task, after a trace of its steps.
@@ -127,9 +189,16 @@ pub extern "C" fn sas_trace(
     room: &mut [u8],
     size: &mut usize,
 ) -> u32
-    ensures answers { Returns (TraceOut task.now plan.now) room.old room.new size.new result }
-    ensures headline { ReturnsLastLine task.now plan.now room.new size.new result }
+    ensures answers { Returns (OutBy traced Request.Plan task.now plan.now) room.old room.new size.new result }
+    ensures headline { ReturnsHeadline true task.now plan.now room.new size.new result }
 {
-    let question = Question::Trace;
-    answer_call(alloc, question, Inputs { task, plan }, room, size)
+    let request = Request::Plan;
+    let detail = Detail::TRACE;
+    answer_call(
+        alloc,
+        Question { request, detail },
+        Inputs { task, plan },
+        room,
+        size,
+    )
 }

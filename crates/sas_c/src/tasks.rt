@@ -32,7 +32,7 @@ pub extern "C" fn sas_task_read(
     sas_task_free(alloc, task);
     let mut device = Watched::new(bytes);
     let mut text = Watched::new(Vec::new(alloc));
-    match read_layered(alloc, Detail::Plain, &mut device, &mut text) {
+    match read_layered(alloc, Detail::PLAIN, &mut device, &mut text) {
         ReadTask::Layered(layered) => hold(alloc, task, layered, room, size),
         ReadTask::Ended(ended) => report_ended(ended, text, room, size),
     }

@@ -34,13 +34,6 @@ impl FlatPlan {
     {
         FlatPlan { steps, cost, kind }
     }
-
-    /// Returns which text follows the cost on the last line.
-    pub fn kind(&self) -> CostKind
-        ensures { result ≡ self.now.kind }
-    {
-        self.kind
-    }
 }
 
 /// Each method takes constant time.

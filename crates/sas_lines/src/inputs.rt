@@ -1,16 +1,13 @@
 // The inputs of a program.
 use std::io::{Read, Result};
 
-/// An input that was opened: a file, standard input, or an empty input. A read is one read of the file or of standard input. The empty
-/// input returns 0 bytes.
+/// An input that was opened: a file or standard input. A read is one read of it.
 #[derive(Drop)]
 pub enum OpenInput<F, I> {
     /// A file.
     File(F),
     /// Standard input.
     Standard(I),
-    /// An empty input.
-    Nothing,
 }
 
 impl<F: Read, I: Read> Read for OpenInput<F, I> {
@@ -22,7 +19,6 @@ impl<F: Read, I: Read> Read for OpenInput<F, I> {
         match self {
             OpenInput::File(file) => file.read(buf),
             OpenInput::Standard(input) => input.read(buf),
-            OpenInput::Nothing => Ok(0),
         }
     }
 }

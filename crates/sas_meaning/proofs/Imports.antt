@@ -30,7 +30,7 @@ pub use Rattle.sas_core.specs.declared.parts.Fact.{Fact}
 pub use Rattle.sas_core.specs.declared.parts.Operator.{Operator}
 pub use Rattle.sas_core.specs.declared.parts.Parts.{Parts}
 pub use Rattle.sas_core.specs.declared.parts.Variable.{Variable}
-pub use Rattle.sas_meaning.specs.DerivedVariables.{AreDerived, AreDerivedSpans, AreSpansOf, CopiesSpans, IsSpanned}
+pub use Rattle.sas_meaning.specs.DerivedVariables.{AreDerivedSpans, AreSpansOf, CopiesSpans, IsSpanned}
 pub use Rattle.sas_meaning.specs.declared.state.VariableSpan.{VariableSpan}
 pub use Rattle.sas_meaning.specs.Forced.{OnlyForced, HasFired, Changes, SameOff, AtDefault, equal_places, Occurs}
 pub use Rattle.sas_meaning.specs.FastDownward.{FiresLast, FastDownwardStep, FastDownwardReachable, Start, Onward}

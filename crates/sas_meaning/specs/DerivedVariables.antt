@@ -4,11 +4,6 @@ use Rattle.sas_core.specs.declared.parts.Parts.{Parts}
 use Rattle.sas_core.specs.Variables.{IsDerived}
 use Rattle.sas_meaning.specs.declared.state.VariableSpan.{VariableSpan}
 
--- the derived variables, each at least once
-pub record AreDerived (p : Parts) (variables : List ℕ) : Type 0 where
-  pub only : All (IsDerived p.variables) variables
-  pub each : (var : ℕ) → IsDerived p.variables var → Contains variables var
-
 -- the variable is in one of these spans
 abbrev pub IsSpanned : List VariableSpan → ℕ → Type 0
 IsSpanned spans var = (s : VariableSpan) × Contains spans s × (s.start ≤ var) × (var < s.end)

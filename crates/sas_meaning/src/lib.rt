@@ -10,7 +10,7 @@ mod settle;
 mod state;
 mod steps;
 
-pub use derived::{derived_spans, derived_variables};
+pub use derived::derived_spans;
 pub use laws::meaning_laws;
 pub use layered::{LayerFault, Layered};
 pub use preconditions::Preconditions;

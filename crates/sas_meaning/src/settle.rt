@@ -5,11 +5,11 @@ use sas_core::{Fact, Grounded};
 
 /// An axiom evaluator. It settles states of a task: it sets the derived variables to the values that follow from the rules.
 pub trait Settle<T: Grounded> {
-    ghost use Rattle.std.specs.Prelude.{ℕ, List, ⊤};
+    ghost use Rattle.std.specs.Prelude.{ℕ, List, ⊤, IfSome};
     ghost use Rattle.sas_core.specs.declared.parts.Parts.{Parts};
     ghost use Rattle.sas_core.specs.Variables.{IsState};
     ghost use Rattle.sas_meaning.specs.Settled.{Settles};
-    ghost use Rattle.sas_meaning.specs.Following.{HaveGone};
+    ghost use Rattle.sas_meaning.specs.Following.{HaveGone, ListsDerived};
 
     /// The evaluator can settle states of this task.
     ghost ready: { Self → Parts → Type 0 };
@@ -18,12 +18,17 @@ pub trait Settle<T: Grounded> {
     /// default.
     ghost follows: { Self → Parts → List ℕ → Type 0 } = { λ _ _ _. ⊤ };
 
+    /// This list has the derived variables that the last call changed. Evaluators without `changed` keep the default.
+    ghost changed: { Self → List ℕ → Type 0 } = { λ _ _. ⊥ };
+
     /// Settles the state, which must be a state of the task.
     fn settle(&mut self, layered: &Layered<T>, state: &mut State)
         requires ready { ready self.old layered.now }
         requires state { IsState layered.now.variables state.old }
         ensures ready { ready self.new layered.now }
         ensures follows { follows self.new layered.now state.new }
+        ensures changed { (listed : List ℕ) → changed self.new listed
+            → ListsDerived layered.now state.old state.new listed }
         ensures settles { Settles layered.now state.old state.new };
 
     /// Settles the state like `settle`. The state must be the one that this evaluator settled last, except that the facts `gone` may
@@ -35,8 +40,18 @@ pub trait Settle<T: Grounded> {
             × follows self.old layered.now s × HaveGone layered.now gone.now s state.old }
         ensures ready { ready self.new layered.now }
         ensures follows { follows self.new layered.now state.new }
+        ensures changed { (listed : List ℕ) → changed self.new listed
+            → ListsDerived layered.now state.old state.new listed }
         ensures settles { Settles layered.now state.old state.new }
     {
         self.settle(layered, state);
+    }
+
+    /// Returns a list of derived variables that has all that the last call changed. Returns `None` if the evaluator doesn't have it, as
+    /// when it settled the state from scratch.
+    fn changed(&self) -> Option<&[u32]>
+        ensures { IfSome result (λ listed. changed self.now listed.now) }
+    {
+        None
     }
 }

@@ -27,7 +27,7 @@ impl Drop for StepOperators {
 }
 
 impl StepOperators {
-    /// Finds the operators whose names occur in the plan. For a long plan (`is_long`), a table of all operators' names is faster than
+    /// Finds the operators whose names occur in the plan. For a long plan (`deserves_table`), a table of all operators' names is faster than
     /// one of the steps' names.
     pub fn new<T: Grounded, P: Stepwise>(
         alloc: Global,
@@ -37,7 +37,7 @@ impl StepOperators {
         ensures { IfOk result (λ o. AreStepOperators (T.says task.now) (P.says plan.now).steps
             o.firsts.items o.nexts.items) }
     {
-        if is_long(task, plan) {
+        if deserves_table(task, plan) {
             StepOperators::by_operator_names(alloc, task, plan)
         } else {
             StepOperators::by_step_names(alloc, task, plan)
@@ -115,7 +115,7 @@ pub fn nameless<T: Grounded>(task: &T, firsts: &[u32]) -> usize
 
 /// Returns whether the plan has at least half as many steps as the task has operators. Then building a table of all operators' names takes
 /// no longer than making the steps.
-fn is_long<T: Grounded, P: Stepwise>(task: &T, plan: &P) -> bool {
+fn deserves_table<T: Grounded, P: Stepwise>(task: &T, plan: &P) -> bool {
     plan.steps() >= task.operators() as usize / 2
 }
 

@@ -1,7 +1,6 @@
 pub mod PlanLines
 pub mod PlanGrammar
 pub mod PlanFilling
-pub mod Fronts
 pub mod PlanJudging
 pub mod PlanSteps
 pub mod PlanStanding
@@ -9,4 +8,5 @@ pub mod PlanKeeping
 pub mod PlanLaws
 pub mod PlanAhead
 pub mod PlanEnds
+pub mod PlanCosts
 mod Imports

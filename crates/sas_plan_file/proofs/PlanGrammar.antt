@@ -51,7 +51,7 @@ plain-words costs.General = refl
 pub plain-step : (name : List ℕ) → IsName name → IsPlain (plan_line_bytes (step name))
 plain-step name h = plain-append (codes "(") (name ++ codes ")") refl (plain-append name (codes ")") (plain-name name h) refl)
 
-plain-cost_line : (n : ℕ) (k : CostKind) → IsPlanCost n → IsPlain (plan_line_bytes (cost n k))
+pub plain-cost_line : (n : ℕ) (k : CostKind) → IsPlanCost n → IsPlain (plan_line_bytes (cost n k))
 plain-cost_line n k h = plain-append cost_front (decimal n ++ cost_words k) refl (plain-append (decimal n) (cost_words k) (plain-decimal n) (plain-words k))
 
 plain-lines : (steps : List (List ℕ)) (n : ℕ) (k : CostKind) → AllByRecursion IsName steps → IsPlanCost n → AllByRecursion IsPlain (map plan_line_bytes (map step steps ++ cost n k ∷ []))

@@ -4,4 +4,5 @@ pub mod PlanMachine
 pub mod PlanLine
 pub mod PlanReader
 pub mod PlanText
+pub mod PlanEnds
 pub mod PlanRefusal

@@ -1,5 +1,5 @@
 -- How the code parses a line of a plan file.
-use Rattle.std.specs.Prelude.{◌≡◌, ℕ, List, [], ◌∷◌, ◌++◌, codes, Result, Ok, Err}
+use Rattle.std.specs.Prelude.{◌≡◌, ℕ, List, [], ◌∷◌, ◌++◌, Result, Ok, Err}
 use Rattle.std.specs.Fmt.{decimal}
 use Rattle.sas_core.specs.declared.plan.CostKind.{CostKind}
 use Rattle.sas_core.specs.Names.{IsName}
@@ -11,10 +11,6 @@ use Rattle.sas_plan_file.specs.declared.plan_line.PlanLine.TheVariants as varian
 use Rattle.sas_plan_file.specs.PlanFormat.{PlanLine, step, cost, plan_line_bytes, plan_format, cost_words, PlanLineFits}
 use Rattle.sas_plan_file.specs.PlanMachine.{plan_line_ok}
 use Rattle.sas_reader.specs.System.{IsAllowed, IsRejected}
-
--- after the opening parenthesis, a step is its name and the closing parenthesis
-abbrev pub Names : List ℕ → List ℕ → Type 0
-Names rest name = IsName name × (rest ≡ name ++ codes ")")
 
 -- after its first words, the cost is its digits and its last words
 abbrev pub Costs : List ℕ → ℕ → CostKind → Type 0

@@ -1,49 +1,18 @@
 // Parses one line of a plan file.
-ghost use Rattle.std.specs.Prelude.{◌≡◌, ◌<◌, ◌++◌, ℕ, List, codes, length, MatchOption, IfSome, IfNone};
+ghost use Rattle.std.specs.Prelude.{◌≡◌, ◌<◌, ◌++◌, ℕ, codes, length, IfSome, IfNone};
 ghost use Rattle.std.specs.Fmt.{decimal};
 ghost use Rattle.sas_core.specs.Numbers.{IsPlanCost};
-ghost use Rattle.sas_plan_file.specs.PlanFormat.{BeginsWith};
-ghost use Rattle.sas_plan_file.specs.PlanLine.{Names, Costs, JudgesPlanLine, StepStandsFirst};
+ghost use Rattle.sas_plan_file.specs.PlanLine.{Costs, JudgesPlanLine, StepStandsFirst};
 
-use sas_core::{CostKind, is_name};
+use sas_core::CostKind;
 use sas_lines::cost;
-use sas_reader::{Kind, LineEnd, plain_end};
+use sas_reader::{Kind, LineEnd, before, behind, closed_name, plain_end};
 
 /// The content of a line of a plan file: the name of a step, or the cost.
 #[derive(Clone, Copy)]
 pub enum PlanLine<'a> {
     Step(&'a [u8]),
     Cost(u64, CostKind),
-}
-
-/// Returns the rest of the line after `front`, or `None` if the line doesn't begin with `front`.
-#[tactic(auto, using(crate::proofs::Fronts::fronts))]
-fn behind<'a>(line: &'a [u8], front: &[u8]) -> Option<&'a [u8]>
-    ensures { MatchOption result (BeginsWith front.now line.now → ⊥)
-        (λ rest. line.now ≡ front.now ++ rest.now) }
-{
-    line.strip_prefix(front)
-}
-
-/// Returns the line without `back` at its end, or `None` if the line doesn't end with `back`.
-#[tactic(auto, using(crate::proofs::Fronts::fronts))]
-pub(crate) fn before<'a>(line: &'a [u8], back: &[u8]) -> Option<&'a [u8]>
-    ensures { MatchOption result
-        ((rest : List ℕ) → line.now ≡ rest ++ back.now → ⊥)
-        (λ rest. line.now ≡ rest.now ++ back.now) }
-{
-    line.strip_suffix(back)
-}
-
-/// Returns the name before the closing parenthesis, or `None` if there is no such name.
-fn step_name(rest: &[u8]) -> Option<&[u8]>
-    ensures found { IfSome result (λ name. Names rest.now name.now) }
-    ensures none { IfNone result ((name : List ℕ) → Names rest.now name → ⊥) }
-{
-    match before(rest, b")") {
-        Some(name) if is_name(name) => Some(name),
-        _ => None,
-    }
 }
 
 /// Returns the cost before the words, or `None` if there is no such cost.
@@ -76,7 +45,7 @@ pub fn plan_line(line: &[u8]) -> Result<PlanLine<'_>, Kind>
     ensures { JudgesPlanLine line.now result }
 {
     if let Some(rest) = behind(line, b"(") {
-        return match step_name(rest) {
+        return match closed_name(rest) {
             Some(name) => Ok(PlanLine::Step(name)),
             None => Err(Kind::Name),
         };

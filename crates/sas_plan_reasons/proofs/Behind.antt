@@ -1,6 +1,6 @@
 -- What is known of a run that was retraced up to a fault.
 use Rattle.std.proofs.lemmas.Grind.{common_steps}
-use Rattle.sas_plan_reasons.proofs.Imports.{◌≡◌, ℕ, zero, suc, ◌-◌, ◌<◌, List, [], ◌∷◌, ◌++◌, length, take, get_or, Option, None, Some, refl, sym, ◌∙◌, ap, subst, inl, inr, arith, append-nil, take-append_seam, Parts, PlanParts, operator_at, IsState, IsLayered, IsSettled, Agree, NoOperator, Conflict, IsNamed, LeadFrom, LeadsTo, ComesTo, IsFaultOf, leads_one_way, Line, Run, last_state, StepsSucceed, leads_to_last, OtherOperator, PlanHistory, IsOtherIfAny, Retraces, ComesUnambiguously, IsBehind, ReportsOnce, last_rests, AreCouldBeLines, AreFaultLines, IsWhy, IsEnding, HaveNoNamesakes, PlanFault, step_at, nameless_lines, with_lines}
+use Rattle.sas_plan_reasons.proofs.Imports.{◌≡◌, ℕ, zero, suc, ◌-◌, ◌<◌, List, [], ◌∷◌, ◌++◌, length, take, get_or, Option, None, Some, refl, sym, ◌∙◌, ap, subst, inl, inr, arith, append-nil, take-append_seam, Parts, PlanParts, operator_at, IsState, IsLayered, IsSettled, Agree, NoOperator, Conflict, IsNamed, LeadFrom, LeadsTo, ComesTo, IsFaultOf, leads_one_way, Line, Run, last_state, StepsSucceed, leads_to_last, OtherOperator, PlanHistory, IsOtherIfAny, Retraces, ComesUnambiguously, IsBehind, ReportsOnce, last_rests, AreCouldBeLines, AreFaultLines, IsWhy, IsEnding, HaveNoNamesakes, PlanFault, nameless_lines, with_lines}
 use Rattle.sas_answers.specs.declared.line.Line.TheVariants as line
 
 module _ (p : Parts) (plan : PlanParts) (history : PlanHistory) (run : Run) (r : Retraces p plan history run) where
@@ -63,7 +63,7 @@ comes_unambiguously p plan operators fault ending none = grind (arith, none_othe
 
 -- the reasons where no operator has the step's name
 pub unknown_why : (p : Parts) (plan : PlanParts) (step : ℕ) (run : Run) (lines : List Line) → ComesUnambiguously p plan (NoOperator step) run
-    → ReportsOnce lines (λ its. its ≡ nameless_lines p plan step (step_at plan (step - 1))) → IsWhy p plan (NoOperator step) lines
+    → ReportsOnce lines (λ its. its ≡ nameless_lines p plan) → IsWhy p plan (NoOperator step) lines
 unknown_why p plan step run lines comes reported = record {
   run = run;
   went = comes.ends.1;

@@ -1,21 +1,9 @@
 -- What is reported of each fault.
 use Rattle.std.proofs.Common.{arith}
 use Rattle.std.proofs.lemmas.Grind.{common_steps}
-use Rattle.sas_plan_reasons.proofs.Imports.{◌≡◌, ℕ, ◌+◌, ◌<◌, Bool, true, false, not, List, [], ◌∷◌, ◌++◌, length, get_or, Option, ◌∙◌, ap, subst, if◌then◌else◌, filter, slice_index, option_map_or, ne_eqb, eq-eqb, append-nil, filter-append, AllByRecursion, cases_Bool, Fact, Parts, PlanParts, nameless_steps, nameless_lines, cost_hint, cost_lines, cost_lines_sum, places_to, places_one_more, Line, Run, last_state, fails, similar_operator, PlanHistory, Report, IsBehind, IsReport, AddsLines, ReportsOnce}
+use Rattle.sas_plan_reasons.proofs.Imports.{◌≡◌, ℕ, ◌+◌, ◌<◌, Bool, true, false, not, List, [], ◌∷◌, ◌++◌, length, get_or, ◌∙◌, ap, subst, if◌then◌else◌, filter, slice_index, ne_eqb, eq-eqb, append-nil, filter-append, AllByRecursion, cases_Bool, Fact, Parts, cost_hint, cost_lines, cost_lines_sum, places_to, places_one_more, Line, Run, last_state, fails, PlanHistory, Report, IsBehind, IsReport, AddsLines, ReportsOnce}
 use Rattle.sas_answers.specs.declared.line.Line.TheVariants as line
 use Rattle.sas_plan_reasons.proofs.Once.{IsPlain, plain_lines}
-
--- ---- no operator of the name
-
-nameless_plain : (step : ℕ) (like : Option ℕ) (k n : ℕ)
-    → AllByRecursion IsPlain (line.Step step ∷ option_map_or (λ operator. line.SimilarOperator operator ∷ []) like [] ++ line.NamelessSteps k n ∷ [])
-nameless_plain step h1 k n = grind arith
-
-pub nameless_reported : (p : Parts) (plan : PlanParts) (step : ℕ) (name : List ℕ) (like : Option ℕ) (k n : ℕ) (lines : List Line) → like ≡ similar_operator p name
-    → k ≡ nameless_steps p plan.steps → n ≡ length plan.steps
-    → lines ≡ line.Step step ∷ option_map_or (λ operator. line.SimilarOperator operator ∷ []) like [] ++ line.NamelessSteps k n ∷ []
-    → ReportsOnce lines (λ its. its ≡ nameless_lines p plan step name)
-nameless_reported p plan step name like k n lines alike count all are = grind (arith, common_steps, plain_lines, nameless_plain)
 
 -- ---- another cost
 

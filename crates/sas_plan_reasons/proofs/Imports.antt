@@ -11,7 +11,7 @@ pub use Rattle.std.proofs.lemmas.Grind.{flat_map-append, common_steps, same_numb
 pub use Rattle.std.proofs.lemmas.List.{get_or_default, nil_from_length, get_or-set_same, get_or-set_other, length-set, get_or_at, take-append-le, get_or_push, drop_more, append-nil, map-append, take_more, take_all, take-take, length-take, length-take-le, get_or-take, length-append, same_lists, length-replicate, get_or_append_left, get_or-map, length-map, get_or-append-add, get_or-replicate, get_or_past, take_at, drop_at, drop_all, length-drop}
 pub use Rattle.std.proofs.lemmas.List.Concat.{flat_map-cons}
 pub use Rattle.std.proofs.lemmas.List.Elements.{All-nil, All-cons, All-contains, Contains-append_left, Contains-append_right, Contains-append_cases, Contains-get_or, All-head, All-tail, Contains-push, Contains-push_cases, filter-append, All-map, All-weaker, All-append, All-push, All-from_recursion, All-rest}
-pub use Rattle.std.proofs.lemmas.List.Folds.{Any-from_list_any, list_any_at, list_any-append, flat_map-map}
+pub use Rattle.std.proofs.lemmas.List.Folds.{Any-from_list_any, list_any_at, list_any_none, list_any-append, flat_map-map}
 pub use Rattle.std.proofs.lemmas.List.FromFn.{map-range_with_len_more, length-map-range_with_len, get_or-map-range_with_len}
 pub use Rattle.std.proofs.lemmas.List.Kept.{AllPairs-cons, AllPairs-filter}
 pub use Rattle.std.proofs.lemmas.List.Quantifiers.{all_pairs_push}
@@ -78,6 +78,7 @@ pub use Rattle.sas_meaning.proofs.Members.{contains_head, contains_tail, contain
 pub use Rattle.sas_meaning.proofs.Places.{takes, passes_by, place_is, is_place, places_ascend, places_to, places_one_more, places_all}
 pub use Rattle.sas_meaning.proofs.Rules.{new_value_is}
 pub use Rattle.sas_meaning.proofs.Unique.{differs_decides}
+pub use Rattle.sas_meaning.specs.Following.{ListsDerived}
 pub use Rattle.sas_meaning.specs.Layers.{IsOnLayer, default_of, CanFire, can_fire, IsLayered, IsBasic, LooksDown}
 pub use Rattle.sas_meaning.specs.Places.{can_give, places_from, places}
 pub use Rattle.sas_meaning.specs.Settled.{new_value_of, differs, IsSettled, value_with, is_on_layer, IsClosed, IsSettledAt}
@@ -98,10 +99,10 @@ pub use Rattle.sas_run.specs.Choosers.{HaveOperators, IsSolutionBy, IsFaultByOrM
 pub use Rattle.sas_run.proofs.Observing.{goes_state}
 pub use Rattle.sas_run.specs.Observing.{IsTold}
 pub use Rattle.sas_names.specs.Named.{IsNamed}
-pub use Rattle.sas_names.specs.Nameless.{nameless_steps}
+pub use Rattle.sas_names.specs.Nameless.{is_nameless, nameless_steps}
 pub use Rattle.sas_run.specs.Plans.{IsApplicable, LeadFrom, LeadsTo, IsValid}
 pub use Rattle.sas_run.specs.Running.{IsChoice, IsLater, IsLaterIfAny}
-pub use Rattle.sas_run.specs.declared.runner.Choice.{Choice}
+pub use Rattle.sas_run.specs.declared.choice.Choice.{Choice}
 pub use Rattle.sas_run.specs.Runs.{Run, last_state, state_at, StepsSucceed, steps_before, RunEndsWith, IsRunOf, IsEnding}
 pub use Rattle.sas_run.specs.Verdicts.{IsFirstMissed, ComesTo, IsFaultOf}
 pub use Rattle.sas_run.specs.declared.plan_check.Valid.{Valid}
@@ -113,15 +114,21 @@ pub use Rattle.sas_plan_reasons.specs.Derivation.{needs_rules, has_rule, CanBeAd
 pub use Rattle.sas_plan_reasons.specs.Report.{lines_of_keepers, is_kept, ReportsGivers, IsReport, IsBehind, ReportsOnce, IsReportOf, AddsLines}
 pub use Rattle.sas_plan_reasons.specs.Lines.{with_line, with_lines, LineThen, LinesOfEach}
 pub use Rattle.sas_plan_reasons.specs.Lowest.{IsLowest, AreLowest}
-pub use Rattle.sas_plan_reasons.specs.MayMean.{HaveNoNamesakes, after_spaces, squeezed, folded, similar_operator, IsOther, MayMean}
+pub use Rattle.sas_plan_reasons.specs.MayMean.{HaveNoNamesakes, similar_operator, IsOther, MayMean}
 pub use Rattle.sas_plan_reasons.specs.Noting.{CanList, ListCoversChanges, ListsBelow, AddsOther, HasNoted}
-pub use Rattle.sas_plan_reasons.specs.Retracing.{HavePlaces, NotedAt, LeftAt, Notes, change_text, AreFirstChanges, IsOtherIfAny, Retraces, ComesUnambiguously, HaveSince}
+pub use Rattle.sas_plan_reasons.specs.Retracing.{HavePlaces, NotedAt, LeftAt, Notes, change_text, AreFirstChanges, IsOtherIfAny, AreNameless, Retraces, ComesUnambiguously, HaveSince}
 pub use Rattle.sas_plan_reasons.specs.Origins.{is_met, open_with, IsReady, IsOrdered, HasNoneOpen, AreOpen, AreOpenAtFirst, unmet, work_left, Closes, CanMeetAll, MeetsAll, Meets, giver_at, AreGivers, IsDerivedOrder, Builds, IsOrderSoFar, IsNext, is_reported, ArePlaces, HasRule, OriginsMatchState, AreOrigins, HasRuleBelow, IsReportedOf, AreReportedBelow, SameOrigins, unreported, AddsRules, ReportsDerivation}
-pub use Rattle.sas_plan_reasons.specs.ReasonLaws.{replayed, RequiresLower, RestsOnEarlier, IsAlike, IsLowestIfAny}
+pub use Rattle.sas_plan_reasons.specs.ReasonLaws.{replayed, RequiresLower, RestsOnEarlier, IsAlike, IsPermuted, IsSimilar, IsLowestIfAny}
+pub use Rattle.sas_plan_reasons.specs.Words.{separates, parts, words, are_permuted}
+pub use Rattle.sas_plan_reasons.specs.Similar.{AreSorted, IsSought, IsLikeness}
 pub use Rattle.sas_plan_reasons.specs.Trace.{run_lines, changed, is_changed, change_line, change_lines, step_lines, step_line}
-pub use Rattle.sas_plan_reasons.specs.Traced.{EndsWith, TraceVerdict, IsTraced}
-pub use Rattle.sas_plan_reasons.specs.Verdict.{WhyVerdict, MakeAnswer}
-pub use Rattle.sas_plan_reasons.specs.WhyPlan.{ConflictsWith, AreFailedPreconditionLines, AreConflictLines, AreGoalFactLines, cost_hint, cost_lines, nameless_lines, AreCouldBeLines, AreFaultLines, IsWhy, AreOperatorLines, cost_lines_sum}
+pub use Rattle.sas_plan_reasons.specs.Traced.{FaultAnswer, EndsWith, TraceVerdict}
+pub use Rattle.sas_plan_reasons.specs.Verdict.{Explains, WhyVerdict, MakeAnswer}
+pub use Rattle.sas_plan_reasons.specs.VerdictBy.{VerdictWith}
+pub use Rattle.sas_plan_reasons.specs.WhyPlan.{ConflictsWith, AreFailedPreconditionLines, AreConflictLines, AreGoalFactLines, cost_hint, cost_lines, first_nameless, nameless_step_lines, nameless_lines, some_similar, other_task_hint, AreCouldBeLines, AreFaultLines, IsWhy, AreOperatorLines, cost_lines_sum}
+pub use Rattle.sas_plan_reasons.specs.declared.similar.Likeness.{Likeness}
+pub use Rattle.sas_plan_reasons.specs.declared.similar.Likeness.TheVariants.{Same, Permuted, Other}
+pub use Rattle.sas_plan_reasons.specs.declared.similar.Sought.{Sought}
 pub use Rattle.sas_plan_reasons.specs.declared.changes.Changes.{Changes}
 pub use Rattle.sas_plan_reasons.specs.declared.order.DerivedOrder.{DerivedOrder}
 pub use Rattle.sas_plan_reasons.specs.declared.order.OpenConditions.{OpenConditions}
@@ -130,12 +137,13 @@ pub use Rattle.sas_plan_reasons.specs.declared.origins.Origins.{Origins}
 pub use Rattle.sas_plan_reasons.specs.declared.history.OtherOperator.{OtherOperator}
 pub use Rattle.sas_plan_reasons.specs.declared.history.Historian.{Historian}
 pub use Rattle.sas_plan_reasons.specs.declared.history.PlanHistory.{PlanHistory}
+pub use Rattle.sas_plan_reasons.specs.declared.nameless.NamelessSteps.{NamelessSteps}
 pub use Rattle.sas_plan_reasons.specs.declared.listing.Listing.{Listing}
 pub use Rattle.sas_plan_reasons.specs.declared.tracing.Tracer.{Tracer}
 pub use Rattle.sas_plan_reasons.specs.Tracing.{HasTraced, sink_of}
 pub use Rattle.sas_plan_reasons.specs.declared.tracing.Printed.{Printed}
 pub use Rattle.sas_names.specs.Chains.{IsChain, AreStepOperators}
-pub use Rattle.sas_names.specs.Names.{IsNextNamed, IsLowestNamed, existing}
+pub use Rattle.sas_names.specs.Names.{IsNextNamed, IsLowestNamed, existing, AreFirsts}
 pub use Rattle.sas_plan_reasons.specs.declared.causes.Report.{Report}
 pub use Rattle.sas_core.specs.Tasks.{cost_of}
 pub use Rattle.std.specs.Prelude.{sum_by, IsSomeAnd}

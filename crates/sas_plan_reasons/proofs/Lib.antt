@@ -1,6 +1,9 @@
 pub mod Lowest
 pub mod Since
-pub mod FoldedNames
+mod NameWords
+mod PermutedWords
+mod BorrowedWords
+pub mod SimilarNames
 pub mod Derivation
 pub mod Orders
 pub mod Sorting
@@ -19,6 +22,7 @@ pub mod RulesOf
 pub mod Adding
 pub mod Composing
 pub mod Within
+pub mod NamelessLines
 pub mod Faulty
 pub mod Behind
 pub mod OpenConditions

@@ -1,5 +1,5 @@
 -- The variables that are listed are all that a step may have changed.
-use Rattle.sas_plan_reasons.proofs.Imports.{◌≡◌, ◌≢◌, ◌⊎◌, ℕ, zero, suc, ◌+◌, ◌<◌, ◌≤◌, List, [], ◌∷◌, ◌++◌, length, get_or, sym, ◌∙◌, subst, inl, inr, arith, cases_eq, cases_lt, get_or_past, length-append, All, All-nil, All-cons, All-push, All-weaker, Contains, Contains-append_left, Contains-push, All-permutation, Contains-permutation, IsPermutation, Operator, Effect, Parts, effect_at, IsBasic, ListCoversChanges, ListsBelow}
+use Rattle.sas_plan_reasons.proofs.Imports.{◌≡◌, ◌≢◌, ◌⊎◌, ℕ, zero, suc, ◌+◌, ◌<◌, ◌≤◌, List, [], ◌∷◌, ◌++◌, length, get_or, sym, ◌∙◌, subst, inl, inr, arith, cases_eq, cases_lt, get_or_past, length-append, All, All-nil, All-cons, All-push, All-weaker, All-append, Contains, Contains-append_left, Contains-append_right, Contains-push, All-permutation, Contains-permutation, IsPermutation, Operator, Effect, Parts, effect_at, layer_cases, ListsDerived, ListCoversChanges, ListsBelow}
 use Rattle.sas_core.specs.Grounded.{no_effect}
 use Rattle.sas_meaning.specs.Steps.{Step}
 
@@ -68,13 +68,20 @@ on_one (effect ∷ effects) var = elim (cases_eq effect.var var) [
   ]
 ]
 
--- where all variables are basic, a step changes only those of its effects
-pub lists_effects : (p : Parts) (s : List ℕ) (o : Operator) (s' listed : List ℕ) → ((var : ℕ) → IsBasic p var) → Step p s o s' → All (λ (var : ℕ). var < length s) listed
-    → ((k : ℕ) → k < length o.effects → Contains listed (effect_at o k).var) → ListCoversChanges s s' listed
-lists_effects p s o s' listed basic step exist each = record {
-  exist = exist;
-  each = λ var. elim (on_one o.effects var) [
-    | inl there ↦ inr (subst (Contains listed) there.2 (each there.0 there.1))
-    | inr none ↦ inl (step.kept var (basic var) (λ k d lt fires. none k d lt))
+-- a step changes variables of its effects, and the derived ones that are listed
+pub lists_effects : (p : Parts) (s : List ℕ) (o : Operator) (s' effects derived : List ℕ) → length s ≡ length p.variables → Step p s o s'
+    → All (λ (var : ℕ). var < length p.variables) effects → ((k : ℕ) → k < length o.effects → Contains effects (effect_at o k).var)
+    → ListsDerived p s s' derived → ListCoversChanges s s' (effects ++ derived)
+lists_effects p s o s' effects derived fits step exist each lists = record {
+  exist = subst (λ n. All (λ (var : ℕ). var < n) (effects ++ derived)) (sym fits) (All-append (λ (var : ℕ). var < length p.variables) effects derived exist lists.exist);
+  each = λ var. elim (layer_cases p var) [
+    | inl basic ↦ elim (on_one o.effects var) [
+      | inl there ↦ inr (Contains-append_left effects derived var (subst (Contains effects) there.2 (each there.0 there.1)))
+      | inr none ↦ inl (step.kept var basic (λ k d lt fires. none k d lt))
+    ]
+    | inr on ↦ elim (lists.each on.0 var on.1) [
+      | inl same ↦ inl same
+      | inr there ↦ inr (Contains-append_right effects derived var there)
+    ]
   ];
 }

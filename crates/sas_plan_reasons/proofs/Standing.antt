@@ -1,5 +1,5 @@
 -- What is written of the steps of a run, and of the whole run.
-use Rattle.sas_plan_reasons.proofs.Imports.{◌≡◌, ℕ, ◌+◌, ◌≤◌, List, [], ◌∷◌, ◌++◌, flat_map, length, take, get_or, sym, ◌∙◌, ap, subst, get_or-append_seam, get_or-take, take-append_seam, take-take, length-take, length-append, range_with_len, Parts, text, text_of_both, text_of_each, initial_lines, IsLayered, Run, StepsSucceed, state_at, GoesThrough, step_lines, run_lines, step_line, change_lines, PlanParts, Answer, Output, output_of, TraceVerdict, EndsWith, IsTraced, Option, Some, Status, ToolFault, Sink, Pushed, Pushes, pushes_then, EndsCounting, ends_counting_as, Tracer, HasTraced, sink_of, CanList}
+use Rattle.sas_plan_reasons.proofs.Imports.{◌≡◌, ℕ, ◌+◌, ◌≤◌, List, [], ◌∷◌, ◌++◌, flat_map, length, take, get_or, sym, ◌∙◌, ap, subst, get_or-append_seam, get_or-take, take-append_seam, take-take, length-take, length-append, range_with_len, Parts, text, text_of_both, text_of_each, initial_lines, IsLayered, Run, StepsSucceed, state_at, GoesThrough, step_lines, run_lines, step_line, change_lines, PlanParts, Output, TraceVerdict, EndsWith, Bool, refl, IsSomeAnd, Option, Some, Status, ToolFault, Sink, Pushed, Pushes, pushes_then, EndsCounting, ends_counting_as, Tracer, HasTraced, sink_of, CanList}
 use Rattle.sas_plan_reasons.proofs.Changing.{said, said_more}
 use Rattle.sas_plan_reasons.proofs.Noted.{state_after}
 use Rattle.std.proofs.lemmas.Grind.{common_steps}
@@ -68,23 +68,17 @@ module _ {W : Type 0} (contents : W → Option (List ℕ)) (p : Parts) (layered 
           ∙ (ap (λ os. get_or os k 0) (sym front) ∙ get_or-append_seam before operator [] 0)
 
 -- what was written, as an output
-abbrev pub written : Parts → Answer → Run → Output
-written p verdict run = record { text = text (run_lines p run) ++ verdict.text.items; status = verdict.status }
+abbrev pub written : Parts → Output → Run → Output
+written p answer run = record { text = text (run_lines p run) ++ answer.text; status = answer.status }
 
-pub is_traced : (p : Parts) (plan : PlanParts) (verdict : Answer) (run : Run) → StepsSucceed p run → EndsWith p plan run (output_of verdict) → TraceVerdict p plan (written p verdict run)
-is_traced p plan verdict run through ends = grind (arith, common_steps)
-
--- what goes out of the lines of a run, and of the verdict behind them, is a trace
-pub sends_trace : {W : Type 0} (contents : W → Option (List ℕ)) (p : Parts) (plan : PlanParts) (verdict : Answer) (run : Run) (start : Option (List ℕ)) (first mid last : Sink W) (bytes : List ℕ)
-    (Sent : List ℕ → Type 0) (ended : Result Status ToolFault) → StepsSucceed p run → EndsWith p plan run (output_of verdict) → first.status ≡ verdict.status → Pushed contents start first []
-    → Pushes contents first mid (text (run_lines p run)) → Pushes contents mid last bytes → bytes ≡ verdict.text.items
+-- what goes out of the lines of a run, and of the answer behind them, is a trace
+pub sends_trace : {W : Type 0} (contents : W → Option (List ℕ)) (reasons : Bool) (p : Parts) (plan : PlanParts) (answer : Output) (run : Run) (start : Option (List ℕ)) (first mid last : Sink W)
+    (Sent : List ℕ → Type 0) (ended : Result Status ToolFault) → StepsSucceed p run → EndsWith reasons p plan run answer → first.status ≡ answer.status → Pushed contents start first []
+    → Pushes contents first mid (text (run_lines p run)) → Pushes contents mid last answer.text
     → ((whole : List ℕ) → Pushed contents start last whole → EndsCounting (λ output. output ≡ Some (record { text = whole; status = last.status })) Sent ended)
-    → EndsCounting (IsTraced p plan) Sent ended
-sends_trace contents p plan verdict run start first mid last bytes Sent ended through ends status none lines behind is finish =
-    ends_counting_as (written p verdict run) Sent (IsTraced p plan) ended (is_traced p plan verdict run through ends)
-    (subst (λ (o : Output). EndsCounting (λ output. output ≡ Some o) Sent ended) same (finish _ (behind.text start _ (lines.text start [] none))))
-  where
-    same : record { text = text (run_lines p run) ++ bytes; status = last.status } ≡ written p verdict run
-    same =
-        let made : List ℕ → Status → Output = λ bytes status. record { text = text (run_lines p run) ++ bytes; status = status } in
-        ap (made bytes) (behind.status ∙ (lines.status ∙ status)) ∙ ap (λ (l : List ℕ). made l verdict.status) is
+    → EndsCounting (λ output. IsSomeAnd output (TraceVerdict reasons p plan)) Sent ended
+sends_trace contents reasons p plan answer run start first mid last Sent ended through ends status none lines behind finish =
+    ends_counting_as (written p answer run) Sent (λ output. IsSomeAnd output (TraceVerdict reasons p plan)) ended
+    (record { run = run; through = through; answer = answer; ends = ends; whole = refl; status = refl })
+    (subst (λ (s : Status). EndsCounting (λ output. output ≡ Some (record { text = text (run_lines p run) ++ answer.text; status = s })) Sent ended)
+    (behind.status ∙ (lines.status ∙ status)) (finish _ (behind.text start _ (lines.text start [] none))))

@@ -1,5 +1,7 @@
 pub mod Lowest
+pub mod Words
 pub mod MayMean
+pub mod Similar
 pub mod Derivation
 pub mod Lines
 pub mod Cause

@@ -1,7 +1,8 @@
 -- What else a step may mean: an operator with a similar name, or another one of its name.
-use Rattle.std.specs.Prelude.{◌≡◌, ℕ, ◌+◌, ◌<◌, ◌==◌, ◌&&◌, if◌then◌else◌, List, [], ◌∷◌, length, position}
+use Rattle.std.specs.Prelude.{◌≡◌, ℕ, ◌+◌, ◌<◌, List, [], length, position}
 use Rattle.std.specs.Prelude.{bytes_eq, slice_index, slice_index_or, Option}
-use Rattle.std.specs.Char.{to_ascii_lowercase}
+use Rattle.std.specs.Cmp.Lexicographic.{pointwise}
+use Rattle.std.specs.Option.{option_or}
 use Rattle.sas_core.specs.declared.parts.Operator.{Operator}
 use Rattle.sas_core.specs.declared.parts.Parts.{Parts}
 use Rattle.sas_core.specs.Grounded.{operator_at}
@@ -9,28 +10,14 @@ use Rattle.sas_names.specs.Named.{IsNamed}
 use Rattle.sas_run.specs.Plans.{IsApplicable}
 use Rattle.sas_run.specs.Runs.{Run, state_at}
 use Rattle.sas_plan_reasons.specs.Lowest.{AreLowest}
+use Rattle.sas_plan_reasons.specs.Words.{words, are_permuted}
 
--- a name without the spaces at its front
-abbrev pub after_spaces : List ℕ → List ℕ
-after_spaces [] = []
-after_spaces (byte ∷ bytes) = if byte == 32 then after_spaces bytes else byte ∷ bytes
-
--- a name without each space that another space follows, or nothing; with A to Z in lower case
-abbrev pub squeezed : List ℕ → List ℕ
-squeezed [] = []
-squeezed (byte ∷ bytes) = if byte == 32 && (slice_index_or bytes 0 32 == 32)
-    then squeezed bytes
-    else to_ascii_lowercase byte ∷ squeezed bytes
-
--- the folded name: without spaces at its front and end, with one space for each other run of
--- spaces, and with letters from A to Z in lower case
-abbrev pub folded : List ℕ → List ℕ
-folded name = squeezed (after_spaces name)
-
--- the lowest operator whose folded name is that of this name, if there is one
+-- the lowest operator whose name has the words of this name in the same order; if there is none, the
+-- lowest whose name has them in some order
 abbrev pub similar_operator : Parts → List ℕ → Option ℕ
-similar_operator p name =
-    position (λ (o : Operator). bytes_eq (folded o.name) (folded name)) p.operators
+similar_operator p name = option_or
+    (position (λ (o : Operator). pointwise bytes_eq (words o.name) (words name)) p.operators)
+    (position (λ (o : Operator). are_permuted (words name) (words o.name)) p.operators)
 
 -- A step means the lowest applicable operator of its name. This operator is above that of step
 -- k + 1, has the same name, and is applicable in the state before the step, too.

@@ -1,7 +1,6 @@
 -- What is noted of the steps of a plan as they are made once more.
-use Rattle.std.specs.Prelude.{◌≡◌, ◌⊎◌, ℕ, ◌+◌, ◌<◌, ◌≤◌, List, length, All, Contains, IsTrue, Option, Some, None, slice_index, vec_capacity}
+use Rattle.std.specs.Prelude.{◌≡◌, ◌⊎◌, ℕ, ◌+◌, ◌*◌, ◌<◌, ◌≤◌, List, length, All, Contains, Option, Some, None, slice_index, vec_capacity}
 use Rattle.sas_core.specs.declared.parts.Parts.{Parts}
-use Rattle.sas_meaning.specs.Layers.{IsBasic}
 use Rattle.sas_run.specs.ByNumbers.{GoesThrough}
 use Rattle.sas_run.specs.Running.{IsLaterIfAny}
 use Rattle.sas_run.specs.Runs.{Run, StepsSucceed}
@@ -12,11 +11,10 @@ use Rattle.sas_plan_reasons.specs.declared.listing.Listing.{Listing}
 
 -- ---- the variables that a step may have changed
 
--- there is room for them; where it says that no variable is derived, none is
+-- there is room for all variables, and for as many effects and derived variables as it lists
 pub record CanList (p : Parts) (listing : Listing) : Type 0 where
-  pub basic : IsTrue listing.basic → (var : ℕ) → IsBasic p var
-  pub few : listing.few ≤ length p.variables + 8
-  pub room : length p.variables + 8 ≤ vec_capacity listing.vars
+  pub few : 2 * listing.few ≤ length p.variables + 16
+  pub room : length p.variables + 16 ≤ vec_capacity listing.vars
 
 -- the variables on the list exist, and each whose value in s' isn't that in s is on it
 pub record ListCoversChanges (s s' listed : List ℕ) : Type 0 where

@@ -1,23 +1,35 @@
 -- What follows from the definitions: each reason exists, is unique, and isn't circular; and what a
 -- trace prints.
-use Rattle.std.specs.Prelude.{◌≡◌, ◌≢◌, ℕ, ◌<◌, List, length, Option, Some, None, slice_index, ◌+◌, zero, suc, map, fold, slice_set}
+use Rattle.std.specs.Prelude.{◌≡◌, ◌≢◌, ◌⊎◌, ℕ, ◌<◌, List, length, Option, Some, None, slice_index, ◌+◌, zero, suc, map, fold, slice_set}
 use Rattle.std.specs.List.{range_with_len}
+use Rattle.std.specs.List.Sorted.{IsPermutation}
 use Rattle.sas_core.specs.declared.parts.Parts.{Parts}
 use Rattle.sas_core.specs.declared.parts.Fact.{Fact}
 use Rattle.sas_core.specs.Grounded.{operator_at}
 use Rattle.sas_meaning.specs.Layers.{IsOnLayer, default_of}
 use Rattle.sas_run.specs.Runs.{Run, state_at}
 use Rattle.sas_plan_reasons.specs.Lowest.{IsLowest}
-use Rattle.sas_plan_reasons.specs.MayMean.{folded}
+use Rattle.sas_plan_reasons.specs.Words.{words}
 use Rattle.sas_plan_reasons.specs.Derivation.{IsRuleOf, StandsBefore}
 use Rattle.sas_plan_reasons.specs.Trace.{changed}
 
 -- ---- similar names
 
--- the operator has a similar name: both names have the same folded name
+-- the operator's name has the words of this name in the same order
 pub record IsAlike (p : Parts) (name : List ℕ) (operator : ℕ) : Type 0 where
   pub exists : operator < length p.operators
-  pub alike : folded (operator_at p operator).name ≡ folded name
+  pub alike : words (operator_at p operator).name ≡ words name
+
+-- it has them in some order
+pub record IsPermuted (p : Parts) (name : List ℕ) (operator : ℕ) : Type 0 where
+  pub exists : operator < length p.operators
+  pub permuted : IsPermutation (words name) (words (operator_at p operator).name)
+
+-- the lowest operator of the first kind, or, where there is none, of the second
+abbrev pub IsSimilar : Parts → List ℕ → Option ℕ → Type 0
+IsSimilar p name (Some operator) = IsLowest (IsAlike p name) operator
+    ⊎ (((other : ℕ) → IsAlike p name other → ⊥) × IsLowest (IsPermuted p name) operator)
+IsSimilar p name None = (other : ℕ) → IsPermuted p name other → ⊥
 
 -- the lowest number with the property, or `None` if no number has it
 abbrev pub IsLowestIfAny : (ℕ → Type 0) → Option ℕ → Type 0

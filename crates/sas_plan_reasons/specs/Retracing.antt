@@ -11,6 +11,8 @@ use Rattle.sas_plan_reasons.specs.MayMean.{IsOther, MayMean}
 use Rattle.sas_plan_reasons.specs.declared.history.OtherOperator.{OtherOperator}
 use Rattle.sas_plan_reasons.specs.declared.history.PlanHistory.{PlanHistory}
 use Rattle.sas_plan_reasons.specs.declared.changes.Changes.{Changes}
+use Rattle.sas_plan_reasons.specs.declared.nameless.NamelessSteps.{NamelessSteps}
+use Rattle.sas_plan_reasons.specs.WhyPlan.{first_nameless}
 
 -- the first step of the run that may mean another operator, and the lowest that it may mean; or
 -- none may
@@ -23,12 +25,17 @@ pub record HaveSince (p : Parts) (run : Run) (since : List ℕ) : Type 0 where
   pub one_each : length since ≡ length p.variables
   pub each : (var : ℕ) → var < length p.variables → IsSince run var (slice_index since var)
 
+-- how many steps name no operator, and the first five of them
+pub record AreNameless (p : Parts) (steps : List (List ℕ)) (nameless : NamelessSteps) : Type 0 where
+  pub count : nameless.count ≡ nameless_steps p steps
+  pub first : nameless.first.items ≡ first_nameless p steps
+
 -- this is noted of the run of a plan, up to its fault
 pub record Retraces (p : Parts) (plan : PlanParts) (history : PlanHistory) (run : Run)
     : Type 0 where
   pub through : StepsSucceed p run
   pub ends : RunEndsWith p plan run (Some history.fault)
-  pub nameless : history.nameless ≡ nameless_steps p plan.steps
+  pub nameless : AreNameless p plan.steps history.nameless
   pub operators : history.operators.items ≡ run.operators
   pub last : history.last ≡ last_state run
   pub since : HaveSince p run history.since.items

@@ -1,6 +1,7 @@
 -- Why a plan isn't valid: the lines of reasons after its verdict.
-use Rattle.std.specs.Prelude.{◌≡◌, ◌≢◌, ◌⊎◌, ℕ, ◌-◌, ◌<◌, ◌==◌, Bool, true, false, if◌then◌else◌, List, [], ◌∷◌, ◌++◌, length, filter, sum_by, slice_index_or, bytes_eq}
-use Rattle.std.specs.List.{count_by}
+use Rattle.std.specs.Prelude.{◌≡◌, ◌≢◌, ◌⊎◌, ℕ, ◌+◌, ◌-◌, ◌<◌, ◌==◌, ◌&&◌, Bool, true, false, not, nat_lt, is_some, if◌then◌else◌}
+use Rattle.std.specs.Prelude.{List, [], ◌∷◌, ◌++◌, length, take, filter, flat_map, sum_by, slice_index_or, bytes_eq}
+use Rattle.std.specs.List.{count_by, list_any}
 use Rattle.std.specs.Option.{option_map_or}
 use Rattle.sas_core.specs.declared.parts.Operator.{Operator}
 use Rattle.sas_core.specs.declared.parts.Parts.{Parts}
@@ -14,7 +15,7 @@ use Rattle.sas_run.specs.declared.plan_check.PlanFault.TheVariants.{Memory, NoOp
 use Rattle.sas_answers.specs.declared.line.Line.{Line}
 use Rattle.sas_answers.specs.declared.line.Line.TheVariants as line
 use Rattle.sas_plan_reasons.specs.Lines.{with_lines, LineThen, LinesOfEach}
-use Rattle.sas_names.specs.Nameless.{nameless_steps}
+use Rattle.sas_names.specs.Nameless.{is_nameless, nameless_steps}
 use Rattle.sas_run.specs.Runs.{Run, last_state, StepsSucceed, steps_before}
 use Rattle.sas_plan_reasons.specs.Lowest.{AreLowest}
 use Rattle.sas_plan_reasons.specs.MayMean.{similar_operator, IsOther, MayMean}
@@ -22,12 +23,35 @@ use Rattle.sas_plan_reasons.specs.Cause.{fails, IsCause}
 
 -- ---- no operator of that name
 
--- the step, the lowest operator with a similar name, if any, and how many of the plan's steps name
--- no operator
-abbrev pub nameless_lines : Parts → PlanParts → ℕ → List ℕ → List Line
-nameless_lines p plan step name = line.Step step
-    ∷ option_map_or (λ operator. line.SimilarOperator operator ∷ []) (similar_operator p name) []
-    ++ line.NamelessSteps (nameless_steps p plan.steps) (length plan.steps) ∷ []
+-- the first five steps that name no operator, counted from 0
+abbrev pub first_nameless : Parts → List (List ℕ) → List ℕ
+first_nameless p steps = take 5 (places (is_nameless p) steps)
+
+-- the step after so many, and the operator with a similar name, if there is one
+abbrev pub nameless_step_lines : Parts → PlanParts → ℕ → List Line
+nameless_step_lines p plan before = line.Step (before + 1)
+    ∷ option_map_or (λ operator. line.SimilarOperator operator ∷ [])
+    (similar_operator p (step_at plan before)) []
+
+-- whether one of these steps has an operator with a similar name
+abbrev pub some_similar : Parts → PlanParts → List ℕ → Bool
+some_similar p plan = list_any (λ before. is_some (similar_operator p (step_at plan before)))
+
+-- a hint if there are two steps or more, none names an operator, and none of the first five has an
+-- operator with a similar name
+abbrev pub other_task_hint : Parts → PlanParts → List Line
+other_task_hint p plan = if nat_lt 1 (length plan.steps)
+    && ((nameless_steps p plan.steps == length plan.steps)
+    && not (some_similar p plan (first_nameless p plan.steps)))
+    then line.OtherTaskHint ∷ []
+    else []
+
+-- these lines for the first five steps that name no operator, how many there are, and the hint
+abbrev pub nameless_lines : Parts → PlanParts → List Line
+nameless_lines p plan =
+    flat_map (nameless_step_lines p plan) (first_nameless p plan.steps)
+    ++ line.NamelessSteps (nameless_steps p plan.steps) (length plan.steps)
+    ∷ other_task_hint p plan
 
 -- ---- not applicable
 
@@ -106,8 +130,7 @@ AreCouldBeLines p run lines =
 
 -- the lines for this fault, after a run of the steps before it (`Memory` is no fault of a plan)
 abbrev pub AreFaultLines : Parts → PlanParts → Run → PlanFault → List Line → Type 0
-AreFaultLines p plan run (NoOperator step) lines =
-    lines ≡ nameless_lines p plan step (step_at plan (step - 1))
+AreFaultLines p plan run (NoOperator step) lines = lines ≡ nameless_lines p plan
 AreFaultLines p plan run (NotApplicable step) lines =
     LineThen (line.Step step) (AreOperatorLines p run (step_at plan (step - 1))) lines
 AreFaultLines p plan run (Conflict step operator) lines =

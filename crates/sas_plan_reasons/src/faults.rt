@@ -7,17 +7,15 @@ ghost use Rattle.sas_core.specs.Variables.{IsState};
 ghost use Rattle.sas_meaning.specs.Steps.{Agree};
 ghost use Rattle.sas_plan_reasons.specs.Cause.{fails};
 ghost use Rattle.sas_plan_reasons.specs.Lines.{LineThen};
-ghost use Rattle.sas_core.specs.Stepwise.{step_at};
-ghost use Rattle.sas_names.specs.Nameless.{nameless_steps};
 ghost use Rattle.sas_run.specs.Runs.{Run};
-ghost use Rattle.sas_plan_reasons.specs.WhyPlan.{nameless_lines, AreFailedPreconditionLines, AreOperatorLines, AreConflictLines, AreGoalLines, AreFaultLines, IsWhy, cost_hint, cost_lines, cost_lines_sum};
+ghost use Rattle.sas_plan_reasons.specs.WhyPlan.{AreFailedPreconditionLines, AreOperatorLines, AreConflictLines, AreGoalLines, AreFaultLines, IsWhy, cost_hint, cost_lines, cost_lines_sum};
 ghost use Rattle.sas_plan_reasons.specs.Retracing.{Retraces};
 ghost use Rattle.sas_plan_reasons.specs.Report.{IsBehind, IsReportOf, AddsLines, ReportsOnce};
 
 use crate::causes::{Report, report_cause};
 use crate::conflicts::conflict;
 use crate::history::PlanHistory;
-use crate::likeness::like;
+use crate::nameless::unknown;
 use sas_answers::Line;
 use sas_core::{Fact, Grounded, Items, Stepwise};
 use sas_flat::FlatTask;
@@ -62,7 +60,7 @@ fn lines_of_fault<P: Stepwise>(
     let _ = layered.task();
     match history.fault {
         PlanFault::Memory => unreachable!(),
-        PlanFault::NoOperator { step } => unknown(alloc, layered, plan, step, history.nameless),
+        PlanFault::NoOperator { .. } => unknown(alloc, layered, plan, &history.nameless),
         PlanFault::NotApplicable { step } => {
             blocked(alloc, layered, history, plan.step(step - 1), step)
         }
@@ -74,34 +72,6 @@ fn lines_of_fault<P: Stepwise>(
             costs(alloc, layered, history.operators.as_slice(), plan.cost())
         }
     }
-}
-
-/// Returns the lines for a step whose name no operator has: the step, an operator of a similar name, and how many steps name no operator.
-#[tactic(auto, using(crate::proofs::Faulty::nameless_reported))]
-pub fn unknown<T: Grounded, P: Stepwise>(
-    alloc: Global,
-    task: &Layered<T>,
-    plan: &P,
-    step: usize,
-    nameless: usize,
-) -> Result<Items<Line>, AllocError>
-    requires step { 0 < step }
-    requires exists { step ≤ length (P.says plan.now).steps }
-    requires nameless { nameless ≡ nameless_steps task.now (P.says plan.now).steps }
-    ensures { IfOk result (λ lines. ReportsOnce lines (λ its.
-        its ≡ nameless_lines task.now (P.says plan.now) step
-        (step_at (P.says plan.now) (step - 1)))) }
-{
-    let mut lines = Items::new(alloc);
-    lines.push(Line::Step { step })?;
-    if let Some(operator) = like(task, plan.step(step - 1)) {
-        lines.push(Line::SimilarOperator { operator })?;
-    }
-    lines.push(Line::NamelessSteps {
-        count: nameless,
-        steps: plan.steps(),
-    })?;
-    Ok(lines)
 }
 
 /// Returns the lines for a step none of whose operators is applicable: the step, and why each of them isn't.

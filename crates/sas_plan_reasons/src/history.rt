@@ -8,6 +8,7 @@ ghost use Rattle.sas_plan_reasons.specs.Noting.{AddsOther, HasNoted};
 
 use crate::changes::Changes;
 use crate::listing::Listing;
+use crate::nameless::NamelessSteps;
 use sas_core::Grounded;
 use sas_meaning::{Layered, State};
 use sas_run::{Observer, PlanFault, later_applicable};
@@ -25,8 +26,8 @@ pub struct OtherOperator {
 pub struct PlanHistory {
     /// Why the plan isn't valid.
     pub fault: PlanFault,
-    /// How many of its steps name no operator.
-    pub nameless: usize,
+    /// The steps that name no operator.
+    pub nameless: NamelessSteps,
     /// The operators of the steps that go through.
     pub operators: Vec<u32>,
     /// The state to which these steps lead.
@@ -110,10 +111,17 @@ impl<'n, T: Grounded> Observer<T> for Historian<'n> {
     ghost sees = { HasNoted };
 
     #[inline(always)]
-    fn observe(&mut self, task: &Layered<T>, step: usize, operator: u32, state: &State) {
+    fn observe(
+        &mut self,
+        task: &Layered<T>,
+        step: usize,
+        operator: u32,
+        derived: Option<&[u32]>,
+        state: &State,
+    ) {
         self.note_other(task, step, operator);
         self.listing
-            .list(task, operator, &self.changes.values, state);
+            .list(task, operator, derived, &self.changes.values, state);
         self.changes.note(step, state, self.listing.vars.as_slice());
     }
 }

@@ -1,5 +1,7 @@
 // Laws of reasons.
-ghost use Rattle.std.specs.Prelude.{◌≡◌, ◌≢◌, ◌⊎◌, ◌↔◌, ℕ, ◌<◌, ◌≤◌, IsTrue, IsFalse, List, [], ◌∷◌, ◌++◌, length, Some, bytes_eq, filter, find, All, AllPairs, Contains, slice_index, sum_by};
+ghost use Rattle.std.specs.Prelude.{◌≡◌, ◌≢◌, ◌⊎◌, ◌↔◌, ℕ, ◌<◌, ◌≤◌, Bool, false, IsTrue, IsFalse, List, [], ◌∷◌, ◌++◌, length, map, Some, bytes_eq, filter, find, All, AllPairs, Contains, slice_index, sum_by};
+ghost use Rattle.std.specs.Char.{to_ascii_lowercase};
+ghost use Rattle.std.specs.List.Sorted.{IsPermutation};
 ghost use Rattle.sas_core.specs.declared.parts.Operator.{Operator};
 ghost use Rattle.sas_core.specs.declared.parts.Parts.{Parts};
 ghost use Rattle.sas_core.specs.PlanParts.{PlanParts};
@@ -17,7 +19,8 @@ ghost use Rattle.sas_run.specs.Plans.{IsApplicable};
 ghost use Rattle.sas_run.specs.Verdicts.{IsFirstMissed, IsFaultOf};
 ghost use Rattle.sas_run.specs.Runs.{Run, state_at, StepsSucceed};
 ghost use Rattle.sas_plan_reasons.specs.Lowest.{AreLowest};
-ghost use Rattle.sas_plan_reasons.specs.MayMean.{folded, similar_operator, IsOther, MayMean};
+ghost use Rattle.sas_plan_reasons.specs.Words.{separates, words, are_permuted};
+ghost use Rattle.sas_plan_reasons.specs.MayMean.{similar_operator, IsOther, MayMean};
 ghost use Rattle.sas_plan_reasons.specs.Derivation.{has_rule, IsOrder, IsRuleOf, StandsBefore, IsDerivation};
 ghost use Rattle.sas_answers.specs.declared.line.Line.{Line};
 ghost use Rattle.sas_answers.specs.Line.{is_rule_line};
@@ -28,9 +31,10 @@ ghost use Rattle.sas_core.specs.Tasks.{cost_of};
 ghost use Rattle.sas_core.specs.WellRanged.{WellRanged};
 ghost use Rattle.sas_answers.specs.declared.ending.Status.TheVariants.{Yes};
 ghost use Rattle.sas_answers.specs.Ending.{Output};
-ghost use Rattle.sas_answers.specs.Answers.{VerdictAnswer};
+ghost use Rattle.sas_lines.specs.Lines.{text};
 ghost use Rattle.sas_plan_reasons.specs.Traced.{TraceVerdict};
-ghost use Rattle.sas_plan_reasons.specs.ReasonLaws.{IsAlike, IsLowestIfAny, RequiresLower, RestsOnEarlier, replayed};
+ghost use Rattle.sas_plan_reasons.specs.VerdictBy.{VerdictWith};
+ghost use Rattle.sas_plan_reasons.specs.ReasonLaws.{IsSimilar, RequiresLower, RestsOnEarlier, replayed};
 
 /// Ensures the laws of changes. In a run each variable has exactly one last change, and keeps its value from there on.
 pub fn since_laws()
@@ -42,17 +46,16 @@ pub fn since_laws()
         → value_at run later var ≡ value_at run since var }
 {}
 
-/// Ensures the laws of similar names. Folding ignores spaces at the front and at the end of a name, and spaces behind a space. Folding a
-/// folded name changes nothing. The operator that is reported is the lowest with a similar name, or there is none. Either no step could
-/// also mean another operator, or exactly one is the first, and the lowest such operator is unique.
+/// Ensures the laws of similar names. The words of a name are those before a separator and those behind it, and don't depend on the case of
+/// letters. Words are others in another order exactly if each is among both equally often. The operator that is reported is the lowest with
+/// the same words in the same order; if there is none, in some order. Either no step could also mean another operator, or exactly one is
+/// the first, and the lowest such operator is unique.
 pub fn name_laws()
-    ensures front { (name : List ℕ) → folded (32 ∷ name) ≡ folded name }
-    ensures space { (name : List ℕ) → folded (name ++ 32 ∷ []) ≡ folded name }
-    ensures double { (front behind : List ℕ)
-        → folded (front ++ 32 ∷ 32 ∷ behind) ≡ folded (front ++ 32 ∷ behind) }
-    ensures once { (name : List ℕ) → folded (folded name) ≡ folded name }
-    ensures lowest_like { (p : Parts) (name : List ℕ)
-        → IsLowestIfAny (IsAlike p name) (similar_operator p name) }
+    ensures separator { (front behind : List ℕ) (byte : ℕ) → IsTrue (separates byte)
+        → words (front ++ byte ∷ behind) ≡ words front ++ words behind }
+    ensures no_case { (name : List ℕ) → words (map to_ascii_lowercase name) ≡ words name }
+    ensures permuted { (a b : List (List ℕ)) → IsTrue (are_permuted a b) ↔ IsPermutation a b }
+    ensures similar { (p : Parts) (name : List ℕ) → IsSimilar p name (similar_operator p name) }
     ensures some_other { (p : Parts) (run : Run)
         → ((step operator : ℕ) × MayMean p run step operator)
         ⊎ ((k operator : ℕ) → IsOther p run k operator → ⊥) }
@@ -142,18 +145,19 @@ pub fn why_laws()
 
 /// Ensures the laws of traces. The changes, written over the initial values in turn, give the state after each step. The answer
 /// that there is without it follows the trace. The costs of a valid plan's steps add up to its cost. A plan of a layered task has
-/// one trace.
+/// one trace, with reasons and without.
 pub fn trace_laws()
     ensures replays { (p : Parts) (run : Run) (k : ℕ) → WellRanged p → StepsSucceed p run
         → k ≤ length run.steps → replayed p run k ≡ state_at run k }
-    ensures verdict { (p : Parts) (plan : PlanParts) (output : Output) → TraceVerdict p plan output
-        → (verdict : Output) × VerdictAnswer p plan verdict × (front : List ℕ)
-        × (output.text ≡ front ++ verdict.text) × (output.status ≡ verdict.status) }
-    ensures costs { (p : Parts) (plan : PlanParts) (output : Output)
-        (trace : TraceVerdict p plan output) → output.status ≡ Yes
+    ensures answer { (reasons : Bool) (p : Parts) (plan : PlanParts) (output : Output)
+        → TraceVerdict reasons p plan output → (answer : Output)
+        × VerdictWith false reasons p plan answer × (front : List (List ℕ))
+        × (output.text ≡ text front ++ answer.text) × (output.status ≡ answer.status) }
+    ensures costs { (reasons : Bool) (p : Parts) (plan : PlanParts) (output : Output)
+        (trace : TraceVerdict reasons p plan output) → output.status ≡ Yes
         → sum_by (cost_of p) trace.run.operators ≡ plan.cost }
-    ensures some { (p : Parts) (plan : PlanParts) → WellRanged p → IsLayered p → (output : Output)
-        × TraceVerdict p plan output }
-    ensures one { (p : Parts) (plan : PlanParts) (a b : Output) → IsLayered p
-        → TraceVerdict p plan a → TraceVerdict p plan b → a ≡ b }
+    ensures some { (reasons : Bool) (p : Parts) (plan : PlanParts) → WellRanged p → IsLayered p
+        → (output : Output) × TraceVerdict reasons p plan output }
+    ensures one { (reasons : Bool) (p : Parts) (plan : PlanParts) (a b : Output) → IsLayered p
+        → TraceVerdict reasons p plan a → TraceVerdict reasons p plan b → a ≡ b }
 {}

@@ -5,18 +5,22 @@
 mod causes;
 mod changes;
 mod conflicts;
+mod detail;
 mod faults;
 mod history;
 mod laws;
-mod likeness;
 mod listing;
 mod loaded_task;
+mod nameless;
 mod order;
 mod origins;
+mod similar;
 mod tracing;
 mod verdicts;
+mod words;
 mod writing;
 
+pub use detail::Detail;
 pub use faults::reasons;
 pub use history::{OtherOperator, PlanHistory};
 pub use laws::{cause_laws, derivation_laws, name_laws, since_laws, trace_laws, why_laws};

@@ -5,8 +5,9 @@ ghost use Rattle.sas_answers.specs.Ending.{EndsCounting, Writes, output_of};
 ghost use Rattle.sas_answers.specs.NumberedPlans.{NumbersAnswer};
 ghost use Rattle.sas_plan_reasons.specs.VerdictBy.{VerdictBy};
 
+use crate::detail::Detail;
 use crate::verdicts::{answer_named, verdict_answer};
-use sas_answers::{Answer, Detail, Status, ToolFault, accept_plan, answer_number_fault};
+use sas_answers::{Answer, Status, ToolFault, accept_plan, answer_number_fault};
 use sas_flat::{FlatPlan, FlatTask};
 use sas_lines::Watched;
 use sas_meaning::{Layered, Settle};

@@ -1,13 +1,16 @@
 // The trace of a plan, which is written as its steps are made once more.
-ghost use Rattle.std.specs.Prelude.{◌≡◌, ◌↔◌, ◌<◌, ◌∷◌, ◌++◌, ℕ, List, Option, Some, false, IfErr, IsErrAnd, IsTrue, [], length, slice_index, slice_set, IfOk};
+ghost use Rattle.std.specs.Prelude.{◌≡◌, ◌↔◌, ◌<◌, ◌∷◌, ◌++◌, ℕ, List, Option, Some, false, IfErr, IsErrAnd, IsTrue, [], length, slice_index, slice_set, IfOk, IfSome};
 ghost use Rattle.std.specs.List.Sorted.{IsNonDecreasing};
 ghost use Rattle.sas_core.specs.Grounded.{operator_at};
 ghost use Rattle.sas_core.specs.Variables.{IsState};
 ghost use Rattle.sas_lines.specs.Lines.{text};
+ghost use Rattle.sas_meaning.specs.Following.{ListsDerived};
 ghost use Rattle.sas_meaning.specs.Steps.{Step};
 ghost use Rattle.sas_answers.specs.Facts.{initial_lines};
 ghost use Rattle.std.specs.Io.KnownBytes.{Appends};
 ghost use Rattle.sas_answers.specs.Ending.{EndsCounting, IsWrite};
+ghost use Rattle.sas_answers.specs.Line.{reasons_text};
+ghost use Rattle.sas_answers.specs.Wording.{steps_of};
 ghost use Rattle.sas_answers.specs.Sink.{Pushed, Pushes, empty_piece};
 ghost use Rattle.sas_plan_reasons.specs.Tracing.{sink_of};
 ghost use Rattle.sas_plan_reasons.specs.Noting.{CanList, ListCoversChanges};
@@ -16,7 +19,10 @@ ghost use Rattle.sas_plan_reasons.specs.Trace.{change_lines, step_line};
 
 use crate::changes::copy_of;
 use crate::listing::Listing;
-use sas_answers::{NumberedLine, Pieces, Sink, Status, ToolFault, Word, Words, value_name};
+use sas_answers::{
+    Line, NameSource, NumberedLine, Pieces, Sink, Status, ToolFault, Word, Words, push_lines,
+    value_name,
+};
 use sas_core::{Fact, Grounded};
 use sas_flat::FlatTask;
 use sas_lines::Watched;
@@ -77,9 +83,10 @@ impl<'w, W: Write> Tracer<'w, W> {
         self.short = sink.short;
     }
 
-    /// Adds these bytes to the text.
-    pub fn push(&mut self, bytes: &[u8])
-        ensures { Pushes W.contents (sink_of self.old) (sink_of self.new) bytes.now }
+    /// Adds the answer to the text: these bytes, and after them the lines of its reasons.
+    pub fn push_answer(&mut self, verdict: &[u8], source: &NameSource<'_>, reasons: &[Line])
+        ensures { Pushes W.contents (sink_of self.old) (sink_of self.new) (verdict.now
+            ++ reasons_text source.now.task.now (steps_of source.now.plan) reasons.now) }
     {
         let mut sink = Sink {
             out: self.out,
@@ -87,7 +94,8 @@ impl<'w, W: Write> Tracer<'w, W> {
             short: self.short,
             status: self.status,
         };
-        sink.push(bytes);
+        sink.push(verdict);
+        push_lines(&mut sink, source, reasons);
         self.short = sink.short;
     }
 
@@ -120,7 +128,14 @@ impl<'w, W: Write> Observer<FlatTask> for Tracer<'w, W> {
 
     ghost sees = { HasTraced W.contents };
 
-    fn observe(&mut self, task: &Layered<FlatTask>, step: usize, operator: u32, state: &State) {
+    fn observe(
+        &mut self,
+        task: &Layered<FlatTask>,
+        step: usize,
+        operator: u32,
+        derived: Option<&[u32]>,
+        state: &State,
+    ) {
         let mut sink = Sink {
             out: self.out,
             pieces: self.pieces,
@@ -128,7 +143,8 @@ impl<'w, W: Write> Observer<FlatTask> for Tracer<'w, W> {
             status: self.status,
         };
         push_step_line(&mut sink, task, step, operator);
-        self.printed.push_step(&mut sink, task, operator, state);
+        self.printed.list(task, operator, derived, state);
+        self.printed.push_listed(&mut sink, task, state);
         self.short = sink.short;
     }
 }
@@ -157,26 +173,29 @@ impl Printed {
         })
     }
 
-    /// Adds the lines of what the step of this operator changed to the text. It led to this state.
-    fn push_step<W: Write>(
+    /// Lists the variables whose values the step of this operator may have changed, in ascending order. It led to this state. `derived` has
+    /// the derived ones, if they are known.
+    fn list(
         &mut self,
-        sink: &mut Sink<'_, W>,
         task: &Layered<FlatTask>,
         operator: u32,
+        derived: Option<&[u32]>,
         state: &State,
     )
         requires listing { CanList task.now self.old.listing }
         requires operator { operator < length task.now.operators }
-        requires fits { IsState task.now.variables self.old.values }
+        requires fits { length self.old.values ≡ length task.now.variables }
         requires step { Step task.now self.old.values (operator_at task.now operator) state.now }
-        ensures pushes { Pushes W.contents sink.old sink.new
-            (text (change_lines task.now self.old.values state.now)) }
-        ensures printed { self.new.values ≡ state.now }
+        requires derived { IfSome derived (λ listed.
+            ListsDerived task.now self.old.values state.now listed.now) }
+        ensures cover { ListCoversChanges self.new.values state.now self.new.listing.vars.items }
+        ensures ascending { IsNonDecreasing self.new.listing.vars.items }
         ensures listing { CanList task.now self.new.listing }
+        ensures values { self.new.values ≡ self.old.values }
     {
-        self.listing.list(task, operator, &self.values, state);
+        self.listing
+            .list(task, operator, derived, &self.values, state);
         self.listing.vars.sort_unstable();
-        self.push_listed(sink, task, state);
     }
 
     /// Adds the lines of the variables that are listed, where their values in the state aren't those that were printed. All others

@@ -6,8 +6,9 @@ ghost use Rattle.sas_run.specs.Choosers.{HaveOperators};
 ghost use Rattle.sas_run.specs.Stepping.{IsPrepared};
 ghost use Rattle.sas_plan_reasons.specs.VerdictBy.{VerdictBy};
 
+use crate::detail::Detail;
 use crate::writing::{write_explained, write_trace};
-use sas_answers::{Answer, Detail, Status, ToolFault, accept_plan, answer_fault};
+use sas_answers::{Answer, Status, ToolFault, accept_plan, answer_fault};
 use sas_axioms::Worklist;
 use sas_core::Stepwise;
 use sas_flat::{FlatPlan, FlatTask};
@@ -67,10 +68,12 @@ pub fn answer_named<W: Write, E: Settle<FlatTask> + Drop>(
         (λ output. IsSomeAnd output (VerdictBy detail named.now.task.now named.now.plan.now)))
         out.old out.new result }
 {
-    match detail {
-        Detail::Plain => verdict_answer(alloc, stepper, named)?.write(out),
-        Detail::Reasons => write_explained(alloc, stepper, named, out),
-        Detail::Trace => write_trace(alloc, stepper, named, out),
+    if detail.trace {
+        write_trace(alloc, detail.reasons, stepper, named, out)
+    } else if detail.reasons {
+        write_explained(alloc, stepper, named, out)
+    } else {
+        verdict_answer(alloc, stepper, named)?.write(out)
     }
 }
 

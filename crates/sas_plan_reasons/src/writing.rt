@@ -1,8 +1,8 @@
 // The answers about a plan with the reasons why it isn't valid, or with its trace, as they go out.
-ghost use Rattle.std.specs.Prelude.{◌≡◌, ◌↔◌, ℕ, List, Some, None, false, All, IfOk, IfSome, IsFalse, IsSomeAnd, slice_index_or};
+ghost use Rattle.std.specs.Prelude.{◌≡◌, ◌↔◌, ◌++◌, ℕ, List, Some, None, false, All, IfOk, IfSome, IsFalse, IsSomeAnd, slice_index_or};
 ghost use Rattle.sas_core.specs.declared.parts.Parts.{Parts};
 ghost use Rattle.sas_answers.specs.Ending.{EndsCounting, Writes, output_of};
-ghost use Rattle.sas_names.specs.Nameless.{nameless_steps};
+ghost use Rattle.sas_answers.specs.Line.{reasons_text};
 ghost use Rattle.sas_run.specs.Choosers.{HaveOperators};
 ghost use Rattle.sas_run.specs.Plans.{IsValid};
 ghost use Rattle.sas_run.specs.Runs.{IsEnding, Run, RunEndsWith};
@@ -10,11 +10,12 @@ ghost use Rattle.sas_run.specs.Stepping.{IsPrepared};
 ghost use Rattle.sas_run.specs.declared.plan_check.PlanFault.TheVariants.{NoOperator};
 ghost use Rattle.sas_plan_reasons.specs.MayMean.{HaveNoNamesakes};
 ghost use Rattle.sas_plan_reasons.specs.Retracing.{Retraces, ComesUnambiguously};
-ghost use Rattle.sas_plan_reasons.specs.Traced.{EndsWith, IsTraced};
+ghost use Rattle.sas_plan_reasons.specs.Traced.{EndsWith, TraceVerdict};
 ghost use Rattle.sas_plan_reasons.specs.Verdict.{WhyVerdict, MakeAnswer};
 
-use crate::faults::{reasons, unknown};
+use crate::faults::reasons;
 use crate::history::{Historian, PlanHistory};
+use crate::nameless::{NamelessSteps, unknown};
 use crate::tracing::{Printed, Tracer};
 use sas_answers::{
     Answer, Line, NameSource, Pieces, Status, ToolFault, accept_plan, answer_fault, write_reasons,
@@ -23,8 +24,8 @@ use sas_core::Stepwise;
 use sas_flat::{FlatPlan, FlatTask};
 use sas_lines::Watched;
 use sas_meaning::Settle;
-use sas_names::{nameless, next_in};
-use sas_run::{NamedPlan, PlanFault, Stepper, find_end, initial_of, replay};
+use sas_names::next_in;
+use sas_run::{NamedPlan, PlanEnd, PlanFault, Stepper, find_end, initial_of, replay};
 use std::alloc::{AllocError, Global};
 use std::io::Write;
 
@@ -69,6 +70,24 @@ fn explain_plan<E: Settle<FlatTask> + Drop>(
         MakeAnswer named.now.task.now named.now.plan.now found.0 found.1.items) }
 {
     let end = find_end(alloc, named.task, stepper, named)?;
+    explain_end(alloc, stepper, named, end)
+}
+
+/// Returns the verdict on a plan that ends so, and the reasons for it.
+fn explain_end<E: Settle<FlatTask> + Drop>(
+    alloc: Global,
+    stepper: &mut Stepper<E>,
+    named: &NamedPlan<'_, FlatTask, FlatPlan>,
+    end: PlanEnd,
+) -> Result<(Answer, Vec<Line>), AllocError>
+    requires prepared { IsPrepared E.ready named.now.task.now stepper.old }
+    requires named { HaveOperators named.now.task.now named.now.plan.now
+        named.now.firsts.now named.now.nexts.now named.now.long.now }
+    requires ends { IsEnding named.now.task.now named.now.plan.now end.operators.items end.fault }
+    ensures prepared { IsPrepared E.ready named.now.task.now stepper.new }
+    ensures answer { IfOk result (λ found.
+        MakeAnswer named.now.task.now named.now.plan.now found.0 found.1.items) }
+{
     match end.fault {
         None => explain_valid(alloc, named.plan),
         Some(fault) => explain_invalid(alloc, stepper, named, end.operators, fault),
@@ -130,6 +149,7 @@ fn retrace<E: Settle<FlatTask> + Drop>(
     ensures retraced { IfOk result (λ history. (run : Run)
         × Retraces named.now.task.now named.now.plan.now history run) }
 {
+    let nameless = NamelessSteps::new(alloc, named.task, named.firsts)?;
     let mut last = initial_of(alloc, named.task, stepper)?;
     let mut noted = Historian::new(alloc, named.task, named.nexts, &last)?;
     replay(
@@ -142,7 +162,7 @@ fn retrace<E: Settle<FlatTask> + Drop>(
     let (since, other) = noted.into_parts();
     Ok(PlanHistory {
         fault,
-        nameless: nameless(named.task, named.firsts),
+        nameless,
         operators,
         last,
         since,
@@ -173,8 +193,8 @@ fn explain_unknown(
     ensures { IfOk result (λ found.
         MakeAnswer named.now.task.now named.now.plan.now found.0 found.1.items) }
 {
-    let count = nameless(named.task, named.firsts);
-    let lines = unknown(alloc, named.task, named.plan, step, count)?;
+    let nameless = NamelessSteps::new(alloc, named.task, named.firsts)?;
+    let lines = unknown(alloc, named.task, named.plan, &nameless)?;
     let verdict = answer_fault(alloc, named.plan.cost(), PlanFault::NoOperator { step })?;
     Ok((verdict, lines.into_vec()))
 }
@@ -199,6 +219,7 @@ fn explain_fault(
 /// byte. Not to be called after a failure.
 pub fn write_trace<W: Write, E: Settle<FlatTask> + Drop>(
     alloc: Global,
+    with_reasons: bool,
     stepper: &mut Stepper<E>,
     named: &NamedPlan<'_, FlatTask, FlatPlan>,
     out: &mut Watched<W>,
@@ -208,15 +229,20 @@ pub fn write_trace<W: Write, E: Settle<FlatTask> + Drop>(
         named.now.firsts.now named.now.nexts.now named.now.long.now }
     requires out { out.old.failed ≡ false }
     ensures prepared { IsPrepared E.ready named.now.task.now stepper.new }
-    ensures writes { Writes W.contents
-        (EndsCounting (IsTraced named.now.task.now named.now.plan.now)) out.old out.new result }
+    ensures writes { Writes W.contents (EndsCounting (λ output. IsSomeAnd output
+        (TraceVerdict with_reasons named.now.task.now named.now.plan.now)))
+        out.old out.new result }
 {
     // What takes memory comes first.
     let end = find_end(alloc, named.task, stepper, named)?;
-    let verdict = verdict_on(alloc, named.plan, end.fault)?;
+    let (verdict, reasons) = answer_end(alloc, with_reasons, stepper, named, &end)?;
     let mut state = initial_of(alloc, named.task, stepper)?;
     let mut printed = Printed::new(alloc, named.task, &state)?;
     let mut pieces = Pieces::new(alloc)?;
+    let source = NameSource {
+        task: named.task.task(),
+        plan: Some(named.plan),
+    };
     let ended = {
         let mut tracer = Tracer::new(verdict.status, &mut printed, &mut pieces, out);
         tracer.push_initial(named.task, &state);
@@ -227,13 +253,44 @@ pub fn write_trace<W: Write, E: Settle<FlatTask> + Drop>(
             &mut state,
             &mut tracer,
         );
-        tracer.push(verdict.text.as_slice());
+        tracer.push_answer(verdict.text.as_slice(), &source, reasons.as_slice());
         tracer.finish()
     };
     drop(printed);
     drop(pieces);
+    drop(reasons);
     drop(verdict);
     ended
+}
+
+/// Returns the verdict on a plan that ends so, and if wanted the reasons for it.
+fn answer_end<E: Settle<FlatTask> + Drop>(
+    alloc: Global,
+    with_reasons: bool,
+    stepper: &mut Stepper<E>,
+    named: &NamedPlan<'_, FlatTask, FlatPlan>,
+    end: &PlanEnd,
+) -> Result<(Answer, Vec<Line>), AllocError>
+    requires prepared { IsPrepared E.ready named.now.task.now stepper.old }
+    requires named { HaveOperators named.now.task.now named.now.plan.now
+        named.now.firsts.now named.now.nexts.now named.now.long.now }
+    requires ends { IsEnding named.now.task.now named.now.plan.now
+        end.now.operators.items end.now.fault }
+    ensures prepared { IsPrepared E.ready named.now.task.now stepper.new }
+    ensures answer { IfOk result (λ found. (run : Run)
+        → RunEndsWith named.now.task.now named.now.plan.now run end.now.fault
+        → EndsWith with_reasons named.now.task.now named.now.plan.now run (record {
+          text = found.0.text.items
+              ++ reasons_text named.now.task.now named.now.plan.now.steps found.1.items;
+          status = found.0.status;
+        })) }
+{
+    if with_reasons {
+        let operators = Vec::from_slice(alloc, end.operators.as_slice())?;
+        let fault = end.fault;
+        return explain_end(alloc, stepper, named, PlanEnd { operators, fault });
+    }
+    Ok((verdict_on(alloc, named.plan, end.fault)?, Vec::new(alloc)))
 }
 
 /// Returns the verdict on a plan with this fault, or on a valid plan.
@@ -243,7 +300,7 @@ fn verdict_on(
     fault: Option<PlanFault>,
 ) -> Result<Answer, AllocError>
     ensures { IfOk result (λ verdict. (p : Parts) (run : Run) → RunEndsWith p plan.now run fault
-        → EndsWith p plan.now run (output_of verdict)) }
+        → EndsWith false p plan.now run (output_of verdict)) }
 {
     match fault {
         None => accept_plan(alloc, plan.steps(), plan.cost()),

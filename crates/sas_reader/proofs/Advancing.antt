@@ -124,7 +124,7 @@ module _ {M : Type 0} (B : Behavior M) where
 
   -- the reader refuses the first line of the piece, or is out of memory
   pub stopped_at : (r s : Reader M) (piece line : List ℕ) (n : ℕ) (complete : Bool) (next : Progress) (k : Kind) → 0 < length piece → (B.ended r.machine → ⊥) → not complete ≡ false → Fed r.pending.pending next piece n complete
-      → line ≡ next.line → r.taken + length piece ≤ r.limit → IsOfBytes k → (k ≢ kinds.Memory → B.rejects r.machine line k) → (k ≢ kinds.Memory → B.stopped r.machine line k s.machine) → IsFoundOf line s.found → s.lines ≡ r.lines → Stopped B r s piece k
+      → line ≡ next.line → r.taken + length piece ≤ r.limit → IsOfBytes k → (k ≢ kinds.Memory → B.rejects r.machine line k) → (k ≢ kinds.Memory → B.stopped r.machine line k s.machine) → IsFoundOf k line s.found → s.lines ≡ r.lines → Stopped B r s piece k
   stopped_at r s piece line n complete next k some going whole fed line_is fits of_bytes refused behind known same =
       let yes = is_true complete whole in
       let takes : TakesLine piece n true = subst (λ b. TakesLine piece n b) yes fed.taken in
@@ -138,7 +138,7 @@ module _ {M : Type 0} (B : Behavior M) where
 
   -- the same if nothing is pending
   pub stopped_whole : (r s : Reader M) (piece line : List ℕ) (n : ℕ) (k : Kind) → 0 < length piece → (B.ended r.machine → ⊥) → r.pending.pending ≡ [] → LineStandsFirst piece line n
-      → r.taken + length piece ≤ r.limit → IsOfBytes k → (k ≢ kinds.Memory → B.rejects r.machine line k) → (k ≢ kinds.Memory → B.stopped r.machine line k s.machine) → IsFoundOf line s.found → s.lines ≡ r.lines → Stopped B r s piece k
+      → r.taken + length piece ≤ r.limit → IsOfBytes k → (k ≢ kinds.Memory → B.rejects r.machine line k) → (k ≢ kinds.Memory → B.stopped r.machine line k s.machine) → IsFoundOf k line s.found → s.lines ≡ r.lines → Stopped B r s piece k
   stopped_whole r s piece line n k some going nothing whole fits of_bytes refused behind known same =
       stopped_at r s piece line n true (record { line = line; pending = [] }) k some going refl (fed_whole r.pending.pending piece line n nothing whole) refl fits of_bytes refused behind known same
 
@@ -159,7 +159,7 @@ module _ {M : Type 0} (B : Behavior M) where
   }
 
   -- and no byte after the end of the machine
-  pub stopped_over : (r s : Reader M) (piece : List ℕ) → 0 < length piece → r.taken < r.limit → B.ended r.machine → s.machine ≡ r.machine → s.lines ≡ r.lines → IsFoundOf (take 1 piece) s.found → Stopped B r s piece kinds.Trailing
+  pub stopped_over : (r s : Reader M) (piece : List ℕ) → 0 < length piece → r.taken < r.limit → B.ended r.machine → s.machine ≡ r.machine → s.lines ≡ r.lines → IsFoundOf kinds.Trailing (take 1 piece) s.found → Stopped B r s piece kinds.Trailing
   stopped_over r s piece some room d stays same known = record {
     kind = ((λ e. absurd cc), (λ e. absurd cc));
     fault = λ ne bytes h. fault_over B r.limit r.machine bytes piece (record { line = s.lines + 1; kind = kinds.Trailing }) s.machine s.found some h.reached (ap (λ (x : ℕ). x + 1) (same ∙ h.lines)) (omega (arith, h.taken, room)) d refl stays known;

@@ -1,10 +1,10 @@
 -- Why a reader refuses the input at its end.
-use Rattle.sas_reader.proofs.Imports.{Behavior, ◌≡◌, ℕ, ◌+◌, List, refl, sym, ap, subst, ◌∙◌, arith, inl, inr, Option, Some, None, Fault, Excerpt, Reader, IsFoundOf, FaultIn, RefusedAtEnd}
+use Rattle.sas_reader.proofs.Imports.{Behavior, ◌≡◌, ℕ, ◌+◌, List, refl, sym, ap, subst, ◌∙◌, arith, inl, inr, Option, Some, None, Fault, Kind, unfinished, Excerpt, Reader, IsFoundOf, FaultIn, RefusedAtEnd}
 use Rattle.sas_reader.specs.declared.fault.Kind.TheVariants as kinds
 use Rattle.sas_reader.proofs.Standing.{accepted_of, fault_of}
 
 module _ {M : Type 0} (B : Behavior M) where
-  module _ (r : Reader M) (f : Fault) (found : Excerpt) (kept : (g : Fault) → r.fault ≡ Some g → (f ≡ g) × (found ≡ r.found)) (early : r.fault ≡ None → (B.ended r.machine → ⊥) × (f.line ≡ r.lines + 1) × (f.kind ≡ kinds.End)) (rest : r.fault ≡ None → IsFoundOf r.pending.pending found) where
+  module _ (r : Reader M) (f : Fault) (found : Excerpt) (kept : (g : Fault) → r.fault ≡ Some g → (f ≡ g) × (found ≡ r.found)) (early : r.fault ≡ None → (B.ended r.machine → ⊥) × (f.line ≡ r.lines + 1) × (f.kind ≡ kinds.End)) (rest : r.fault ≡ None → IsFoundOf kinds.End r.pending.pending found) where
     refused_by : (o : Option Fault) → r.fault ≡ o → RefusedAtEnd B r (record { fault = f; machine = r.machine; found = found })
     refused_by (Some g) is =
         let k = kept g is in
@@ -25,7 +25,7 @@ module _ {M : Type 0} (B : Behavior M) where
                 short = omega (arith, h.taken, r.within);
                 line = end.1 ∙ ap (λ (n : ℕ). n + 1) h.lines;
                 kind = end.2;
-                rest = subst (λ (x : List ℕ). IsFoundOf x found) h.pending (rest is);
+                rest = subst (λ (k : Kind). IsFoundOf k (unfinished bytes) found) (sym end.2) (subst (λ (x : List ℕ). IsFoundOf kinds.End x found) h.pending (rest is));
               });
           memory = λ e. let x : kinds.End ≡ kinds.Memory = sym end.2 ∙ e in absurd cc;
           read = λ e. let x : kinds.End ≡ kinds.Read = sym end.2 ∙ e in absurd cc;

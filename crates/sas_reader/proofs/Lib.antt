@@ -1,4 +1,5 @@
 pub mod Plain
+mod Fronts
 pub mod PlainBytes
 pub mod Paths
 pub mod Live

@@ -94,12 +94,12 @@ module _ {M : Type 0} (B : Behavior M) where
   pub fault_full : (limit : ℕ) (m : M) (bytes piece : List ℕ) (f : Fault) (now : M) (found : Excerpt) → 0 < length piece → Reached B m bytes → f.line ≡ length (lines bytes) + 1 → length bytes ≡ limit → f.kind ≡ kinds.TooLong → FaultBehind B limit bytes piece f now found
   fault_full limit m bytes piece f now found some h line l k = fault_first limit m bytes piece f now found some h line (λ byte e. full l k)
 
-  pub fault_over : (limit : ℕ) (m : M) (bytes piece : List ℕ) (f : Fault) (now : M) (found : Excerpt) → 0 < length piece → Reached B m bytes → f.line ≡ length (lines bytes) + 1 → length bytes + 1 ≤ limit → B.ended m → f.kind ≡ kinds.Trailing → now ≡ m → IsFoundOf (take 1 piece) found → FaultBehind B limit bytes piece f now found
-  fault_over limit m bytes piece f now found some h line l d k stays is = fault_first limit m bytes piece f now found some h line (λ byte e. over l d k stays (subst (λ (x : List ℕ). IsFoundOf x found) e is))
+  pub fault_over : (limit : ℕ) (m : M) (bytes piece : List ℕ) (f : Fault) (now : M) (found : Excerpt) → 0 < length piece → Reached B m bytes → f.line ≡ length (lines bytes) + 1 → length bytes + 1 ≤ limit → B.ended m → f.kind ≡ kinds.Trailing → now ≡ m → IsFoundOf f.kind (take 1 piece) found → FaultBehind B limit bytes piece f now found
+  fault_over limit m bytes piece f now found some h line l d k stays is = fault_first limit m bytes piece f now found some h line (λ byte e. over l d k stays (subst (λ (x : List ℕ). IsFoundOf f.kind x found) e is))
 
   -- its first line is rejected
   pub fault_line : (limit : ℕ) (m : M) (bytes piece pending line : List ℕ) (n : ℕ) (f : Fault) (now : M) (found : Excerpt) → Reached B m bytes → (B.ended m → ⊥) → TakesLine piece n true → pending ≡ unfinished bytes → lines (pending ++ take n piece) ≡ line ∷ [] → length bytes + n ≤ limit → f.line ≡ length (lines bytes) + 1
-      → B.rejects m line f.kind → B.stopped m line f.kind now → IsFoundOf line found → FaultBehind B limit bytes piece f now found
+      → B.rejects m line f.kind → B.stopped m line f.kind now → IsFoundOf f.kind line found → FaultBehind B limit bytes piece f now found
   fault_line limit m bytes piece pending line n f now found h going t p e room at_line r behind known =
       let front = t.0 in
       let taken : take n piece ≡ front ++ 10 ∷ [] = ap (λ (x : ℕ). take x piece) t.4 ∙ ap (take (length front + 1)) t.3 ∙ take-append-add front (10 ∷ t.1) 1 in
@@ -113,7 +113,7 @@ module _ {M : Type 0} (B : Behavior M) where
         whole = t.3;
         reached = record { led = subst (λ (l : List (List ℕ)). B.led_by l m) (sym same) h.led; rest = λ d. absurd (going d) };
         line = at_line ∙ ap (λ (l : List (List ℕ)). length l + 1) (sym same);
-        stops = rejected (omega (arith, length-append bytes front, room, t.4)) going refl (subst (λ (x : List ℕ). B.rejects m x f.kind) is r) (subst (λ (x : List ℕ). B.stopped m x f.kind now) is behind) (subst (λ (x : List ℕ). IsFoundOf x found) is known);
+        stops = rejected (omega (arith, length-append bytes front, room, t.4)) going refl (subst (λ (x : List ℕ). B.rejects m x f.kind) is r) (subst (λ (x : List ℕ). B.stopped m x f.kind now) is behind) (subst (λ (x : List ℕ). IsFoundOf f.kind x found) is known);
       }
 
   -- a fault in a prefix of a piece

@@ -10,7 +10,7 @@ module _ {T V I S M : Type 0} (F : Format V I S) (Fits : I → Type 0) (node : T
     pub accepted : List (List ℕ)
     pub text : List ℕ
     pub about : IsAbout F limit bytes f accepted text
-    pub kept : IsFoundOf text found
+    pub kept : IsFoundOf f.kind text found
     pub stands : StandsBehind B accepted text f.kind now
 
   fault_reported : (limit : ℕ) (bytes : List ℕ) (f : Fault) (now : M) (found : Excerpt) → ConcernsText f.kind → (h : FaultIn B limit bytes f now found) → Stops B limit h.machine h.front h.byte f.kind now found → Answer limit bytes f now found
@@ -67,13 +67,13 @@ module _ {T V I S M : Type 0} (F : Format V I S) (Fits : I → Type 0) (node : T
   -- ---- a refusal X that is made from that of the machine
 
   module _ {X : Type 0} (fault : X → Fault) (found : X → Excerpt) (Why : List (List ℕ) → List ℕ → X → Type 0) (r : Refusal M) (x : X) (same : fault x ≡ r.fault) (same_found : found x ≡ r.found)
-      (why : (a : List (List ℕ)) (t : List ℕ) → StandsBehind B a t r.fault.kind r.machine → IsFoundOf t r.found → Why a t x) where
+      (why : (a : List (List ℕ)) (t : List ℕ) → StandsBehind B a t r.fault.kind r.machine → IsFoundOf r.fault.kind t r.found → Why a t x) where
     pub explains : (bytes : List ℕ) → Answer most_bytes bytes r.fault r.machine r.found → ExplainsRefusal F fault found Why bytes x
     explains bytes w = record {
       accepted = w.accepted;
       text = w.text;
       about = subst (λ (f : Fault). IsAbout F most_bytes bytes f w.accepted w.text) (sym same) w.about;
-      kept = subst (IsFoundOf w.text) (sym same_found) w.kept;
+      kept = subst (λ (f : Fault). IsFoundOf f.kind w.text (found x)) (sym same) (subst (IsFoundOf r.fault.kind w.text) (sym same_found) w.kept);
       why = why w.accepted w.text w.stands w.kept;
     }
 

@@ -36,7 +36,7 @@ module _ {M : Type 0} (B : Behavior M) where
     pub short : length bytes ≤ limit
     pub line : f.line ≡ length (lines bytes) + 1
     pub kind : f.kind ≡ kinds.End
-    pub rest : IsFoundOf (unfinished bytes) found
+    pub rest : IsFoundOf f.kind (unfinished bytes) found
 
   -- a line is expected within the piece: after some proper prefix of it, the machine has not ended,
   -- and the limit isn't reached
@@ -56,11 +56,11 @@ module _ {M : Type 0} (B : Behavior M) where
     full : length bytes ≡ limit → k ≡ kinds.TooLong
         → Stops limit machine bytes byte k now found
     over : length bytes + 1 ≤ limit → B.ended machine → k ≡ kinds.Trailing → now ≡ machine
-        → IsFoundOf (byte ∷ []) found → Stops limit machine bytes byte k now found
+        → IsFoundOf k (byte ∷ []) found → Stops limit machine bytes byte k now found
     rejected : length bytes + 1 ≤ limit → (B.ended machine → ⊥) → byte ≡ 10
         → B.rejects machine (without_return (unfinished bytes)) k
         → B.stopped machine (without_return (unfinished bytes)) k now
-        → IsFoundOf (without_return (unfinished bytes)) found
+        → IsFoundOf k (without_return (unfinished bytes)) found
         → Stops limit machine bytes byte k now found
 
   -- a piece after these bytes has this fault with this text, and the machine is in this state

@@ -28,7 +28,7 @@ module _ {V I S R : Type 0} (F : Format V I S) (fault : R → Fault) (found : R 
     pub accepted : List (List ℕ)
     pub text : List ℕ
     pub about : IsAbout F most_bytes bytes (fault r) accepted text
-    pub kept : IsFoundOf text (found r)
+    pub kept : IsFoundOf (fault r).kind text (found r)
     pub why : Why accepted text r
 
   module _ {D A : Type 0} (left : D → Option (List ℕ)) (Gives : List ℕ → A → Type 0) where

@@ -141,7 +141,7 @@ impl<M: Machine> Reader<M> {
                 Ok(fed.taken)
             }
             Err(kind) => {
-                self.found = Excerpt::of(self.pending.line());
+                self.found = Excerpt::of(kind, self.pending.line());
                 Err(kind)
             }
         }
@@ -166,7 +166,7 @@ impl<M: Machine> Reader<M> {
             return Err(Kind::TooLong);
         }
         if self.machine.has_ended() {
-            self.found = Excerpt::of(&within[..1]);
+            self.found = Excerpt::of(Kind::Trailing, &within[..1]);
             return Err(Kind::Trailing);
         }
         // A line that is whole in the piece is judged in place. Only a line that is cut is copied.
@@ -183,7 +183,7 @@ impl<M: Machine> Reader<M> {
                 Ok(first.taken)
             }
             Err(kind) => {
-                self.found = Excerpt::of(first.line);
+                self.found = Excerpt::of(kind, first.line);
                 Err(kind)
             }
         }
@@ -324,12 +324,12 @@ impl<M: Machine> Reader<M> {
 
     /// Returns the text at the fault if the input ends here: that of the first fault, or the pending line.
     fn found_at_end(&self) -> Excerpt
-        ensures early { self.now.fault ≡ None → IsFoundOf self.now.pending.pending result }
+        ensures early { self.now.fault ≡ None → IsFoundOf Kind.End self.now.pending.pending result }
         ensures kept { (f : Fault) → self.now.fault ≡ Some f → result ≡ self.now.found }
     {
         match self.fault {
             Some(_) => self.found,
-            None => Excerpt::of(self.pending.pending()),
+            None => Excerpt::of(Kind::End, self.pending.pending()),
         }
     }
 

@@ -1,15 +1,15 @@
 -- How the output about one file goes out.
 use Rattle.std.proofs.lemmas.Grind.{common_steps}
-use Rattle.std.proofs.Common.{arith, ap, take}
-use Rattle.std.proofs.lemmas.List.{length-take, take_all}
-use Rattle.sas_requests.specs.Answering.{first_bytes}
-use Rattle.sas_requests.proofs.Imports.{◌≡◌, ◌≢◌, ℕ, ◌<◌, Bool, true, false, IsTrue, List, [], refl, sym, subst, ◌∙◌, inr, codes, Option, Some, None, Result, Ok, Err, nat_lt, IsErrOf, IsSomeAnd, ◌↔◌, Consumes, IsAtEnd, Parts, PlanParts, first_fault, LayerFault, layer_checks, Device, Fault, TooLong, Read, Memory, Excerpt, ReadsAll, ValueOf, Format, ReadsAs, Detail, Reasons, FileBy, TaskBy, PlanBy, UnlayeredBy, layers_by, refusal_by, task_refusal_lines, plan_refusal_lines, FaultReasons, reported, past_limit, FileReasons, AreTaskReasons, ArePlanReasons, IsFoundOf, most_bytes, ConcernsText, AboutLaws, ExplainsRefusal, ReadsOrExplains, known_answer, known_fault, known_explained, PlanRefusal, plan_format, fault_of, found_of, TellsLineEnd, EndsUnended, length, ReadsPlan, less, is_less, task_format, TaskRefusal, fault_in, found_in, HasReason, ReadsTask, FileLine, file_text, Status, ToolFault, Output, Ends, EndsCounting, IsDecided, Writes, Answers, ends_by, writes_as, writes_counting, writes_answers, answers_by, not_memory, refusal, IsAnswerOrRefusal, FileOut, EndsFile}
+use Rattle.std.proofs.Common.{arith, ap}
+use Rattle.sas_reader.specs.Found.{Kept}
+use Rattle.sas_requests.specs.FileLine.{task_reasons, plan_reasons}
+use Rattle.sas_requests.proofs.Imports.{◌≡◌, ◌≢◌, ℕ, true, false, List, [], refl, sym, subst, ◌∙◌, inr, codes, Option, Some, None, Result, Ok, Err, IsErrOf, IsSomeAnd, ◌↔◌, Consumes, IsAtEnd, Parts, PlanParts, first_fault, LayerFault, layer_checks, Device, Fault, TooLong, Read, Memory, Excerpt, ReadsAll, ValueOf, Format, ReadsAs, Bool, FileBy, TaskBy, PlanBy, UnlayeredBy, layers_by, refusal_by, task_refusal_lines, plan_refusal_lines, FaultReasons, reported, past_limit, FileReasons, AreTaskReasons, ArePlanReasons, IsAbout, IsFoundOf, most_bytes, ConcernsText, AboutLaws, ExplainsRefusal, ReadsOrExplains, known_answer, known_fault, known_explained, PlanRefusal, plan_format, fault_of, found_of, TellsLacks, ReadsPlan, less, task_format, TaskRefusal, fault_in, found_in, HasReason, ReadsTask, FileLine, file_text, Status, ToolFault, Output, Ends, EndsCounting, IsDecided, Writes, Answers, ends_by, writes_as, writes_counting, writes_answers, answers_by, not_memory, refusal, IsAnswerOrRefusal, FileOut, EndsFile}
 use Rattle.sas_plan_file.specs.PlanRefusal.{ExplainsPlan}
 use Rattle.sas_requests.proofs.Outputs.{refused_kind, too_long_else, reading_of_refusal}
 use Rattle.sas_requests.proofs.PlanOutputs.{reported_fault}
 use Rattle.sas_meaning.specs.declared.layered.LayerFault.TheVariants as layer_fault
 use Rattle.sas_answers.specs.declared.ending.ToolFault.TheVariants as tool_fault
-use Rattle.sas_requests.proofs.RefusalLaws.{Unended, task_reporting, plan_reporting, task_unended, plan_unended}
+use Rattle.sas_requests.proofs.RefusalLaws.{task_reporting, plan_reporting, task_unended, plan_unended, plan_without_cost}
 use Rattle.sas_requests.proofs.RefusalReasons.{some_of, reasoned_by, more_reasoned, reported_alone}
 
 -- ---- what is written
@@ -34,56 +34,52 @@ starved contents old o working = record { ends = tt; nothing = inr (refl, refl);
 
 -- ---- the output about the bytes of a file
 
-module _ {V I S : Type 0} (F : Format V I S) (Reports : Fault → List (List ℕ) → List ℕ → Bool → List FileLine → Type 0) (name : List ℕ) where
+module _ {V I S : Type 0} (F : Format V I S) (Reports : List ℕ → Fault → List (List ℕ) → List ℕ → List FileLine → Type 0) (name : List ℕ) where
   -- an answer about their value
-  value_by : (detail : Detail) (IsAnswer : V → Output → Type 0) (b : List ℕ) (v : V) (o : Output) → ReadsAs F most_bytes b (Ok v) → IsAnswer v o → FileBy F Reports name detail IsAnswer b (Some o)
-  value_by detail IsAnswer b v o reads is =
-      reasoned_by detail (FileOut F name IsAnswer b) (FileReasons F Reports b) (Some o) (Some o) [] (Ok v, reads, (o, is, refl)) (Ok v, reads, refl) (reported_alone detail (Some o))
+  value_by : (explains : Bool) (IsAnswer : V → Output → Type 0) (b : List ℕ) (v : V) (o : Output) → ReadsAs F most_bytes b (Ok v) → IsAnswer v o → FileBy F Reports name explains IsAnswer b (Some o)
+  value_by explains IsAnswer b v o reads is =
+      reasoned_by explains (FileOut F name IsAnswer b) (FileReasons F Reports b) (Some o) (Some o) [] (Ok v, reads, (o, is, refl)) (Ok v, reads, refl) (reported_alone explains (Some o))
 
   -- other answers that follow
   more_read : (A B : V → Output → Type 0) → ((v : V) (o : Output) → A v o → B v o) → (r : Result V Fault) (o : Option Output) → IsAnswerOrRefusal name A r o → IsAnswerOrRefusal name B r o
   more_read h1 h2 to h3 o h4 = grind arith
 
-  more_by : (detail : Detail) (A B : V → Output → Type 0) → ((v : V) (o : Output) → A v o → B v o) → (b : List ℕ) (o : Option Output) → FileBy F Reports name detail A b o → FileBy F Reports name detail B b o
-  more_by detail h1 h2 to b = grind (arith, more_reasoned, more_read)
+  more_by : (explains : Bool) (A B : V → Output → Type 0) → ((v : V) (o : Output) → A v o → B v o) → (b : List ℕ) (o : Option Output) → FileBy F Reports name explains A b o → FileBy F Reports name explains B b o
+  more_by explains h1 h2 to b = grind (arith, more_reasoned, more_read)
 
   module _ (f : Fault) (reasons : List FileLine) where
     plain_kind : (o : Output) → refusal name f ≡ Some o → ConcernsText f.kind
     plain_kind o refused = (refused_kind f.kind Read _ o refl refused, refused_kind f.kind TooLong _ o refl refused, refused_kind f.kind Memory _ o refl refused)
 
     -- the kind of a fault that is refused
-    reported_kind : (detail : Detail) (o : Output) → Some o ≡ refusal_by detail name f reasons → ConcernsText f.kind
-    reported_kind Reasons o is = let (plain, refused, same) = some_of (file_text reasons) (refusal name f) o is in plain_kind plain refused
-    reported_kind detail o is = plain_kind o (sym is)
+    reported_kind : (explains : Bool) (o : Output) → Some o ≡ refusal_by explains name f reasons → ConcernsText f.kind
+    reported_kind true o is = let (plain, refused, same) = some_of (file_text reasons) (refusal name f) o is in plain_kind plain refused
+    reported_kind false o is = plain_kind o (sym is)
 
-    module _ (detail : Detail) (IsAnswer : V → Output → Type 0) (b : List ℕ) (reads : ReadsAs F most_bytes b (Err f)) where
+    module _ (explains : Bool) (IsAnswer : V → Output → Type 0) (b : List ℕ) (reads : ReadsAs F most_bytes b (Err f)) where
       -- the refusal
-      refused_by : (o : Output) → Some o ≡ refusal_by detail name f reasons → FaultReasons F Reports b f reasons → FileBy F Reports name detail IsAnswer b (Some o)
-      refused_by o is why = reasoned_by detail (FileOut F name IsAnswer b) (FileReasons F Reports b) (refusal name f) (Some o) reasons (Err f, reads, refl) (Err f, reads, why) is
+      refused_by : (o : Output) → Some o ≡ refusal_by explains name f reasons → FaultReasons F Reports b f reasons → FileBy F Reports name explains IsAnswer b (Some o)
+      refused_by o is why = reasoned_by explains (FileOut F name IsAnswer b) (FileReasons F Reports b) (refusal name f) (Some o) reasons (Err f, reads, refl) (Err f, reads, why) is
 
       -- or none, past the limit
-      long_by : f.kind ≡ TooLong → FileBy F Reports name detail IsAnswer b None
-      long_by long = reasoned_by detail (FileOut F name IsAnswer b) (FileReasons F Reports b) None None [] (Err f, reads, rw long refl) (Err f, reads, past_limit long refl) (reported_alone detail None)
+      long_by : f.kind ≡ TooLong → FileBy F Reports name explains IsAnswer b None
+      long_by long = reasoned_by explains (FileOut F name IsAnswer b) (FileReasons F Reports b) None None [] (Err f, reads, rw long refl) (Err f, reads, past_limit long refl) (reported_alone explains None)
 
   -- what is read of bytes in memory is answered
-  module _ {W : Type 0} (contents : W → Option (List ℕ)) (out_old out_new : Device W) (detail : Detail) (IsAnswer : V → Output → Type 0) (b : List ℕ) where
-    some_value : (v : V) → ReadsAs F most_bytes b (Ok v) → (o : Option Output) → IsSomeAnd o (IsAnswer v) → FileBy F Reports name detail IsAnswer b o
+  module _ {W : Type 0} (contents : W → Option (List ℕ)) (out_old out_new : Device W) (explains : Bool) (IsAnswer : V → Output → Type 0) (b : List ℕ) where
+    some_value : (v : V) → ReadsAs F most_bytes b (Ok v) → (o : Option Output) → IsSomeAnd o (IsAnswer v) → FileBy F Reports name explains IsAnswer b o
     some_value v reads h1 is = grind (arith, value_by)
 
     pub bytes_value : (v : V) (r : Result Status ToolFault) → ReadsAs F most_bytes b (Ok v) → Writes contents (EndsCounting (λ o. IsSomeAnd o (IsAnswer v))) out_old out_new r
-        → Answers contents (EndsCounting (FileBy F Reports name detail IsAnswer b)) out_old out_new r
-    bytes_value v r reads = writes_answers contents out_old out_new r (EndsCounting (λ o. IsSomeAnd o (IsAnswer v))) (EndsCounting (FileBy F Reports name detail IsAnswer b))
-        (λ Sent never ends. ends_by Sent (λ o. IsSomeAnd o (IsAnswer v)) (FileBy F Reports name detail IsAnswer b) r (some_value v reads) ends)
+        → Answers contents (EndsCounting (FileBy F Reports name explains IsAnswer b)) out_old out_new r
+    bytes_value v r reads = writes_answers contents out_old out_new r (EndsCounting (λ o. IsSomeAnd o (IsAnswer v))) (EndsCounting (FileBy F Reports name explains IsAnswer b))
+        (λ Sent never ends. ends_by Sent (λ o. IsSomeAnd o (IsAnswer v)) (FileBy F Reports name explains IsAnswer b) r (some_value v reads) ends)
 
   -- a refusal, with the reasons for it
-  module _ {R : Type 0} (unended : Unended F) (fault : R → Fault) (found : R → Excerpt) (Answer : List (List ℕ) → List ℕ → R → Type 0)
-      (r : R) (reasons : List FileLine) (lacks : Bool) (tells : (accepted : List (List ℕ)) (text : List ℕ) → Answer accepted text r → IsTrue lacks ↔ EndsUnended F (fault r).kind accepted text)
-      (reports : (accepted : List (List ℕ)) (text : List ℕ) → IsFoundOf text (found r) → Answer accepted text r → Reports (fault r) accepted text lacks reasons) where
+  module _ {R : Type 0} (fault : R → Fault) (found : R → Excerpt) (Answer : List (List ℕ) → List ℕ → R → Type 0)
+      (r : R) (reasons : List FileLine) (reports : (b : List ℕ) (accepted : List (List ℕ)) (text : List ℕ) → (fault r).kind ≢ TooLong → IsAbout F most_bytes b (fault r) accepted text → IsFoundOf (fault r).kind text (found r) → Answer accepted text r → Reports b (fault r) accepted text reasons) where
     pub reasons_of : (b : List ℕ) → ConcernsText (fault r).kind → ExplainsRefusal F fault found Answer b r → FaultReasons F Reports b (fault r) reasons
-    reasons_of b kind e =
-        let same = unended b (fault r) e.accepted e.text kind.1 e.about in
-        let t = tells e.accepted e.text e.why in
-        reported e.accepted e.text lacks e.about ((λ l. same.1 (t.0 l)), λ l. t.1 (same.0 l)) (reports e.accepted e.text e.kept e.why)
+    reasons_of b kind e = reported e.accepted e.text e.about (reports b e.accepted e.text kind.1 e.about e.kept e.why)
 
     pub long_memory : (fault r).kind ≡ TooLong → (fault r).kind ≢ Memory
     long_memory long = too_long_else (fault r).kind Memory long (λ e. absurd cc)
@@ -91,24 +87,24 @@ module _ {V I S : Type 0} (F : Format V I S) (Reports : Fault → List (List ℕ
     pub long_read : (fault r).kind ≡ TooLong → (fault r).kind ≢ Read
     long_read long = too_long_else (fault r).kind Read long (λ e. absurd cc)
 
-    module _ (detail : Detail) (IsAnswer : V → Output → Type 0) (b : List ℕ) (reads : (fault r).kind ≢ Memory → (fault r).kind ≢ Read → ReadsAs F most_bytes b (Err (fault r)))
+    module _ (explains : Bool) (IsAnswer : V → Output → Type 0) (b : List ℕ) (reads : (fault r).kind ≢ Memory → (fault r).kind ≢ Read → ReadsAs F most_bytes b (Err (fault r)))
         (explained : ConcernsText (fault r).kind → ExplainsRefusal F fault found Answer b r) where
-      some_out : (o : Output) → Some o ≡ refusal_by detail name (fault r) reasons → FileBy F Reports name detail IsAnswer b (Some o)
-      some_out o is = (let kind = reported_kind (fault r) reasons detail o is in refused_by (fault r) reasons detail IsAnswer b (reads kind.2 kind.0) o is (reasons_of b kind (explained kind)))
+      some_out : (o : Output) → Some o ≡ refusal_by explains name (fault r) reasons → FileBy F Reports name explains IsAnswer b (Some o)
+      some_out o is = (let kind = reported_kind (fault r) reasons explains o is in refused_by (fault r) reasons explains IsAnswer b (reads kind.2 kind.0) o is (reasons_of b kind (explained kind)))
 
-      none_out : (fault r).kind ≡ TooLong → FileBy F Reports name detail IsAnswer b None
-      none_out long = long_by (fault r) reasons detail IsAnswer b (reads (long_memory long) (long_read long)) long
+      none_out : (fault r).kind ≡ TooLong → FileBy F Reports name explains IsAnswer b None
+      none_out long = long_by (fault r) reasons explains IsAnswer b (reads (long_memory long) (long_read long)) long
 
-      pub refusal_ends : (Sent : List ℕ → Type 0) (result : Result Status ToolFault) → Ends (λ o. o ≡ refusal_by detail name (fault r) reasons) Sent result
-          → (IsErrOf result tool_fault.TooLong → (fault r).kind ≡ TooLong) → EndsCounting (FileBy F Reports name detail IsAnswer b) Sent result
+      pub refusal_ends : (Sent : List ℕ → Type 0) (result : Result Status ToolFault) → Ends (λ o. o ≡ refusal_by explains name (fault r) reasons) Sent result
+          → (IsErrOf result tool_fault.TooLong → (fault r).kind ≡ TooLong) → EndsCounting (FileBy F Reports name explains IsAnswer b) Sent result
       refusal_ends h1 h2 h3 long = grind (arith, some_out, less, none_out)
 
 -- ---- how it goes out
 
-module _ {D V I S A W : Type 0} (left : D → Option (List ℕ)) (F : Format V I S) (Reports : Fault → List (List ℕ) → List ℕ → Bool → List FileLine → Type 0) (Gives : List ℕ → A → Type 0) (name : List ℕ)
-    (detail : Detail) (IsAnswer : V → Output → Type 0) (old new : Device D) (contents : W → Option (List ℕ)) (out_old out_new : Device W) where
+module _ {D V I S A W : Type 0} (left : D → Option (List ℕ)) (F : Format V I S) (Reports : List ℕ → Fault → List (List ℕ) → List ℕ → List FileLine → Type 0) (Gives : List ℕ → A → Type 0) (name : List ℕ)
+    (explains : Bool) (IsAnswer : V → Output → Type 0) (old new : Device D) (contents : W → Option (List ℕ)) (out_old out_new : Device W) where
   abbrev FileOutput : List ℕ → Option Output → Type 0
-  FileOutput = FileBy F Reports name detail IsAnswer
+  FileOutput = FileBy F Reports name explains IsAnswer
 
   module _ (a : A) (Is : Output → Type 0) (gives : (b : List ℕ) → Gives b a → (o : Output) → Is o → (v : V) × ReadsAs F most_bytes b (Ok v) × IsAnswer v o) where
     value_out : (b : List ℕ) → Gives b a → (o : Option Output) → IsSomeAnd o Is → FileOutput b o
@@ -132,33 +128,38 @@ module _ {D V I S A W : Type 0} (left : D → Option (List ℕ)) (F : Format V I
 
   -- and where the answers are others that follow
   pub answers_more : (Other : V → Output → Type 0) → ((v : V) (o : Output) → IsAnswer v o → Other v o) → (r : Result Status ToolFault)
-      → Answers contents (EndsFile left FileOutput old new) out_old out_new r → Answers contents (EndsFile left (FileBy F Reports name detail Other) old new) out_old out_new r
-  answers_more h1 to r = grind (arith, answers_by, ends_by, more_by)
+      → Answers contents (EndsFile left FileOutput old new) out_old out_new r → Answers contents (EndsFile left (FileBy F Reports name explains Other) old new) out_old out_new r
+  answers_more Other to r =
+      let More = FileBy F Reports name explains Other in
+      answers_by contents out_old out_new r (EndsFile left FileOutput old new) (EndsFile left More old new) (λ Sent one. record {
+        output = λ b known. ends_by Sent (FileOutput b) (More b) r (more_by F Reports name explains IsAnswer Other to b) (one.output b known);
+        taken = λ decided. let (b, consumed, ends) = one.taken decided in (b, consumed, ends_by Sent (FileOutput b) (More b) r (more_by F Reports name explains IsAnswer Other to b) ends);
+        reads = one.reads;
+      })
 
-  module _ {R : Type 0} (reporting : AboutLaws F) (unended : Unended F) (fault : R → Fault) (found : R → Excerpt) (Answer : List (List ℕ) → List ℕ → R → Type 0)
-      (r : R) (reasons : List FileLine) (lacks : Bool) (tells : (accepted : List (List ℕ)) (text : List ℕ) → Answer accepted text r → IsTrue lacks ↔ EndsUnended F (fault r).kind accepted text)
-      (reports : (accepted : List (List ℕ)) (text : List ℕ) → IsFoundOf text (found r) → Answer accepted text r → Reports (fault r) accepted text lacks reasons)
+  module _ {R : Type 0} (reporting : AboutLaws F) (fault : R → Fault) (found : R → Excerpt) (Answer : List (List ℕ) → List ℕ → R → Type 0)
+      (r : R) (reasons : List FileLine) (reports : (b : List ℕ) (accepted : List (List ℕ)) (text : List ℕ) → (fault r).kind ≢ TooLong → IsAbout F most_bytes b (fault r) accepted text → IsFoundOf (fault r).kind text (found r) → Answer accepted text r → Reports b (fault r) accepted text reasons)
       (h : ReadsOrExplains F fault found Answer left Gives old new (Err r)) where
     plain : ReadsAll left F Gives old new (Err (fault r))
     plain = h.plain
 
-    taken_out : (o : Output) → Some o ≡ refusal_by detail name (fault r) reasons → (b : List ℕ) × Consumes (left old.device) (left new.device) b × FileOutput b (Some o)
+    taken_out : (o : Output) → Some o ≡ refusal_by explains name (fault r) reasons → (b : List ℕ) × Consumes (left old.device) (left new.device) b × FileOutput b (Some o)
     taken_out o is =
-        let kind = reported_kind F Reports name (fault r) reasons detail o is in
+        let kind = reported_kind F Reports name (fault r) reasons explains o is in
         let x = h.explained kind in
-        (x.0, x.1, refused_by F Reports name (fault r) reasons detail IsAnswer x.0 (reading_of_refusal F x.0 (IsAtEnd (left new.device)) (fault r) x.2 kind.0) o is (reasons_of F Reports name unended fault found Answer r reasons lacks tells reports x.0 kind x.3))
+        (x.0, x.1, refused_by F Reports name (fault r) reasons explains IsAnswer x.0 (reading_of_refusal F x.0 (IsAtEnd (left new.device)) (fault r) x.2 kind.0) o is (reasons_of F Reports name fault found Answer r reasons reports x.0 kind x.3))
 
     taken_long : (fault r).kind ≡ TooLong → (b : List ℕ) × Consumes (left old.device) (left new.device) b × FileOutput b None
     taken_long long =
         let x = plain.fault (too_long_else (fault r).kind Memory long (λ e. absurd cc)) in
-        (x.0, x.1, long_by F Reports name (fault r) reasons detail IsAnswer x.0 (reading_of_refusal F x.0 (IsAtEnd (left new.device)) (fault r) x.2 (too_long_else (fault r).kind Read long (λ e. absurd cc))) long)
+        (x.0, x.1, long_by F Reports name (fault r) reasons explains IsAnswer x.0 (reading_of_refusal F x.0 (IsAtEnd (left new.device)) (fault r) x.2 (too_long_else (fault r).kind Read long (λ e. absurd cc))) long)
 
     abbrev ReportsFault : (List ℕ → Type 0) → Result Status ToolFault → Type 0
-    ReportsFault = Ends (λ o. o ≡ refusal_by detail name (fault r) reasons)
+    ReportsFault = Ends (λ o. o ≡ refusal_by explains name (fault r) reasons)
 
     known_ends : (Sent : List ℕ → Type 0) (result : Result Status ToolFault) → ReportsFault Sent result → (IsErrOf result tool_fault.TooLong → (fault r).kind ≡ TooLong) → (b : List ℕ) → left old.device ≡ Some b → EndsCounting (FileOutput b) Sent result
     known_ends Sent result ends long b known =
-        refusal_ends F Reports name unended fault found Answer r reasons lacks tells reports detail IsAnswer b (λ memory read. known_fault left F Gives old new (fault r) b plain known memory read)
+        refusal_ends F Reports name fault found Answer r reasons reports explains IsAnswer b (λ memory read. known_fault left F Gives old new (fault r) b plain known memory read)
         (λ kind. known_explained left F fault found Answer Gives old new r b reporting h known kind) Sent result ends long
 
     taken_ends : (Sent : List ℕ → Type 0) (result : Result Status ToolFault) → ReportsFault Sent result → (IsErrOf result tool_fault.TooLong → (fault r).kind ≡ TooLong) → IsDecided result
@@ -174,61 +175,67 @@ module _ {D V I S A W : Type 0} (left : D → Option (List ℕ)) (F : Format V I
       reads = (λ e. plain.note.0 (reads.0 e), λ t. reads.1 (plain.note.1 t));
     })
 
--- ---- what is kept of what was found
+-- ---- what a refusal says
 
-not_true : (b : Bool) → (b ≡ true → false ≡ true) → false ≡ b
-not_true true f = f refl
-not_true false f = refl
+-- both ways, through what is between
+through : {A B C : Type 0} → A ↔ B → C ↔ B → A ↔ C
+through x y = (λ a. y.1 (x.0 a), λ c. x.1 (y.0 c))
 
-more_is : (m : Bool) (n : ℕ) → IsTrue m ↔ (64 < n) → m ≡ nat_lt 64 n
-more_is true n h = sym (less 64 n (h.0 refl))
-more_is false n h = not_true (nat_lt 64 n) (λ t. h.1 (is_less 64 n t))
+-- of a task, and of a plan
+task_refusal_shows : (r : TaskRefusal) (b : List ℕ) (accepted : List (List ℕ)) (text : List ℕ) → (r.fault).kind ≢ TooLong → IsAbout task_format most_bytes b r.fault accepted text → IsFoundOf (r.fault).kind text r.found → HasReason accepted text r → AreTaskReasons b r.fault accepted text (task_refusal_lines r)
+task_refusal_shows r b accepted text short about is why = record {
+  mark = r.mark;
+  word = r.word;
+  count = r.count;
+  line_end = r.lacks_line_end;
+  reason = why.reason;
+  counted = why.counted;
+  lacks = through why.unended (task_unended b r.fault accepted text short about);
+  lines = ap (λ (k : Kept). task_reasons r.fault k (record { line_end = r.lacks_line_end; cost_line = false }) r.mark r.word r.count) is.kept;
+}
 
--- the bytes that are shown are the first ones of the text
-first_are : (text : List ℕ) (found : Excerpt) → IsFoundOf text found → first_bytes found ≡ take 64 text
-first_are text found is = ap (take 64) is.front ∙ take_all 64 (take 64 text) (omega (arith, length-take 64 text))
-
--- what a refusal says of a task, and of a plan
-task_refusal_shows : (r : TaskRefusal) (accepted : List (List ℕ)) (text : List ℕ) → IsFoundOf text r.found → HasReason accepted text r → AreTaskReasons r.fault accepted text r.lacks_line_end (task_refusal_lines r)
-task_refusal_shows r accepted text is why = record { mark = r.mark; word = r.word; count = r.count; reason = why.reason; counted = why.counted; lines = rw (first_are text r.found is, more_is (r.found).more (length text) is.longer) refl }
-
-plan_refusal_shows : (r : PlanRefusal) (accepted : List (List ℕ)) (text : List ℕ) → IsFoundOf text r.found → ArePlanReasons r.fault accepted text r.lacks_line_end (plan_refusal_lines r)
-plan_refusal_shows r accepted text is = rw (first_are text r.found is, more_is (r.found).more (length text) is.longer) refl
+plan_refusal_shows : (r : PlanRefusal) (b : List ℕ) (accepted : List (List ℕ)) (text : List ℕ) → (r.fault).kind ≢ TooLong → IsAbout plan_format most_bytes b r.fault accepted text → IsFoundOf (r.fault).kind text r.found → TellsLacks accepted text r → ArePlanReasons b r.fault accepted text (plan_refusal_lines r)
+plan_refusal_shows r b accepted text short about is why = record {
+  line_end = r.lacks_line_end;
+  cost_line = r.lacks_cost_line;
+  lacks_line_end = through why.line_end (plan_unended b r.fault accepted text short about);
+  lacks_cost_line = through why.cost_line (plan_without_cost b r.fault accepted text short about);
+  lines = ap (λ (k : Kept). plan_reasons r.fault k (record { line_end = r.lacks_line_end; cost_line = r.lacks_cost_line })) is.kept;
+}
 
 -- ---- task files and plan files
 
-module _ {D A W : Type 0} (left : D → Option (List ℕ)) (Gives : List ℕ → A → Type 0) (detail : Detail) (old new : Device D) (contents : W → Option (List ℕ)) (out_old out_new : Device W) where
+module _ {D A W : Type 0} (left : D → Option (List ℕ)) (Gives : List ℕ → A → Type 0) (explains : Bool) (old new : Device D) (contents : W → Option (List ℕ)) (out_old out_new : Device W) where
   -- a task file is refused
   pub task_refused : (IsAnswer : Parts → Output → Type 0) (r : TaskRefusal) (result : Result Status ToolFault) → ReadsTask left Gives old new (Err r)
-      → Answers contents (Ends (λ o. o ≡ refusal_by detail (codes "task") r.fault (task_refusal_lines r))) out_old out_new result → IsErrOf result tool_fault.TooLong ↔ ((r.fault).kind ≡ TooLong) → IsErrOf result tool_fault.Read ↔ ((r.fault).kind ≡ Read)
-      → Answers contents (EndsFile left (TaskBy detail IsAnswer) old new) out_old out_new result
+      → Answers contents (Ends (λ o. o ≡ refusal_by explains (codes "task") r.fault (task_refusal_lines r))) out_old out_new result → IsErrOf result tool_fault.TooLong ↔ ((r.fault).kind ≡ TooLong) → IsErrOf result tool_fault.Read ↔ ((r.fault).kind ≡ Read)
+      → Answers contents (EndsFile left (TaskBy explains IsAnswer) old new) out_old out_new result
   task_refused IsAnswer r result h refused long reads =
-      answers_refused left task_format AreTaskReasons Gives (codes "task") detail IsAnswer old new contents out_old out_new task_reporting task_unended fault_in found_in HasReason r (task_refusal_lines r) r.lacks_line_end (λ accepted text why. why.unended) (task_refusal_shows r) h result long.0 reads refused
+      answers_refused left task_format AreTaskReasons Gives (codes "task") explains IsAnswer old new contents out_old out_new task_reporting fault_in found_in HasReason r (task_refusal_lines r) (task_refusal_shows r) h result long.0 reads refused
 
   -- and a plan file
   pub plan_refused : (IsAnswer : PlanParts → Output → Type 0) (r : PlanRefusal) (result : Result Status ToolFault) → ReadsPlan left Gives old new (Err r)
-      → Answers contents (Ends (λ o. o ≡ refusal_by detail (codes "plan") r.fault (plan_refusal_lines r))) out_old out_new result → IsErrOf result tool_fault.TooLong ↔ ((r.fault).kind ≡ TooLong) → IsErrOf result tool_fault.Read ↔ ((r.fault).kind ≡ Read)
-      → Answers contents (EndsFile left (PlanBy detail IsAnswer) old new) out_old out_new result
+      → Answers contents (Ends (λ o. o ≡ refusal_by explains (codes "plan") r.fault (plan_refusal_lines r))) out_old out_new result → IsErrOf result tool_fault.TooLong ↔ ((r.fault).kind ≡ TooLong) → IsErrOf result tool_fault.Read ↔ ((r.fault).kind ≡ Read)
+      → Answers contents (EndsFile left (PlanBy explains IsAnswer) old new) out_old out_new result
   plan_refused IsAnswer r result h refused long reads =
-      answers_refused left plan_format ArePlanReasons Gives (codes "plan") detail IsAnswer old new contents out_old out_new plan_reporting plan_unended fault_of found_of TellsLineEnd r (plan_refusal_lines r) r.lacks_line_end (λ accepted text why. why) (λ accepted text is why. plan_refusal_shows r accepted text is) h result long.0 reads refused
+      answers_refused left plan_format ArePlanReasons Gives (codes "plan") explains IsAnswer old new contents out_old out_new plan_reporting fault_of found_of TellsLacks r (plan_refusal_lines r) (plan_refusal_shows r) h result long.0 reads refused
 
 -- a plan in memory is refused
-pub plan_bytes_refused : {W : Type 0} (contents : W → Option (List ℕ)) (out_old out_new : Device W) (detail : Detail) (IsAnswer : PlanParts → Output → Type 0) (b : List ℕ) (r : PlanRefusal) (result : Result Status ToolFault)
+pub plan_bytes_refused : {W : Type 0} (contents : W → Option (List ℕ)) (out_old out_new : Device W) (explains : Bool) (IsAnswer : PlanParts → Output → Type 0) (b : List ℕ) (r : PlanRefusal) (result : Result Status ToolFault)
     → ((r.fault).kind ≢ Memory → ReadsAs plan_format most_bytes b (Err r.fault)) → (ConcernsText (r.fault).kind → ExplainsPlan b r)
-    → Answers contents (Ends (λ o. o ≡ refusal_by detail (codes "plan") r.fault (plan_refusal_lines r))) out_old out_new result → IsErrOf result tool_fault.TooLong ↔ ((r.fault).kind ≡ TooLong)
-    → Answers contents (EndsCounting (PlanBy detail IsAnswer b)) out_old out_new result
-plan_bytes_refused contents out_old out_new detail IsAnswer b r result reads explained refused long =
-    answers_by contents out_old out_new result (Ends (λ o. o ≡ refusal_by detail (codes "plan") r.fault (plan_refusal_lines r))) (EndsCounting (PlanBy detail IsAnswer b))
-    (λ Sent ends. refusal_ends plan_format ArePlanReasons (codes "plan") plan_unended fault_of found_of TellsLineEnd r (plan_refusal_lines r) r.lacks_line_end (λ accepted text why. why)
-    (λ accepted text is why. plan_refusal_shows r accepted text is) detail IsAnswer b (λ memory read. reads memory) explained Sent result ends long.0) refused
+    → Answers contents (Ends (λ o. o ≡ refusal_by explains (codes "plan") r.fault (plan_refusal_lines r))) out_old out_new result → IsErrOf result tool_fault.TooLong ↔ ((r.fault).kind ≡ TooLong)
+    → Answers contents (EndsCounting (PlanBy explains IsAnswer b)) out_old out_new result
+plan_bytes_refused contents out_old out_new explains IsAnswer b r result reads explained refused long =
+    answers_by contents out_old out_new result (Ends (λ o. o ≡ refusal_by explains (codes "plan") r.fault (plan_refusal_lines r))) (EndsCounting (PlanBy explains IsAnswer b))
+    (λ Sent ends. refusal_ends plan_format ArePlanReasons (codes "plan") fault_of found_of TellsLacks r (plan_refusal_lines r) (plan_refusal_shows r) explains IsAnswer b (λ memory read. reads memory) explained Sent result ends long.0) refused
 
 -- a task that isn't layered is refused for its first fault
-not_memory_by : (detail : Detail) (p : Parts) (fault : LayerFault) (o : Output) → layers_by detail p fault ≡ Some o → fault ≢ layer_fault.Memory
+not_memory_by : (explains : Bool) (p : Parts) (fault : LayerFault) (o : Output) → layers_by explains p fault ≡ Some o → fault ≢ layer_fault.Memory
 not_memory_by h1 p fault o is = grind (arith, not_memory, reported_fault)
 
-module _ {D W : Type 0} (left : D → Option (List ℕ)) (detail : Detail) (old new : Device D) (contents : W → Option (List ℕ)) (out_old out_new : Device W) (p : Parts) where
+module _ {D W : Type 0} (left : D → Option (List ℕ)) (explains : Bool) (old new : Device D) (contents : W → Option (List ℕ)) (out_old out_new : Device W) (p : Parts) where
   pub task_unlayered : (fault : LayerFault) (r : Result Status ToolFault) → ReadsAll left task_format (ValueOf task_format) old new (Ok p) → (fault ≢ layer_fault.Memory → first_fault (layer_checks p) ≡ Some fault)
-      → Writes contents (EndsCounting (λ output. IsSomeAnd output (λ o. layers_by detail p fault ≡ Some o))) out_old out_new r → Answers contents (EndsFile left (TaskBy detail (UnlayeredBy detail)) old new) out_old out_new r
+      → Writes contents (EndsCounting (λ output. IsSomeAnd output (λ o. layers_by explains p fault ≡ Some o))) out_old out_new r → Answers contents (EndsFile left (TaskBy explains (UnlayeredBy explains)) old new) out_old out_new r
   task_unlayered fault r read first =
-      answers_value left task_format AreTaskReasons (ValueOf task_format) (codes "task") detail (UnlayeredBy detail) old new contents out_old out_new p (λ o. layers_by detail p fault ≡ Some o)
-      (λ b value o is. (p, value, (fault, first (not_memory_by detail p fault o is), is))) r read
+      answers_value left task_format AreTaskReasons (ValueOf task_format) (codes "task") explains (UnlayeredBy explains) old new contents out_old out_new p (λ o. layers_by explains p fault ≡ Some o)
+      (λ b value o is. (p, value, (fault, first (not_memory_by explains p fault o is), is))) r read

@@ -12,7 +12,7 @@ pub use Rattle.std.proofs.lemmas.List.Elements.{Contains-append_cases, All-nil, 
 pub use Rattle.std.proofs.lemmas.List.Folds.{flat_map-map}
 pub use Rattle.std.proofs.lemmas.List.FromFn.{length-enumerate_from}
 pub use Rattle.std.proofs.lemmas.List.Sums.{count_by_more_no, count_by_more_yes, count_by-le-length, AllPass-from_list_all, list_all-from_AllPass, sum_by-cons, sum_by_push}
-pub use Rattle.std.proofs.lemmas.Option.{none-some, slice_get-get_or}
+pub use Rattle.std.proofs.lemmas.Option.{none-some, slice_get-get_or, same_Some}
 pub use Rattle.std.proofs.lemmas.Result.{err_from_is_err_and}
 pub use Rattle.std.proofs.lemmas.Slice.Zip.{length-zip, get_or-zip, AllZip-long}
 pub use Rattle.std.specs.Cmp.Lexicographic.{pointwise, same_text, other_text}
@@ -46,10 +46,13 @@ pub use Rattle.sas_answers.specs.declared.ending.Status.{Status}
 pub use Rattle.sas_answers.specs.declared.ending.Status.TheVariants.{Yes, No}
 pub use Rattle.sas_answers.specs.declared.ending.ToolFault.{ToolFault}
 pub use Rattle.sas_answers.specs.declared.line.Line.{Line}
-pub use Rattle.sas_core.proofs.Plain.{plain-append}
+pub use Rattle.sas_core.proofs.Plain.{plain-append, plain-name}
 pub use Rattle.sas_core.specs.FirstFault.{first_fault}
 pub use Rattle.sas_core.specs.Names.{is_plain, IsName}
 pub use Rattle.sas_core.specs.Plain.{IsPlain}
+pub use Rattle.sas_core.specs.WellRanged.{VariableFits, OperatorFits}
+pub use Rattle.sas_core.specs.declared.parts.Operator.{Operator}
+pub use Rattle.sas_core.specs.Grounded.{operator_at}
 pub use Rattle.sas_core.specs.PlanParts.{PlanParts}
 pub use Rattle.sas_core.specs.WellNamed.{WellNamed}
 pub use Rattle.sas_core.specs.Variables.{layer_of, value_name}
@@ -64,7 +67,7 @@ pub use Rattle.sas_groups.specs.Verdicts.{AreJointVerdicts}
 pub use Rattle.sas_groups.specs.declared.verdict.Verdict.{Verdict}
 pub use Rattle.sas_groups.specs.declared.verdict.Verdict.TheVariants.{Exclusive, Derived, Initial, Broken}
 pub use Rattle.sas_lines.proofs.EndedLines.{text_of_both}
-pub use Rattle.sas_lines.proofs.Splitting.{Plain, lines-text, lines-append, unfinished-text, lines-one}
+pub use Rattle.sas_lines.proofs.Splitting.{Plain, lines-text, lines-append, unfinished-text, unfinished-end, lines-one}
 pub use Rattle.sas_lines.proofs.Words.{same_first, NoSpace-decimal, own_decimal}
 pub use Rattle.sas_lines.specs.Device.{Device}
 pub use Rattle.sas_lines.specs.Lines.{text, lines_among, without_return}
@@ -73,7 +76,7 @@ pub use Rattle.sas_lines.specs.Segments.{onto_first}
 unfoldable pub use Rattle.sas_lines.specs.Segments.{segments}
 pub use Rattle.sas_lines.specs.Spelling.{joined}
 pub use Rattle.sas_meaning.proofs.LayerChecksAreRules.{checks_are_rules}
-pub use Rattle.sas_meaning.proofs.Members.{contains_cases, contains_none}
+pub use Rattle.sas_meaning.proofs.Members.{contains_cases, contains_head, contains_none, contains_tail}
 pub use Rattle.sas_meaning.specs.LayerChecks.{layer_checks}
 pub use Rattle.sas_meaning.specs.Layers.{IsLayered}
 pub use Rattle.sas_meaning.specs.declared.layered.LayerFault.{LayerFault}
@@ -81,15 +84,18 @@ pub use Rattle.sas_plan_file.proofs.PlanGrammar.{plan_grammar}
 pub use Rattle.sas_plan_file.proofs.PlanLaws.{plan_laws_hold}
 pub use Rattle.sas_plan_file.specs.PlanFormat.{plan_texts, plan_format, PlanKind, PlanLineFits, like_step, like_cost, like_none}
 pub use Rattle.sas_plan_file.specs.PlanMachine.{plan_node, plan_start}
-pub use Rattle.sas_plan_file.specs.PlanRefusal.{fault_of, found_of, TellsLineEnd, ReadsPlan}
+pub use Rattle.sas_plan_file.specs.PlanRefusal.{fault_of, found_of, TellsLacks, ReadsPlan}
+pub use Rattle.sas_plan_file.specs.PlanEnds.{LacksCostLine, EndsWithoutCost}
 pub use Rattle.sas_plan_file.specs.declared.plan_refusal.PlanRefusal.{PlanRefusal}
-pub use Rattle.sas_plan_reasons.proofs.Answering.{some_trace, one_trace}
-pub use Rattle.sas_plan_reasons.specs.VerdictBy.{VerdictBy}
+pub use Rattle.sas_plan_reasons.proofs.Answering.{some_trace, one_trace, ends_with_answer, some_fault_answer, one_fault_answer}
+pub use Rattle.sas_plan_reasons.specs.VerdictBy.{VerdictBy, VerdictWith}
 pub use Rattle.sas_plan_reasons.proofs.WhyPlan.{one_why, some_why}
-pub use Rattle.sas_plan_reasons.specs.Trace.{run_lines}
-pub use Rattle.sas_plan_reasons.specs.Traced.{IsTraced, TraceVerdict, EndsWith}
+pub use Rattle.sas_plan_reasons.specs.Trace.{run_lines, step_line, step_lines, change_line}
+pub use Rattle.sas_run.specs.Runs.{Run, state_at}
+pub use Rattle.sas_plan_reasons.specs.Traced.{FaultAnswer, TraceVerdict, EndsWith}
 pub use Rattle.sas_plan_reasons.specs.Verdict.{WhyVerdict, Explains}
 pub use Rattle.sas_reader.proofs.About.{about_laws_of}
+pub use Rattle.sas_plan_file.proofs.PlanCosts.{ends_without_cost}
 pub use Rattle.sas_reader.proofs.LineEnds.{ends_unended}
 pub use Rattle.sas_reader.proofs.Known.{known_answer, known_fault}
 pub use Rattle.sas_reader.proofs.KnownRefusals.{known_explained}
@@ -97,7 +103,7 @@ pub use Rattle.sas_reader.proofs.Plain.{plain-decimal, plain}
 pub use Rattle.sas_reader.specs.About.{ConcernsText, AboutLaws, EndsUnended, IsAbout, of_line, of_byte, of_end}
 pub use Rattle.sas_reader.specs.Devices.{Refuses, ReadsAll, ValueOf, TextOf}
 pub use Rattle.sas_reader.specs.Format.{Format, IsBegun, LacksLineEnd, ReadsAs, FaultOf, KindAt, too_long, trailing, wrong}
-pub use Rattle.sas_reader.specs.Found.{IsFoundOf}
+pub use Rattle.sas_reader.specs.Found.{IsFoundOf, kept_bytes}
 pub use Rattle.sas_reader.specs.Laws.{Laws}
 pub use Rattle.sas_reader.specs.Limit.{most_bytes}
 pub use Rattle.sas_reader.specs.Refusals.{ExplainsRefusal, ReadsOrExplains}
@@ -122,17 +128,18 @@ pub use Rattle.sas_task_file.specs.TaskFormat.{task_texts, task_format, TaskSlot
 pub use Rattle.sas_task_file.specs.declared.marks.Due.{Due}
 pub use Rattle.sas_task_file.specs.declared.marks.FixedWord.{FixedWord}
 pub use Rattle.sas_task_file.specs.declared.marks.Location.{Location}
+pub use Rattle.sas_task_file.specs.declared.marks.What.{What}
 pub use Rattle.sas_task_reader.specs.TaskOutline.{OutlineOf}
 pub use Rattle.sas_task_reader.specs.TaskRefusal.{fault_in, found_in, HasReason, ReadsTask}
 pub use Rattle.sas_task_reader.specs.declared.task_refusal.TaskRefusal.{TaskRefusal}
 pub use Rattle.sas_task_reasons.proofs.GroupAnswers.{no_reason}
 pub use Rattle.sas_task_reasons.proofs.TaskAnswers.{not_memory, one_why_check, some_why_check, one_why_mutex, some_why_mutex, check_layered, check_refused, groups_layered, groups_refused, refused_why}
-pub use Rattle.sas_task_reasons.specs.WhyGroups.{IsReasonIfAny, reason_at, AreReasons, reason_lines, explained_group_lines, why_lines_from, why_lines, WhyGroupsAnswer}
+pub use Rattle.sas_task_reasons.specs.WhyGroups.{IsReasonIfAny, reason_at, AreReasons, reason_lines, explained_group_lines, why_lines_from, why_lines, WhyGroupsAnswer, GroupsAnswerWith}
 pub use Rattle.sas_task_reasons.specs.WhyLayers.{layer_reasons, why_refusal, WhyAnswer, WhyMutexAnswer, with_reasons, WhyCheckAnswer}
 pub use Rattle.sas_task_reasons.specs.declared.reason.Reason.{Reason}
-pub use Rattle.sas_requests.specs.Answering.{FileBy, TaskBy, PlanBy, UnlayeredBy, layers_by, refusal_by, task_refusal_lines, plan_refusal_lines, reported_by, ReasonedBy, CheckBy, MutexBy, OutBy, request_of, detail_of}
+pub use Rattle.sas_requests.specs.Answering.{FileBy, TaskBy, PlanBy, UnlayeredBy, refusal_by, task_refusal_lines, plan_refusal_lines, reported_by}
 pub use Rattle.sas_requests.specs.EndsRequest.{EndsFile, EndsRequest}
-pub use Rattle.sas_requests.specs.FileLine.{At, Counted, Expected, ExpectedInPlan, FileLine, Found, Hinted, NumberMustBe, due_words, empty_words, ended_line, file_line_bytes, file_text, found_word, least_words, line_if, location_words, plain_in_texts, plan_due_words}
+pub use Rattle.sas_requests.specs.FileLine.{At, Counted, Expected, ExpectedInPlan, FileLine, Found, Hinted, NumberMustBe, due_words, empty_words, ended_line, file_line_bytes, file_text, found_word, least_words, line_if, location_words, plan_due_words, what_words}
 pub use Rattle.sas_requests.specs.Hint.{hint_words, hint_for}
 pub use Rattle.sas_requests.specs.declared.hint.Hint.{Hint}
 pub use Rattle.sas_requests.specs.FileReasons.{FaultReasons, reported, past_limit, FileReasons, AreTaskReasons, ArePlanReasons, RefusalReasons, ReadReasons, TaskFileReasons, PlanFileReasons}
@@ -145,15 +152,14 @@ pub use Rattle.sas_requests.specs.Judging.{HoldsOf, judged_of, cost_if, Judges, 
 pub use Rattle.sas_requests.specs.Output.{word_of, refusal, refusal_line, IsAnswerOrRefusal, UnlayeredAnswer, VerdictOut, PlanOutBy, FileOut, TaskOut, HasOneOutput, ShowAnswer, PrintAnswer, LayeredOut, OutOf, plain_refusal, IsLayeredText, IsLong, AreInputs, reads_task, Out, ShortOutput}
 pub use Rattle.sas_requests.specs.Slices.{bytes_of, labels_of}
 pub use Rattle.sas_requests.specs.Summary.{number_lines, goal_fact_lines, summary_lines, derived_count, number_line}
-pub use Rattle.sas_requests.specs.TraceOut.{EndsAsPlan, EndsInLine, SendsLast, TraceOut}
-pub use Rattle.sas_requests.specs.Why.{is_reason, without_reasons, OutOfRead, OutWhy, WithReasons, IsSameAnswer, SameAnswer}
-pub use Rattle.sas_requests.specs.declared.Request.{Request}
-pub use Rattle.sas_requests.specs.declared.Request.TheVariants.{Show, Print, Steps, Check, Plan, Mutex}
+pub use Rattle.sas_requests.specs.OutBy.{CheckBy, MutexBy, layers_by, WithReasons, ReasonedBy, OutOfRead, OutBy, EndsInLine, SaysLine, SendsLine}
+pub use Rattle.sas_requests.specs.SameAnswer.{is_reason, without_reasons, IsSameAnswer, SameAnswer, EndsAsPlan}
+pub use Rattle.sas_requests.specs.declared.question.Request.{Request}
+pub use Rattle.sas_requests.specs.declared.question.Request.TheVariants.{Show, Print, Steps, Check, Plan, Mutex}
 pub use Rattle.sas_requests.specs.declared.inputs.InputFault.TheVariants.{NotOpened}
 pub use Rattle.sas_requests.specs.declared.inputs.JudgeFault.{JudgeFault}
 pub use Rattle.sas_requests.specs.declared.inputs.JudgeFault.TheVariants.{Tool}
-pub use Rattle.sas_answers.specs.declared.detail.Detail.{Detail}
-pub use Rattle.sas_answers.specs.declared.detail.Detail.TheVariants.{Reasons}
+pub use Rattle.sas_plan_reasons.specs.declared.detail.Detail.{Detail}
 pub use Rattle.sas_requests.specs.declared.slices.PlanBytes.{PlanBytes}
 pub use Rattle.sas_requests.specs.declared.tally.BestPlan.{BestPlan}
 pub use Rattle.sas_requests.specs.declared.tally.Tally.{Tally}

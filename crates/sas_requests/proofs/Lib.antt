@@ -15,10 +15,12 @@ mod WhyAnswers
 mod ReasonLines
 mod PlainAnswers
 mod GroupLines
+mod TraceLines
 mod SameAnswers
 pub mod RefusalReasons
 mod RefusalLaws
 pub mod ReasonedOutputs
+pub mod SaidOutputs
 pub mod TraceLaws
 mod FileEnds
 pub mod RequestEnds
@@ -32,6 +34,5 @@ mod JudgeLaws
 mod LastBytes
 pub mod PlanLines
 mod PlansHeadlines
-pub mod TracedPlans
 mod InMemory
 mod Imports

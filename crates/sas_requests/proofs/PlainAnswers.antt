@@ -1,9 +1,11 @@
 -- Lines that are no reasons: an answer of such lines stays as it is when reasons are taken away.
 use Rattle.std.proofs.Common.{arith}
 use Rattle.std.proofs.lemmas.Grind.{common_steps}
-use Rattle.sas_requests.proofs.Imports.{◌≡◌, ℕ, List, [], ◌∷◌, ◌++◌, codes, refl, sym, ap, ◌∙◌, Bool, false, Some, not, filter, if◌then◌else◌, AllByRecursion, LayerFault, text, lines, Plain, lines-text, Fault, IsPlain, plain, plain-decimal, plain-append, all_map, Verdict, PlanFault, Output, layers_refusal, verdict_words, group_line, is_reason, without_reasons, layer_words, layers_line, fault_words, word_of, refusal, refusal_line, worded}
+use Rattle.sas_requests.proofs.Imports.{◌≡◌, ℕ, List, [], ◌∷◌, ◌++◌, codes, refl, sym, ap, ◌∙◌, Bool, false, Some, not, filter, if◌then◌else◌, AllByRecursion, LayerFault, text, lines, Plain, lines-text, text_of_both, Fault, IsPlain, plain, plain-decimal, plain-append, all_map, Verdict, PlanFault, Output, layers_refusal, verdict_words, group_line, is_reason, without_reasons, layer_words, layers_line, fault_words, word_of, refusal, refusal_line, worded}
 use Rattle.sas_requests.proofs.PlainLines.{file_words, file_plain, kind_plain, layer_plain, invalid_plain}
 use Rattle.std.proofs.lemmas.List.{append-nil}
+use Rattle.std.proofs.lemmas.List.Elements.{filter-append}
+use Rattle.sas_requests.proofs.TraceLaws.{lines_behind_text}
 use Rattle.sas_requests.proofs.ReasonLines.{IsReason, AreReasons}
 
 -- ---- lines without and with reasons
@@ -47,6 +49,14 @@ stays bytes t =
     ∙ (ap (λ (ls : List (List ℕ)). text (filter (λ line. not (is_reason line)) ls)) are
     ∙ (ap (λ (ls : List (List ℕ)). text ls) (all_kept t.reported t.each) ∙ sym t.whole))
 
+-- behind some lines a text is as it is alone
+pub without_both : (front : List (List ℕ)) (bytes : List ℕ) → without_reasons (text front ++ bytes) ≡ without_reasons (text front) ++ without_reasons bytes
+without_both front bytes =
+    let keeps : List ℕ → Bool = λ line. not (is_reason line) in
+    ap (λ (ls : List (List ℕ)). text (filter keeps ls)) (lines_behind_text front bytes)
+    ∙ ap (λ (ls : List (List ℕ)). text ls) (filter-append keeps (lines (text front)) (lines bytes))
+    ∙ text_of_both (filter keeps (lines (text front))) (filter keeps (lines bytes))
+
 -- the lines of one with reasons behind it
 pub lines_of_first : (line : List ℕ) (reasons : List (List ℕ)) → IsReported line → AreReasons reasons → lines ((line ++ 10 ∷ []) ++ text reasons) ≡ line ∷ reasons
 lines_of_first line reasons reported are = lines-text (line ∷ reasons) (plain_reported line reported, all_map IsReason Plain plain_reason reasons are)
@@ -57,7 +67,7 @@ first_stays line reasons reported are = grind (arith, common_steps, lines_of_fir
 
 -- ---- one line
 
-reported_line : (line out : List ℕ) → IsReported line → out ≡ line ++ 10 ∷ [] → IsReportedText out
+pub reported_line : (line out : List ℕ) → IsReported line → out ≡ line ++ 10 ∷ [] → IsReportedText out
 reported_line line out reported is = record { reported = line ∷ []; each = (reported, tt); whole = is ∙ sym (append-nil (line ++ 10 ∷ [])) }
 
 -- ---- refusals of files

@@ -1,39 +1,40 @@
 -- How the output of a request goes out.
-use Rattle.sas_requests.proofs.Imports.{arith, ◌≡◌, ℕ, false, true, List, [], codes, inl, inr, refl, sym, subst, ◌∙◌, Option, Some, Result, Ok, Err, IsTrue, IfOk, IsSomeAnd, Appends, Parts, IsLayered, Device, ValueOf, ReadsAll, ReadsAs, most_bytes, known_answer, plan_format, task_format, Status, Yes, ToolFault, Output, EndsCounting, Answers, ends_by, answers_by, layers_verdict, Consumes-nil, Detail, detail_of, CheckBy, MutexBy, VerdictBy, UnlayeredBy, layers_by, TaskBy, PlanBy, OutBy, EndsRequest, TaskFileReasons, RefusalReasons, layered_answer, check_layered, check_refused, groups_refused, Request, Headline, Invariants, TaskOut, PlanOutBy, PrintAnswer, AreInputs, reads_task, EndsFile}
+use Rattle.sas_requests.proofs.Imports.{arith, ◌≡◌, ℕ, false, true, List, [], codes, inl, inr, refl, sym, subst, ◌∙◌, Option, Some, Result, Ok, Err, IsTrue, IfOk, IsSomeAnd, Appends, Parts, IsLayered, Device, ValueOf, ReadsAll, ReadsAs, most_bytes, known_answer, plan_format, task_format, Status, Yes, ToolFault, Output, EndsCounting, Answers, ends_by, answers_by, layers_verdict, Consumes-nil, Detail, Bool, GroupsAnswerWith, groups_answered, groups_layered, CheckBy, MutexBy, VerdictBy, UnlayeredBy, layers_by, TaskBy, PlanBy, OutBy, EndsRequest, TaskFileReasons, RefusalReasons, layered_answer, check_layered, check_refused, groups_refused, Request, Headline, Invariants, TaskOut, PlanOutBy, PrintAnswer, AreInputs, reads_task, EndsFile}
 use Rattle.sas_requests.proofs.PlanOutputs.{first_alone, second_alone, not_refused}
-use Rattle.sas_requests.specs.declared.Request.TheVariants as request
+use Rattle.sas_requests.specs.declared.question.Request.TheVariants as request
 use Rattle.sas_requests.proofs.RefusalReasons.{more_reasoned}
 
 -- ---- answers about a task
 
-pub check_yes : (detail : Detail) (p : Parts) → IsLayered p → CheckBy detail p (record { text = codes "task layered\n"; status = Yes })
+pub check_yes : (explains : Bool) (p : Parts) → IsLayered p → CheckBy explains p (record { text = codes "task layered\n"; status = Yes })
 check_yes h1 p layered = grind (arith, check_layered, layered_answer)
 
-pub check_no : (detail : Detail) (p : Parts) (o : Output) → UnlayeredBy detail p o → CheckBy detail p o
+pub check_no : (explains : Bool) (p : Parts) (o : Output) → UnlayeredBy explains p o → CheckBy explains p o
 check_no h1 p o h2 = grind (arith, check_refused, layers_verdict)
 
--- of the groups of a task: of what holds of an output follows another
-pub some_as : (A B : Output → Type 0) → ((o : Output) → A o → B o) → (o : Option Output) → IsSomeAnd o A → IsSomeAnd o B
-some_as h1 h2 to h3 holds = grind arith
+-- of the groups of a task
+pub mutex_yes : (explains : Bool) (p : Parts) (o : Output) → IsLayered p → GroupsAnswerWith explains p o → MutexBy explains p o
+mutex_yes true p o layered answered = groups_layered p o layered answered
+mutex_yes false p o layered answered = groups_answered p o layered answered
 
-pub mutex_no : (detail : Detail) (p : Parts) (o : Output) → UnlayeredBy detail p o → MutexBy detail p o
+pub mutex_no : (explains : Bool) (p : Parts) (o : Output) → UnlayeredBy explains p o → MutexBy explains p o
 mutex_no h1 p o h2 = grind (arith, groups_refused)
 
 -- ---- the output of `plan`
 
 module _ (detail : Detail) (b c : List ℕ) (o : Option Output) where
   abbrev PlanOutput : Option Output → Type 0
-  PlanOutput = PlanOutBy (VerdictBy detail) (layers_by detail) b c
+  PlanOutput = PlanOutBy (VerdictBy detail) (layers_by detail.reasons) b c
 
   -- of a task that is refused
-  pub unlayered_by : TaskBy detail (UnlayeredBy detail) b o → OutBy detail request.Plan b c o
+  pub unlayered_by : TaskBy detail.reasons (UnlayeredBy detail.reasons) b o → OutBy detail request.Plan b c o
   unlayered_by =
-      more_reasoned detail (TaskOut (UnlayeredBy detail) b) PlanOutput (TaskFileReasons b) (RefusalReasons request.Plan b c)
-      (λ q out. inl out) (λ q reasons out why. inr (not_refused (layers_by detail) b q out, why)) o
+      more_reasoned detail.reasons (TaskOut (UnlayeredBy detail.reasons) b) PlanOutput (TaskFileReasons b) (RefusalReasons request.Plan b c)
+      (λ q out. inl out) (λ q reasons out why. inr (not_refused (layers_by detail.reasons) b q out, why)) o
 
   -- and of the plan of a layered one
-  pub judged_by : (p : Parts) → IsLayered p → ReadsAs task_format most_bytes b (Ok p) → PlanBy detail (VerdictBy detail p) c o → OutBy detail request.Plan b c o
-  judged_by p layered reads = grind (arith, more_reasoned, detail_of)
+  pub judged_by : (p : Parts) → IsLayered p → ReadsAs task_format most_bytes b (Ok p) → PlanBy detail.reasons (VerdictBy detail p) c o → OutBy detail request.Plan b c o
+  judged_by p layered reads = grind (arith, more_reasoned)
 
 -- ---- how they go out
 
@@ -63,9 +64,9 @@ module _ {T P W : Type 0} (left_task : T → Option (List ℕ)) (left_plan : P �
   })
 
   -- `steps`, which reads the plan alone
-  pub of_steps : (task : Device T) (old new : Device P) (r : Result Status ToolFault) → task.failed ≡ false → Answers contents (EndsFile left_plan (PlanBy detail (PrintAnswer plan_format)) old new) out_old out_new r → Answers contents (EndsAsked request.Steps task task old new) out_old out_new r
+  pub of_steps : (task : Device T) (old new : Device P) (r : Result Status ToolFault) → task.failed ≡ false → Answers contents (EndsFile left_plan (PlanBy detail.reasons (PrintAnswer plan_format)) old new) out_old out_new r → Answers contents (EndsAsked request.Steps task task old new) out_old out_new r
   of_steps task old new r working =
-      let Answer = PlanBy detail (PrintAnswer plan_format) in
+      let Answer = PlanBy detail.reasons (PrintAnswer plan_format) in
       let alone = second_alone task.failed new.failed (λ t. let apart : true ≡ false = sym t ∙ working in cc) in
       answers_by contents out_old out_new r (EndsFile left_plan Answer old new) (EndsAsked request.Steps task task old new) (λ Sent one. record {
         output = λ b c inputs. ends_by Sent (Answer c) (OutBy detail request.Steps b c) r (λ o out. out) (one.output c (inputs.1 refl));
@@ -80,9 +81,9 @@ module _ {T P W : Type 0} (left_task : T → Option (List ℕ)) (left_plan : P �
 
   -- `plan` of a layered task, which reads both
   pub of_both : (p : Parts) (old new : Device T) → ReadsAll left_task task_format (ValueOf task_format) old new (Ok p) → IsLayered p
-      → (plan_old plan_new : Device P) (r : Result Status ToolFault) → Answers contents (EndsFile left_plan (PlanBy detail (VerdictBy detail p)) plan_old plan_new) out_old out_new r → Answers contents (EndsAsked request.Plan old new plan_old plan_new) out_old out_new r
+      → (plan_old plan_new : Device P) (r : Result Status ToolFault) → Answers contents (EndsFile left_plan (PlanBy detail.reasons (VerdictBy detail p)) plan_old plan_new) out_old out_new r → Answers contents (EndsAsked request.Plan old new plan_old plan_new) out_old out_new r
   of_both p old new read layered plan_old plan_new r =
-      let Answer = PlanBy detail (VerdictBy detail p) in
+      let Answer = PlanBy detail.reasons (VerdictBy detail p) in
       let alone = second_alone new.failed plan_new.failed (λ t. read.note.1 t) in
       answers_by contents out_old out_new r (EndsFile left_plan Answer plan_old plan_new) (EndsAsked request.Plan old new plan_old plan_new) (λ Sent one. record {
         output = λ b c inputs.
@@ -104,13 +105,13 @@ module _ (Outputs : Request → List ℕ → List ℕ → Option Output → Type
   abbrev Ended : Result Status ToolFault → Type 0
   Ended r = (b c : List ℕ) → AreInputs asked task plan b c → EndsCounting (Outputs asked b c) (Appends old new) r
 
-  pub headline_reported : ((b c : List ℕ) (o : Output) → Outputs request.Plan b c (Some o) → (old new : Option (List ℕ)) (before : List ℕ) (status : Status)
-      → old ≡ Some before → status ≡ o.status → Appends old new o.text → Headline b c (Appends old new) status) → (r : Result Status ToolFault) → Ended r
-      → IfOk r (λ status. asked ≡ request.Plan → (b c before : List ℕ) → task ≡ Some b → plan ≡ Some c → old ≡ Some before → Headline b c (Appends old new) status)
-  headline_reported heads (Ok status) ends = λ is b c before known_task known_plan known.
+  pub headline_reported : (Sends : List ℕ → Type 0) → ((b c : List ℕ) (o : Output) → Outputs request.Plan b c (Some o) → (before : List ℕ) (status : Status)
+      → old ≡ Some before → status ≡ o.status → Appends old new o.text → Headline b c Sends status) → (r : Result Status ToolFault) → Ended r
+      → IfOk r (λ status. asked ≡ request.Plan → (b c before : List ℕ) → task ≡ Some b → plan ≡ Some c → old ≡ Some before → Headline b c Sends status)
+  headline_reported Sends heads (Ok status) ends = λ is b c before known_task known_plan known.
       let (o, out, same, sent) = ends b c (λ _. known_task, λ _. known_plan) in
-      heads b c o (subst (λ (q : Request). Outputs q b c (Some o)) is out) old new before status known same sent
-  headline_reported heads (Err why) ends = tt
+      heads b c o (subst (λ (q : Request). Outputs q b c (Some o)) is out) before status known same sent
+  headline_reported Sends heads (Err why) ends = tt
 
   pub invariants_reported : ((b c : List ℕ) (o : Output) → Outputs request.Mutex b c (Some o) → (old new : Option (List ℕ)) (before : List ℕ)
       → old ≡ Some before → Appends old new o.text → Invariants b (Appends old new)) → (r : Result Status ToolFault) → Ended r

@@ -1,9 +1,10 @@
 -- An output with the reasons of what was read is the same answer as the output without them.
 use Rattle.std.proofs.lemmas.Grind.{common_steps}
-use Rattle.sas_requests.proofs.Imports.{◌≡◌, ℕ, ◌+◌, ◌<◌, List, [], ◌++◌, length, map, get_or, arith, codes, refl, sym, ap, subst, ◌∙◌, inl, inr, Option, Some, None, Result, Ok, Err, Parts, first_fault, PlanParts, WellNamed, WellRanged, LayerFault, layer_checks, text, Verdict, Exclusive, AreJointVerdicts, Reason, IsReasonIfAny, AreReasons, reason_at, Fault, Format, ReadsAs, most_bytes, without_reasons, IsSameAnswer, OutOfRead, plan_format, task_format, PlanFault, Yes, No, Output, layers_refusal, layers_verdict, LayeredGroupsAnswer, CheckAnswer, MutexAnswer, VerdictAnswer, verdict_lines, groups_status, layer_words, layers_line, fault_words, invalid_line, why_lines, WhyGroupsAnswer, layer_reasons, why_refusal, WhyAnswer, WhyCheckAnswer, WhyMutexAnswer, line_bytes, reasons_text, WhyVerdict, Explains, Request, Show, Print, Steps, Check, Plan, Mutex, Out, IsAnswerOrRefusal, FileOut, TaskOut, UnlayeredAnswer, plain_refusal, ShowAnswer, PrintAnswer, worded}
+use Rattle.sas_requests.proofs.Imports.{◌≡◌, ℕ, ◌+◌, ◌<◌, List, [], ◌++◌, length, map, get_or, arith, codes, refl, sym, ap, subst, ◌∙◌, inl, inr, Option, Some, None, Result, Ok, Err, Parts, first_fault, PlanParts, WellNamed, WellRanged, LayerFault, layer_checks, text, Verdict, Exclusive, AreJointVerdicts, Reason, IsReasonIfAny, AreReasons, reason_at, Fault, Format, ReadsAs, most_bytes, without_reasons, IsSameAnswer, OutOfRead, Bool, true, false, AllByRecursion, Detail, VerdictWith, EndsWith, Run, run_lines, plan_format, task_format, PlanFault, Yes, No, Output, layers_refusal, layers_verdict, LayeredGroupsAnswer, CheckAnswer, MutexAnswer, VerdictAnswer, verdict_lines, groups_status, layer_words, layers_line, fault_words, invalid_line, why_lines, WhyGroupsAnswer, layer_reasons, why_refusal, WhyAnswer, WhyCheckAnswer, WhyMutexAnswer, line_bytes, reasons_text, WhyVerdict, Explains, Request, Show, Print, Steps, Check, Plan, Mutex, IsAnswerOrRefusal, FileOut, TaskOut, UnlayeredAnswer, plain_refusal, ShowAnswer, PrintAnswer, worded}
 use Rattle.sas_requests.proofs.ReasonLines.{lines_report}
 use Rattle.sas_requests.proofs.GroupLines.{groups_kept, all_exclusive}
-use Rattle.sas_requests.proofs.PlainAnswers.{IsReportedText, stays, first_stays, AreRefusalsReported, task_refusals_reported, plan_refusals_reported, layer_reported, layers_reported, verdict_reported}
+use Rattle.sas_requests.proofs.TraceLines.{run_reported}
+use Rattle.sas_requests.proofs.PlainAnswers.{IsReported, IsReportedText, without_both, stays, first_stays, AreRefusalsReported, task_refusals_reported, plan_refusals_reported, layer_reported, layers_reported, verdict_reported}
 use Rattle.sas_requests.proofs.WhyAnswers.{why_is}
 
 -- ---- an output is the same answer as itself
@@ -116,15 +117,48 @@ verdict_same : (p : Parts) → WellRanged p → SameOfEach WellNamed (VerdictAns
 verdict_same p ranged plan o named (inl (valid, is)) = (o, inl (valid, is), itself o (yes_stays o (ap (λ (x : Output). x.status) is)))
 verdict_same p ranged plan o named (inr (fault, is_fault, e, is_no)) = (e.verdict, inr (fault, is_fault, e.reported), explained_same p plan fault o ranged named e is_no)
 
+-- ---- after a trace
+
+-- lines in front that are no reasons stay
+kept_behind : (front : List (List ℕ)) (bytes : List ℕ) → AllByRecursion IsReported front → without_reasons (text front ++ bytes) ≡ text front ++ without_reasons bytes
+kept_behind front bytes reported = without_both front bytes ∙ ap (λ (t : List ℕ). t ++ without_reasons bytes) (stays (text front) (record { reported = front; each = reported; whole = refl }))
+
+abbrev behind : List ℕ → Output → Output
+behind front o = record { text = front ++ o.text; status = o.status }
+
+same_behind : (front : List (List ℕ)) (plain why o : Output) → AllByRecursion IsReported front → IsSameAnswer plain why → o.text ≡ text front ++ why.text → o.status ≡ why.status → IsSameAnswer (behind (text front) plain) o
+same_behind front plain why o reported same whole status = record {
+  status = status ∙ same.status;
+  yes = λ is_yes. whole ∙ ap (λ (t : List ℕ). text front ++ t) (same.yes is_yes);
+  no = λ is_no. ap without_reasons whole ∙ (kept_behind front why.text reported ∙ ap (λ (t : List ℕ). text front ++ t) (same.no is_no));
+}
+
+answer_same : (p : Parts) (plan : PlanParts) (run : Run) (o : Output) → WellRanged p → WellNamed plan → EndsWith true p plan run o → (plain : Output) × EndsWith false p plan run plain × IsSameAnswer plain o
+answer_same p plan run o ranged named (inl (ends, is)) = (o, inl (ends, is), itself o (yes_stays o (ap (λ (x : Output). x.status) is)))
+answer_same p plan run o ranged named (inr (fault, ends, (e, is_no))) = (e.verdict, inr (fault, ends, e.reported), explained_same p plan fault o ranged named e is_no)
+
+told_same : (trace : Bool) (p : Parts) → WellRanged p → SameOfEach WellNamed (VerdictWith trace false p) (VerdictWith trace true p)
+told_same false p ranged = verdict_same p ranged
+told_same true p ranged = λ plan o named t.
+    let it = answer_same p plan t.run t.answer ranged named t.ends in (
+      behind (text (run_lines p t.run)) it.0,
+      record { run = t.run; through = t.through; answer = it.0; ends = it.1; whole = refl; status = refl },
+      same_behind (run_lines p t.run) it.0 t.answer o (run_reported p ranged t.run) it.2 t.whole t.status,
+    )
+
 -- ---- all of them
 
-pub same_of_read : (request : Request) (b c : List ℕ) (why : Output) → OutOfRead request b c (Some why) → (plain : Output) × Out request b c (Some plain) × IsSameAnswer plain why
-same_of_read Show b c why out = task_same ShowAnswer ShowAnswer (yes_same WellRanged _) b why out
-same_of_read Print b c why out = task_same (PrintAnswer task_format) (PrintAnswer task_format) (yes_same WellRanged _) b why out
-same_of_read Steps b c why out = plan_same (PrintAnswer plan_format) (PrintAnswer plan_format) (yes_same WellNamed _) c why out
-same_of_read Check b c why out = task_same CheckAnswer WhyCheckAnswer (λ p o ranged is. check_same p (first_fault (layer_checks p)) o ranged is) b why out
-same_of_read Plan b c why (inl out) =
+abbrev with_trace : Bool → Bool → Detail
+with_trace trace reasons = record { reasons = reasons; trace = trace }
+
+pub same_of_read : (trace : Bool) (request : Request) (b c : List ℕ) (why : Output) → OutOfRead (with_trace trace true) request b c (Some why)
+    → (plain : Output) × OutOfRead (with_trace trace false) request b c (Some plain) × IsSameAnswer plain why
+same_of_read trace Show b c why out = task_same ShowAnswer ShowAnswer (yes_same WellRanged _) b why out
+same_of_read trace Print b c why out = task_same (PrintAnswer task_format) (PrintAnswer task_format) (yes_same WellRanged _) b why out
+same_of_read trace Steps b c why out = plan_same (PrintAnswer plan_format) (PrintAnswer plan_format) (yes_same WellNamed _) c why out
+same_of_read trace Check b c why out = task_same CheckAnswer WhyCheckAnswer (λ p o ranged is. check_same p (first_fault (layer_checks p)) o ranged is) b why out
+same_of_read trace Plan b c why (inl out) =
     let it = task_same (UnlayeredAnswer plain_refusal) (UnlayeredAnswer why_refusal) unlayered_same b why out in (it.0, inl it.1, it.2)
-same_of_read Plan b c why (inr (p, reads, layered, out)) =
-    let it = plan_same (VerdictAnswer p) (WhyVerdict p) (verdict_same p reads.0.good) c why out in (it.0, inr (p, reads, layered, it.1), it.2)
-same_of_read Mutex b c why out = task_same MutexAnswer WhyMutexAnswer (λ p o ranged is. mutex_same p (first_fault (layer_checks p)) o ranged is) b why out
+same_of_read trace Plan b c why (inr (p, reads, layered, out)) =
+    let it = plan_same (VerdictWith trace false p) (VerdictWith trace true p) (told_same trace p reads.0.good) c why out in (it.0, inr (p, reads, layered, it.1), it.2)
+same_of_read trace Mutex b c why out = task_same MutexAnswer WhyMutexAnswer (λ p o ranged is. mutex_same p (first_fault (layer_checks p)) o ranged is) b why out

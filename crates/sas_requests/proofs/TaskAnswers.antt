@@ -1,8 +1,7 @@
 -- How a run over many plans ends, by what came of reading its task.
 use Rattle.std.proofs.lemmas.Grind.{common_steps}
-use Rattle.sas_requests.proofs.Imports.{arith, ◌≡◌, ℕ, List, [], length, inl, inr, Option, Some, Result, Ok, Parts, Device, Consumes, ReadsAll, ReadsAs, ValueOf, most_bytes, task_format, known_answer, IsLayered, Status, ToolFault, Output, Ends, EndsCounting, IsDecided, exact_ends, EndsFile, TaskBy, UnlayeredBy, TaskOut, UnlayeredAnswer, plain_refusal, Plan, JudgeFault, tool_result, HaveBytes, WasRead, WereRead, Consumes-nil, JudgeOut, PlansOut, JudgesPlans}
+use Rattle.sas_requests.proofs.Imports.{arith, ◌≡◌, ℕ, false, List, [], length, inl, inr, Option, Some, Result, Ok, Parts, Device, Consumes, ReadsAll, ReadsAs, ValueOf, most_bytes, task_format, known_answer, IsLayered, Status, ToolFault, Output, Ends, EndsCounting, IsDecided, exact_ends, EndsFile, TaskBy, UnlayeredBy, TaskOut, UnlayeredAnswer, plain_refusal, Plan, JudgeFault, tool_result, HaveBytes, WasRead, WereRead, Consumes-nil, JudgeOut, PlansOut, JudgesPlans}
 use Rattle.sas_requests.proofs.ShortOutputs.{short_output}
-use Rattle.sas_answers.specs.declared.detail.Detail.TheVariants.{Plain}
 use Rattle.sas_requests.proofs.SideBySide.{choose}
 
 -- what ends with an output ends with another that follows from it
@@ -31,7 +30,7 @@ module _ {D : Type 0} (left : D → Option (List ℕ)) (known : ℕ → Option (
         (b, cs, consumed.0, were, of_plans b cs reads ends)
 
   -- of one that is refused
-  module _ (r : Result Status ToolFault) (refused : EndsFile left (TaskBy Plain (UnlayeredBy Plain)) old new Sent r) where
+  module _ (r : Result Status ToolFault) (refused : EndsFile left (TaskBy false (UnlayeredBy false)) old new Sent r) where
     of_refusal : (b : List ℕ) (cs : List (List ℕ)) → EndsCounting (TaskOut (UnlayeredAnswer plain_refusal) b) Sent r → Ends (JudgeOut labels b cs) Sent r
     of_refusal b cs ends =
         let Refused = TaskOut (UnlayeredAnswer plain_refusal) b in

@@ -6,8 +6,8 @@ use Rattle.sas_answers.specs.declared.ending.Status.{Status}
 use Rattle.sas_answers.specs.declared.ending.ToolFault.{ToolFault}
 use Rattle.sas_answers.specs.declared.ending.ToolFault.TheVariants as fault
 use Rattle.sas_answers.specs.Ending.{Output, EndsCounting, IsDecided}
-use Rattle.sas_requests.specs.declared.Request.{Request}
-use Rattle.sas_requests.specs.declared.Request.TheVariants as requests
+use Rattle.sas_requests.specs.declared.question.Request.{Request}
+use Rattle.sas_requests.specs.declared.question.Request.TheVariants as requests
 use Rattle.sas_requests.specs.Output.{AreInputs, IsLayeredText, reads_plan, reads_task}
 
 -- How the output about one file went out. `left` maps a device to the bytes that it has left, where

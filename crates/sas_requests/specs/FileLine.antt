@@ -5,9 +5,9 @@ use Rattle.sas_lines.specs.Lines.{text}
 use Rattle.sas_reader.specs.declared.fault.Fault.{Fault}
 use Rattle.sas_reader.specs.declared.fault.Kind.{Kind}
 use Rattle.sas_reader.specs.declared.fault.Kind.TheVariants as kinds
+use Rattle.sas_reader.specs.Found.{Kept}
 use Rattle.sas_answers.specs.Shown.{shown}
 use Rattle.sas_answers.specs.Words.{line}
-use Rattle.sas_answers.specs.declared.shown.PlainBytes.{PlainBytes}
 use Rattle.sas_task_file.specs.declared.counts.ListCount.{ListCount}
 use Rattle.sas_task_file.specs.Marks.{fixed_word_bytes}
 use Rattle.sas_task_file.specs.declared.marks.Due.{Due}
@@ -15,8 +15,11 @@ use Rattle.sas_task_file.specs.declared.marks.Due.TheVariants as due
 use Rattle.sas_task_file.specs.declared.marks.Location.{Location}
 use Rattle.sas_task_file.specs.declared.marks.Location.TheVariants as at
 use Rattle.sas_task_file.specs.declared.marks.Mark.{Mark}
+use Rattle.sas_task_file.specs.declared.marks.What.{What}
+use Rattle.sas_task_file.specs.declared.marks.What.TheVariants as what
 use Rattle.sas_task_file.specs.declared.marks.WrongWord.{WrongWord}
 use Rattle.sas_requests.specs.declared.hint.Hint.{Hint}
+use Rattle.sas_requests.specs.declared.hint.Lacks.{Lacks}
 use Rattle.sas_requests.specs.Hint.{hint_words, hint_for}
 
 -- a line as data
@@ -31,8 +34,8 @@ pub data FileLine : Type 0 where
   NumberMustBe : WrongWord → FileLine
   -- the number of items of the list that the line belongs to, and where the file has it
   Counted : ListCount → FileLine
-  -- the text at a fault of this kind: its first bytes, and whether more follow
-  Found : Kind → List ℕ → Bool → FileLine
+  -- the text at a fault of this kind, by its first bytes: 64 are shown
+  Found : Kind → List ℕ → FileLine
   -- what may have gone wrong
   Hinted : Hint → FileLine
 
@@ -52,12 +55,32 @@ location_words at.Rules = codes "rules"
 location_words (at.Rule n) = codes "rule " ++ decimal n
 location_words at.End = codes "the end"
 
+-- the words for what a name or a number is
+abbrev pub what_words : What → List ℕ
+what_words what.Variable = codes "variable"
+what_words what.Value = codes "value"
+what_words what.Operator = codes "operator"
+what_words what.Version = codes "version"
+what_words what.Metric = codes "metric"
+what_words what.Variables = codes "number of variables"
+what_words what.Groups = codes "number of groups"
+what_words what.Operators = codes "number of operators"
+what_words what.Rules = codes "number of rules"
+what_words what.Range = codes "range"
+what_words what.Facts = codes "number of facts"
+what_words (what.ValueOf variable) = codes "value of variable " ++ decimal variable
+what_words what.Prevail = codes "number of prevail conditions"
+what_words what.Effects = codes "number of effects"
+what_words what.Cost = codes "cost"
+what_words what.Conditions = codes "number of conditions"
+
 -- the words for what is expected in a task
 abbrev pub due_words : Due → List ℕ
 due_words (due.Word w) = fixed_word_bytes w
-due_words due.Name = codes "a name"
-due_words (due.Number least most) = codes "number " ++ decimal least ++ codes " to " ++ decimal most
-due_words due.Layer = codes "number -1 to 2147483647"
+due_words (due.Name its) = codes "a name: " ++ what_words its
+due_words (due.Number its least most) =
+    codes "number " ++ decimal least ++ codes " to " ++ decimal most ++ codes ": " ++ what_words its
+due_words due.Layer = codes "number -1 to 2147483647: axiom layer"
 due_words due.Fact = codes "fact: VAR VALUE"
 due_words due.Head = codes "head: VAR OLD NEW"
 due_words due.Effect = codes "effect: COUNT, COUNT times VAR VALUE, VAR OLD NEW"
@@ -74,10 +97,6 @@ plan_due_words _ = codes "(NAME) or ; cost = N (unit cost) or ; cost = N (genera
 abbrev pub least_words : Bool → List ℕ
 least_words true = codes "-1"
 least_words false = codes "0"
-
--- the bytes that a text is shown with as they are: from 32 to 126, but for the backslash
-abbrev pub plain_in_texts : PlainBytes
-plain_in_texts = record { last = 126; but = 92 }
 
 -- the word before the text at a fault of this kind: `End` is that of an unfinished last line
 abbrev pub found_word : Kind → List ℕ
@@ -99,9 +118,8 @@ file_line_bytes (NumberMustBe w) =
     ∷ codes "to" ∷ decimal w.most ∷ [])
 file_line_bytes (Counted c) =
     line 2 (codes "line" ∷ decimal c.line ∷ codes "counts" ∷ decimal c.number ∷ [])
-file_line_bytes (Found kind [] more) = line 2 (empty_words kind ∷ [])
-file_line_bytes (Found kind (b ∷ bytes) more) =
-    line 2 (found_word kind ∷ shown plain_in_texts (b ∷ bytes) more ∷ [])
+file_line_bytes (Found kind []) = line 2 (empty_words kind ∷ [])
+file_line_bytes (Found kind (b ∷ bytes)) = line 2 (found_word kind ∷ shown 64 (b ∷ bytes) ∷ [])
 file_line_bytes (Hinted h) = line 2 (codes "hint" ∷ hint_words h ∷ [])
 
 -- the bytes of a line, with its end
@@ -114,20 +132,19 @@ ended_line l = file_line_bytes l ++ 10 ∷ []
 abbrev pub line_if : {A : Type 0} → (A → FileLine) → Option A → List FileLine
 line_if line value = option_map_or (λ a. line a ∷ []) value []
 
--- What was found at a fault, by its first bytes and whether more follow, and whether the file lacks
--- only a line end.
-module _ (fault : Fault) (bytes : List ℕ) (more lacks : Bool) where
+-- What was kept of the text at a fault, and what alone is missing.
+module _ (fault : Fault) (kept : Kept) (lacks : Lacks) where
   -- for a task: the location of the line, what is expected there, which number is wrong, the number
   -- of items of its list, what was found, and a hint
   abbrev pub task_reasons : Mark → Option WrongWord → Option ListCount → List FileLine
   task_reasons mark word count =
       At mark.at ∷ Expected mark.due ∷ (line_if NumberMustBe word ++ line_if Counted count
-      ++ Found fault.kind bytes more ∷ line_if Hinted (hint_for true fault lacks bytes))
+      ++ Found fault.kind kept.front ∷ line_if Hinted (hint_for true fault kept lacks))
 
   -- for a plan: what is expected, what was found, and a hint
   abbrev pub plan_reasons : List FileLine
-  plan_reasons = ExpectedInPlan fault.kind ∷ Found fault.kind bytes more
-      ∷ line_if Hinted (hint_for false fault lacks bytes)
+  plan_reasons = ExpectedInPlan fault.kind ∷ Found fault.kind kept.front
+      ∷ line_if Hinted (hint_for false fault kept lacks)
 
 -- the text of some lines
 abbrev pub file_text : List FileLine → List ℕ

@@ -1,11 +1,13 @@
 -- Why a file is refused: the lines that follow its refusal.
-use Rattle.std.specs.Prelude.{◌≡◌, ◌⊎◌, ◌↔◌, ℕ, Bool, IsTrue, List, [], length, take, nat_lt, Option, Result, Ok, Err}
+use Rattle.std.specs.Prelude.{◌≡◌, ◌⊎◌, ◌↔◌, ℕ, Bool, false, IsTrue, List, [], Option, Result, Ok, Err}
 use Rattle.sas_reader.specs.declared.fault.Fault.{Fault}
 use Rattle.sas_reader.specs.declared.fault.Kind.TheVariants.{TooLong}
 use Rattle.sas_reader.specs.Format.{Format, LacksLineEnd, ReadsAs}
 use Rattle.sas_reader.specs.Limit.{most_bytes}
 use Rattle.sas_reader.specs.About.{IsAbout}
+use Rattle.sas_reader.specs.Found.{kept_of}
 use Rattle.sas_plan_file.specs.PlanFormat.{plan_format}
+use Rattle.sas_plan_file.specs.PlanEnds.{LacksCostLine}
 use Rattle.sas_task_file.specs.declared.counts.ListCount.{ListCount}
 use Rattle.sas_task_file.specs.declared.marks.Mark.{Mark}
 use Rattle.sas_task_file.specs.declared.marks.WrongWord.{WrongWord}
@@ -13,22 +15,22 @@ use Rattle.sas_task_file.specs.TaskFormat.{task_format}
 use Rattle.sas_task_file.specs.Counts.{IsCounted}
 use Rattle.sas_task_file.specs.TaskReasons.{IsTaskReason}
 use Rattle.sas_requests.specs.FileLine.{FileLine, plan_reasons, task_reasons}
-use Rattle.sas_requests.specs.declared.Request.{Request}
-use Rattle.sas_requests.specs.declared.Request.TheVariants.{Steps, Plan}
+use Rattle.sas_requests.specs.declared.question.Request.{Request}
+use Rattle.sas_requests.specs.declared.question.Request.TheVariants.{Steps, Plan}
 use Rattle.sas_requests.specs.Output.{IsLayeredText}
 
 -- ---- one file
 
--- `Explains` relates a fault, the lines that were accepted before it, the text that stood there,
--- and whether the bytes lack only a line end, to the reasons why the text may not stand there.
+-- `Explains` relates bytes, their fault, the lines that were accepted before it, and the text that
+-- stood there to the reasons why the text may not stand there.
 module _ {V I S : Type 0} (F : Format V I S)
-    (Explains : Fault → List (List ℕ) → List ℕ → Bool → List FileLine → Type 0) where
+    (Explains : List ℕ → Fault → List (List ℕ) → List ℕ → List FileLine → Type 0) where
   -- the reasons why the bytes are refused for their fault, by what it is about; a file that is
   -- too long is refused without a line
   pub data FaultReasons (bytes : List ℕ) (fault : Fault) (reasons : List FileLine) : Type 0 where
-    reported : (begun : List (List ℕ)) → (found : List ℕ) → (lacks : Bool)
-        → IsAbout F most_bytes bytes fault begun found → IsTrue lacks ↔ LacksLineEnd F bytes
-        → Explains fault begun found lacks reasons → FaultReasons bytes fault reasons
+    reported : (begun : List (List ℕ)) → (found : List ℕ)
+        → IsAbout F most_bytes bytes fault begun found
+        → Explains bytes fault begun found reasons → FaultReasons bytes fault reasons
     past_limit : fault.kind ≡ TooLong → reasons ≡ [] → FaultReasons bytes fault reasons
 
   -- by what the bytes are read as: where they are a text there are none
@@ -42,22 +44,28 @@ module _ {V I S : Type 0} (F : Format V I S)
       × ReadReasons bytes read reasons
 
 -- a task: where the line stands, what is expected there, its first number that isn't allowed
--- there, the number of items of its list, the first 64 bytes of what was found, and a hint
-pub record AreTaskReasons (fault : Fault) (begun : List (List ℕ)) (found : List ℕ) (lacks : Bool)
+-- there, the number of items of its list, the first bytes of what was found, and a hint
+pub record AreTaskReasons (bytes : List ℕ) (fault : Fault) (begun : List (List ℕ)) (found : List ℕ)
     (reasons : List FileLine) : Type 0 where
   pub mark : Mark
   pub word : Option WrongWord
   pub count : Option ListCount
+  pub line_end : Bool
   pub reason : IsTaskReason fault.kind begun found mark word
   pub counted : IsCounted begun count
-  pub lines : reasons ≡ task_reasons fault (take 64 found) (nat_lt 64 (length found)) lacks
-      mark word count
+  pub lacks : IsTrue line_end ↔ LacksLineEnd task_format bytes
+  pub lines : reasons ≡ task_reasons fault (kept_of fault.kind found)
+      (record { line_end = line_end; cost_line = false }) mark word count
 
--- a plan: what is expected, by the kind of the fault, the first 64 bytes of what was found, and a
--- hint
-abbrev pub ArePlanReasons : Fault → List (List ℕ) → List ℕ → Bool → List FileLine → Type 0
-ArePlanReasons fault begun found lacks reasons =
-    reasons ≡ plan_reasons fault (take 64 found) (nat_lt 64 (length found)) lacks
+-- a plan: what is expected, by the kind of the fault, the first bytes of what was found, and a hint
+pub record ArePlanReasons (bytes : List ℕ) (fault : Fault) (begun : List (List ℕ)) (found : List ℕ)
+    (reasons : List FileLine) : Type 0 where
+  pub line_end : Bool
+  pub cost_line : Bool
+  pub lacks_line_end : IsTrue line_end ↔ LacksLineEnd plan_format bytes
+  pub lacks_cost_line : IsTrue cost_line ↔ LacksCostLine bytes
+  pub lines : reasons ≡ plan_reasons fault (kept_of fault.kind found)
+      (record { line_end = line_end; cost_line = cost_line })
 
 abbrev pub TaskFileReasons : List ℕ → List FileLine → Type 0
 TaskFileReasons = FileReasons task_format AreTaskReasons

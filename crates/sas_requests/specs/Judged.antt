@@ -11,7 +11,7 @@ use Rattle.sas_answers.specs.declared.ending.Status.{Status}
 use Rattle.sas_answers.specs.declared.ending.Status.TheVariants.{Yes, No}
 use Rattle.sas_answers.specs.Ending.{Output}
 use Rattle.sas_answers.specs.Answers.{VerdictAnswer}
-use Rattle.sas_requests.specs.declared.Request.TheVariants.{Plan}
+use Rattle.sas_requests.specs.declared.question.Request.TheVariants.{Plan}
 use Rattle.sas_requests.specs.declared.tally.BestPlan.{BestPlan}
 use Rattle.sas_requests.specs.declared.tally.Tally.{Tally}
 use Rattle.sas_requests.specs.Output.{Out, LayeredOut, VerdictOut, IsLayeredText, plain_refusal}

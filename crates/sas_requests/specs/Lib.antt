@@ -14,8 +14,8 @@ pub use Rattle.sas_answers.specs.Ending
 pub use Rattle.sas_plan_reasons.specs.Trace
 pub use Rattle.sas_plan_reasons.specs.Traced
 pub mod FileReasons
-pub mod Why
-pub mod TraceOut
+pub mod OutBy
+pub mod SameAnswer
 pub mod EndsRequest
 pub mod Answering
 pub mod Judged

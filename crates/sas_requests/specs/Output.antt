@@ -20,8 +20,8 @@ use Rattle.sas_flat.specs.Outlines.{outline_of}
 use Rattle.sas_answers.specs.declared.ending.Status.TheVariants.{Yes, No}
 use Rattle.sas_answers.specs.Answers.{layers_refusal, CheckAnswer, MutexAnswer, VerdictAnswer}
 use Rattle.sas_answers.specs.Ending.{Output}
-use Rattle.sas_requests.specs.declared.Request.{Request}
-use Rattle.sas_requests.specs.declared.Request.TheVariants.{Show, Print, Steps, Check, Plan, Mutex}
+use Rattle.sas_requests.specs.declared.question.Request.{Request}
+use Rattle.sas_requests.specs.declared.question.Request.TheVariants.{Show, Print, Steps, Check, Plan, Mutex}
 use Rattle.sas_requests.specs.Summary.{summary_lines}
 
 -- the word for a kind of fault; the kinds without a word mean that the file was not read as a whole

@@ -1,11 +1,11 @@
 // Lines with the location of a line, and with what is expected there.
 ghost use Rattle.std.specs.Prelude.{◌≡◌, ◌++◌, decimal, codes, OnOk};
 ghost use Rattle.sas_requests.specs.FileLine as line;
-ghost use Rattle.sas_requests.specs.FileLine.{due_words, ended_line, file_text, line_if, location_words, plan_due_words};
+ghost use Rattle.sas_requests.specs.FileLine.{due_words, ended_line, file_text, line_if, location_words, plan_due_words, what_words};
 
 use sas_lines::{push_line, push_number};
 use sas_reader::Kind;
-use sas_task_file::{Due, ListCount, Location, WrongWord};
+use sas_task_file::{Due, ListCount, Location, What, WrongWord};
 use std::alloc::AllocError;
 
 /// Appends the line with a location.
@@ -63,9 +63,9 @@ fn push_due_words(out: &mut Vec<u8>, due: Due) -> Result<(), AllocError>
 {
     match due {
         Due::Word(word) => out.extend_from_slice(word.bytes()),
-        Due::Name => out.extend_from_slice(b"a name"),
-        Due::Number { least, most } => push_range(out, least, most),
-        Due::Layer => out.extend_from_slice(b"number -1 to 2147483647"),
+        Due::Name(what) => push_name(out, what),
+        Due::Number { what, least, most } => push_range(out, what, least, most),
+        Due::Layer => out.extend_from_slice(b"number -1 to 2147483647: axiom layer"),
         Due::Fact => out.extend_from_slice(b"fact: VAR VALUE"),
         Due::Head => out.extend_from_slice(b"head: VAR OLD NEW"),
         Due::Effect => {
@@ -75,13 +75,57 @@ fn push_due_words(out: &mut Vec<u8>, due: Due) -> Result<(), AllocError>
     }
 }
 
+/// Appends the words for a name.
+fn push_name(out: &mut Vec<u8>, what: What) -> Result<(), AllocError>
+    ensures { OnOk result (out.new.items ≡ out.old.items ++ (codes "a name: " ++ what_words what)) }
+{
+    out.extend_from_slice(b"a name: ")?;
+    push_what(out, what)
+}
+
 /// Appends the words for a number from `least` to `most`.
-fn push_range(out: &mut Vec<u8>, least: u32, most: u32) -> Result<(), AllocError>
-    ensures { OnOk result (out.new.items
-        ≡ out.old.items ++ codes "number " ++ decimal least ++ codes " to " ++ decimal most) }
+fn push_range(out: &mut Vec<u8>, what: What, least: u32, most: u32) -> Result<(), AllocError>
+    ensures { OnOk result (out.new.items ≡ out.old.items
+        ++ codes "number " ++ decimal least ++ codes " to " ++ decimal most ++ codes ": "
+        ++ what_words what) }
 {
     push_counted(out, b"number ", least)?;
-    push_counted(out, b" to ", most)
+    push_counted(out, b" to ", most)?;
+    out.extend_from_slice(b": ")?;
+    push_what(out, what)
+}
+
+/// Appends the words for what a name or a number is.
+fn push_what(out: &mut Vec<u8>, what: What) -> Result<(), AllocError>
+    ensures { OnOk result (out.new.items ≡ out.old.items ++ what_words what) }
+{
+    match what {
+        What::Variable => out.extend_from_slice(b"variable"),
+        What::Value => out.extend_from_slice(b"value"),
+        What::Operator => out.extend_from_slice(b"operator"),
+        What::Version => out.extend_from_slice(b"version"),
+        What::Metric => out.extend_from_slice(b"metric"),
+        What::Variables => out.extend_from_slice(b"number of variables"),
+        What::Groups => out.extend_from_slice(b"number of groups"),
+        What::Operators => out.extend_from_slice(b"number of operators"),
+        What::Rules => out.extend_from_slice(b"number of rules"),
+        What::Range => out.extend_from_slice(b"range"),
+        What::Facts => out.extend_from_slice(b"number of facts"),
+        What::ValueOf(variable) => push_value_of(out, variable),
+        What::Prevail => out.extend_from_slice(b"number of prevail conditions"),
+        What::Effects => out.extend_from_slice(b"number of effects"),
+        What::Cost => out.extend_from_slice(b"cost"),
+        What::Conditions => out.extend_from_slice(b"number of conditions"),
+    }
+}
+
+/// Appends the words for a value in the initial state.
+fn push_value_of(out: &mut Vec<u8>, variable: usize) -> Result<(), AllocError>
+    ensures { OnOk result
+        (out.new.items ≡ out.old.items ++ (codes "value of variable " ++ decimal variable)) }
+{
+    out.extend_from_slice(b"value of variable ")?;
+    push_number(out, variable as u128)
 }
 
 /// Appends the line with the wrong number, and which numbers are allowed, if there is one.
@@ -112,7 +156,8 @@ pub(crate) fn push_count(out: &mut Vec<u8>, count: Option<ListCount>) -> Result<
     };
     out.extend_from_slice(b"  line ")?;
     push_number(out, u128::from(count.line))?;
-    push_counted(out, b" counts ", count.number)?;
+    out.extend_from_slice(b" counts ")?;
+    push_number(out, u128::from(count.number))?;
     out.push(b'\n')?;
     Ok(())
 }

@@ -4,8 +4,8 @@ ghost use Rattle.sas_requests.specs.Answering.{plan_refusal_lines, task_refusal_
 ghost use Rattle.sas_requests.specs.FileLine.{Hinted, file_text, line_if};
 
 use crate::dues::{push_count, push_due, push_location, push_plan_due, push_wrong_word};
-use crate::found::{first_bytes, push_found};
-use crate::hint::{Hint, hint_for};
+use crate::found::push_found;
+use crate::hint::{Hint, Lacks, hint_for};
 use sas_lines::push_line;
 use sas_plan_file::PlanRefusal;
 use sas_task_reader::TaskRefusal;
@@ -21,9 +21,12 @@ pub fn push_task_reasons(out: &mut Vec<u8>, refused: &TaskRefusal) -> Result<(),
     push_due(out, refused.mark.due)?;
     push_wrong_word(out, refused.word)?;
     push_count(out, refused.count)?;
-    push_found(out, refused.fault.kind, &refused.found)?;
-    let found = first_bytes(&refused.found);
-    let hint = hint_for(true, refused.fault, refused.lacks_line_end, found);
+    push_found(out, refused.fault.kind, refused.found.bytes())?;
+    let lacks = Lacks {
+        line_end: refused.lacks_line_end,
+        cost_line: false,
+    };
+    let hint = hint_for(true, refused.fault, &refused.found, lacks);
     push_hint(out, hint)
 }
 
@@ -33,9 +36,12 @@ pub fn push_plan_reasons(out: &mut Vec<u8>, refused: &PlanRefusal) -> Result<(),
         (out.new.items ≡ out.old.items ++ file_text (plan_refusal_lines refused.now)) }
 {
     push_plan_due(out, refused.fault.kind)?;
-    push_found(out, refused.fault.kind, &refused.found)?;
-    let found = first_bytes(&refused.found);
-    let hint = hint_for(false, refused.fault, refused.lacks_line_end, found);
+    push_found(out, refused.fault.kind, refused.found.bytes())?;
+    let lacks = Lacks {
+        line_end: refused.lacks_line_end,
+        cost_line: refused.lacks_cost_line,
+    };
+    let hint = hint_for(false, refused.fault, &refused.found, lacks);
     push_hint(out, hint)
 }
 

@@ -1,23 +1,39 @@
 // Hints: what may have gone wrong with a file that is refused.
 ghost use Rattle.std.specs.Prelude.{◌≡◌};
-ghost use Rattle.sas_requests.specs.Hint.{first_hint, hint_for, hint_words, is_compressed};
+ghost use Rattle.sas_reader.specs.Found.{kept_in};
+ghost use Rattle.sas_requests.specs.Hint.{first_hint, has_mark, hint_for, hint_words, hints, is_compressed};
 
-use sas_reader::{Fault, Kind};
+use sas_reader::{Excerpt, Fault, Kind};
 
 /// What may have gone wrong with a file that is refused.
 #[derive(Clone, Copy)]
 pub enum Hint {
+    Empty,
     Compressed,
     ByteOrderMark,
+    ReturnsAlone,
     /// A plan was expected.
     TaskForPlan,
     /// A task was expected.
     PlanForTask,
     OtherVersion,
+    CostForm,
     Comment,
+    CostNotLast,
+    EmptyLine,
+    OtherPlanner,
     NoLineEnd,
     NoCostLine,
     CutOff,
+}
+
+/// What alone is missing at the end of a file.
+#[derive(Clone, Copy)]
+pub struct Lacks {
+    /// With one line end (LF) more it is a text.
+    pub line_end: bool,
+    /// It is a plan, and with a cost line more it is a text.
+    pub cost_line: bool,
 }
 
 impl Hint {
@@ -26,12 +42,18 @@ impl Hint {
         ensures { result.now ≡ hint_words self }
     {
         match self {
+            Hint::Empty => b"the file is empty",
             Hint::Compressed => b"the file is compressed",
             Hint::ByteOrderMark => b"the file begins with a byte order mark",
+            Hint::ReturnsAlone => b"line ends are CR alone",
             Hint::TaskForPlan => b"this is a task: the order is TASK PLAN",
             Hint::PlanForTask => b"this is a plan or PDDL: the task is the file output.sas",
             Hint::OtherVersion => b"only version 3 is read",
+            Hint::CostForm => b"this isn't the form of a cost line",
             Hint::Comment => b"comments aren't read",
+            Hint::CostNotLast => b"the cost line must be the last line",
+            Hint::EmptyLine => b"an empty line follows the last line",
+            Hint::OtherPlanner => b"plan.awk of the examples converts plans of other planners",
             Hint::NoLineEnd => b"only the last line end is missing",
             Hint::NoCostLine => b"the cost line is missing",
             Hint::CutOff => b"the file is cut off",
@@ -49,6 +71,52 @@ fn is_compressed(bytes: &[u8]) -> bool
         | bytes.starts_with(b"\x28\xb5\x2f\xfd")
 }
 
+/// Returns whether the bytes begin with a byte order mark: that of UTF-8, or one of UTF-16.
+fn has_mark(bytes: &[u8]) -> bool
+    ensures { result ≡ has_mark bytes.now }
+{
+    bytes.starts_with(b"\xef\xbb\xbf")
+        | bytes.starts_with(b"\xff\xfe")
+        | bytes.starts_with(b"\xfe\xff")
+}
+
+/// Returns the hints in order, each with whether it applies to the fault of a task, or else of a plan.
+fn hints(task: bool, fault: Fault, found: &Excerpt, lacks: Lacks) -> [(Hint, bool); 15]
+    ensures { result ≡ hints task fault (kept_in found.now) lacks }
+{
+    let first = fault.line == 1;
+    let keyword = matches!(fault.kind, Kind::Keyword);
+    let value = matches!(fault.kind, Kind::Value);
+    let trailing = matches!(fault.kind, Kind::Trailing);
+    let end = matches!(fault.kind, Kind::End);
+    let text = found.bytes();
+    let is_task = text == b"begin_version".as_slice();
+    let is_step = text.starts_with(b"(");
+    let is_comment = text.starts_with(b";");
+    let is_end = text.starts_with(b"\n") | text.starts_with(b"\r");
+    let comment = (keyword | trailing) & is_comment | found.semicolon;
+    [
+        (Hint::Empty, first & end & text.is_empty()),
+        (Hint::Compressed, first & is_compressed(text)),
+        (Hint::ByteOrderMark, first & has_mark(text)),
+        (Hint::ReturnsAlone, first & end & found.inner_return),
+        (Hint::TaskForPlan, !task & first & keyword & is_task),
+        (
+            Hint::PlanForTask,
+            task & first & keyword & (is_step | is_comment),
+        ),
+        (Hint::OtherVersion, task & value & (fault.line == 2)),
+        (Hint::CostForm, !task & keyword & found.cost),
+        (Hint::Comment, !task & comment),
+        (Hint::CostNotLast, !task & trailing & is_step),
+        (Hint::EmptyLine, trailing & is_end),
+        (Hint::OtherPlanner, !task & keyword),
+        (Hint::NoLineEnd, end & lacks.line_end),
+        (Hint::NoCostLine, !task & end & lacks.cost_line),
+        (Hint::CutOff, end),
+    ]
+}
+
 /// Returns the first hint that applies, if one does.
 fn first_hint(hints: &[(Hint, bool)]) -> Option<Hint>
     ensures { result ≡ first_hint hints.now }
@@ -57,34 +125,8 @@ fn first_hint(hints: &[(Hint, bool)]) -> Option<Hint>
 }
 
 /// Returns the hint for the fault of a task, or else of a plan, if there is one.
-pub(crate) fn hint_for(
-    in_task: bool,
-    fault: Fault,
-    lacks_line_end: bool,
-    found: &[u8],
-) -> Option<Hint>
-    ensures { result ≡ hint_for in_task fault lacks_line_end found.now }
+pub(crate) fn hint_for(task: bool, fault: Fault, found: &Excerpt, lacks: Lacks) -> Option<Hint>
+    ensures { result ≡ hint_for task fault (kept_in found.now) lacks }
 {
-    let first = fault.line == 1;
-    let is_keyword = matches!(fault.kind, Kind::Keyword);
-    let is_value = matches!(fault.kind, Kind::Value);
-    let is_end = matches!(fault.kind, Kind::End);
-    let has_mark = found.starts_with(b"\xef\xbb\xbf");
-    let is_task = found == b"begin_version".as_slice();
-    let is_comment = found.starts_with(b";");
-    let is_plan = found.starts_with(b"(") | is_comment;
-    first_hint(&[
-        (Hint::Compressed, first & is_compressed(found)),
-        (Hint::ByteOrderMark, first & has_mark),
-        (Hint::PlanForTask, in_task & is_keyword & first & is_plan),
-        (Hint::TaskForPlan, !in_task & is_keyword & first & is_task),
-        (Hint::OtherVersion, in_task & is_value & (fault.line == 2)),
-        (Hint::Comment, !in_task & is_keyword & is_comment),
-        (Hint::NoLineEnd, is_end & lacks_line_end),
-        (
-            Hint::NoCostLine,
-            !in_task & is_end & !first & found.is_empty(),
-        ),
-        (Hint::CutOff, is_end & !(first & found.is_empty())),
-    ])
+    first_hint(&hints(task, fault, found, lacks))
 }

@@ -66,7 +66,7 @@ pub fn judge<T: Read, S: PlanInputs, W: Write>(
     ensures reads { IsErrOf result (JudgeFault.Tool ToolFault.Read) ↔ IsTrue task.new.failed }
     ensures writes { IsErrAnd result (λ e. IsWrite (tool_fault e)) ↔ IsTrue out.new.failed }
 {
-    match read_layered(alloc, Detail::Plain, task, out) {
+    match read_layered(alloc, Detail::PLAIN, task, out) {
         ReadTask::Layered(layered) => report_plans(alloc, layered, plans, out),
         ReadTask::Ended(ended) => judge_ended(ended),
     }

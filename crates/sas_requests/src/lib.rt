@@ -21,48 +21,30 @@ mod tally;
 mod tasks;
 mod verdicts;
 
-ghost use Rattle.std.specs.Prelude.{◌≡◌, false, List, ℕ, Option, Some, IfOk};
+ghost use Rattle.std.specs.Prelude.{◌≡◌, false, List, ℕ, Some, IfOk};
 ghost use Rattle.std.specs.Io.KnownBytes.{Appends};
-ghost use Rattle.sas_requests.specs.Output.{Out, AreInputs};
+ghost use Rattle.sas_requests.specs.Output.{Out};
 ghost use Rattle.sas_requests.specs.Headline.{Headline};
 ghost use Rattle.sas_requests.specs.Invariants.{Invariants};
 ghost use Rattle.sas_requests.specs.EndsRequest.{EndsRequest};
-ghost use Rattle.sas_requests.specs.Why.{OutWhy};
-ghost use Rattle.sas_requests.specs.TraceOut.{SendsLast, TraceOut};
-ghost use Rattle.sas_answers.specs.Ending.{Answers, Ends, EndsCounting, Output};
+ghost use Rattle.sas_answers.specs.Ending.{Answers, Ends};
 
 pub use answers::answer;
 pub use file_reasons::{push_plan_reasons, push_task_reasons};
 pub use file_refusal::refuse_file;
 pub use inputs::{InputFault, JudgeFault, PlanInputs, is_label};
 pub use judging::judge;
-pub use laws::{explain_laws, file_reason_laws, judge_laws, run_laws, trace_output_laws};
+pub use laws::{answer_laws, file_reason_laws, judge_laws};
 pub use plans::{answer_bytes, load};
-pub use question::Question;
-pub use sas_answers::{Detail, Status, ToolFault};
+pub use question::{Question, Request};
+pub use sas_answers::{Status, ToolFault};
 use sas_lines::Watched;
+pub use sas_plan_reasons::Detail;
 pub use slices::{PlanBytes, PlanSlices, are_labels, judge_slices};
 use std::alloc::Global;
 use std::io::{Read, Write};
 pub use summary::write_summary;
 pub use tasks::{ReadTask, read_layered};
-
-/// A request.
-#[derive(Clone, Copy, Debug, PartialEq, Eq)]
-pub enum Request {
-    /// Print the summary of a task.
-    Show,
-    /// Print a task again, as a task file.
-    Print,
-    /// Print a plan again, as a plan file.
-    Steps,
-    /// Check whether a task is layered.
-    Check,
-    /// Check whether a plan solves a task.
-    Plan,
-    /// Check which mutex groups of a task are exclusive.
-    Mutex,
-}
 
 /// Answers the request about the inputs. `Show`, `Print`, `Check` and `Mutex` read the task alone, and `Steps` the
 /// plan; `Plan` reads the task, and then the plan if the task is layered. Nothing is written before the answer is
@@ -99,73 +81,6 @@ pub fn run<T: Read, P: Read, W: Write>(
         → T.remaining task.old.device ≡ Some b → W.contents out.old.device ≡ Some before
         → Invariants b (Appends (W.contents out.old.device) (W.contents out.new.device))) }
 {
-    answer(alloc, Question::Answer(request), task, plan, out)
-}
-
-/// Answers the request about the inputs as `run` does, with the reasons for a no. Lines that begin with two spaces follow the line
-/// that says that a plan isn't valid, that a task isn't layered, that a file is refused, or that a mutex group isn't exclusive. The
-/// status is that of `run`, where it is `Yes` so is the text, and where it is `No` the text of `run` is left when these lines are
-/// taken away (`explain_laws`). All memory is allocated before the first byte is written. At `Write` the first bytes of the answer
-/// were written; `written` is their number where that is less than 2^64, and so of each answer without reasons. Not to be called
-/// with a device that has failed.
-pub fn explain<T: Read, P: Read, W: Write>(
-    alloc: Global,
-    request: Request,
-    task: &mut Watched<T>,
-    plan: &mut Watched<P>,
-    out: &mut Watched<W>,
-) -> Result<Status, ToolFault>
-    requires task { task.old.failed ≡ false }
-    requires plan { plan.old.failed ≡ false }
-    requires out { out.old.failed ≡ false }
-    ensures answers { Answers W.contents
-        (EndsRequest T.remaining P.remaining (λ b c. EndsCounting (OutWhy request b c))
-        request task.old task.new plan.old plan.new)
-        out.old out.new result }
-    // An answer without reasons goes out as that of `run` does.
-    ensures plain { (b c : List ℕ)
-        → AreInputs request (T.remaining task.old.device) (P.remaining plan.old.device) b c
-        → ((o : Option Output) → OutWhy request b c o → Out request b c o)
-        → Ends (Out request b c)
-        (Appends (W.contents out.old.device) (W.contents out.new.device)) result }
-    // `plan valid` is printed exactly if the plan solves the task at the printed cost.
-    ensures headline { IfOk result (λ status. request ≡ Request.Plan → (b c before : List ℕ)
-        → T.remaining task.old.device ≡ Some b → P.remaining plan.old.device ≡ Some c
-        → W.contents out.old.device ≡ Some before
-        → Headline b c (Appends (W.contents out.old.device) (W.contents out.new.device)) status) }
-    // `group K exclusive` is printed only where group K is an invariant of the task.
-    ensures invariants { IfOk result (λ status. request ≡ Request.Mutex → (b before : List ℕ)
-        → T.remaining task.old.device ≡ Some b → W.contents out.old.device ≡ Some before
-        → Invariants b (Appends (W.contents out.old.device) (W.contents out.new.device))) }
-{
-    answer(alloc, Question::Explanation(request), task, plan, out)
-}
-
-/// Traces the plan: answers as `plan` does, and if the plan is judged, first writes what its steps do, up to the first that doesn't
-/// go through: each variable's initial value, then for each step its operator, what that costs, and each variable whose value it
-/// changed. Nothing is written before the verdict is known; then the steps are gone through once more, and all memory was allocated
-/// before. At `Write` the first bytes of the answer were written, and `written` is their number where that is less than 2^64; at
-/// any other fault nothing was. Not to be called with a device that has failed.
-///
-/// The clause `answers` is like that of `run`.
-pub fn trace<T: Read, P: Read, W: Write>(
-    alloc: Global,
-    task: &mut Watched<T>,
-    plan: &mut Watched<P>,
-    out: &mut Watched<W>,
-) -> Result<Status, ToolFault>
-    requires task { task.old.failed ≡ false }
-    requires plan { plan.old.failed ≡ false }
-    requires out { out.old.failed ≡ false }
-    ensures answers { Answers W.contents
-        (EndsRequest T.remaining P.remaining (λ b c. EndsCounting (TraceOut b c))
-        Request.Plan task.old task.new plan.old plan.new)
-        out.old out.new result }
-    // The last line is `plan valid` exactly if the plan solves the task at the printed cost.
-    ensures headline { IfOk result (λ status. (b c before : List ℕ)
-        → T.remaining task.old.device ≡ Some b → P.remaining plan.old.device ≡ Some c
-        → W.contents out.old.device ≡ Some before
-        → Headline b c (SendsLast (W.contents out.old.device) (W.contents out.new.device)) status) }
-{
-    answer(alloc, Question::Trace, task, plan, out)
+    let detail = Detail::PLAIN;
+    answer(alloc, Question { request, detail }, task, plan, out)
 }

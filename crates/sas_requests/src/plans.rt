@@ -3,7 +3,8 @@ ghost use Rattle.std.specs.Prelude.{◌≡◌, false, IfOk};
 ghost use Rattle.sas_answers.specs.Ending.{Answers, EndsCounting};
 ghost use Rattle.sas_plan_reasons.specs.VerdictBy.{VerdictBy};
 ghost use Rattle.sas_requests.specs.EndsRequest.{EndsFile, EndsRequest};
-ghost use Rattle.sas_requests.specs.Answering.{OutBy, PlanBy};
+ghost use Rattle.sas_requests.specs.Answering.{PlanBy};
+ghost use Rattle.sas_requests.specs.OutBy.{OutBy};
 
 use crate::refusals::write_plan_refusal;
 use crate::tasks::{ReadTask, read_layered};
@@ -56,7 +57,7 @@ fn answer_plan_file<P: Read, W: Write>(
     requires plan { plan.old.failed ≡ false }
     requires out { out.old.failed ≡ false }
     ensures { Answers W.contents
-        (EndsFile P.remaining (PlanBy detail (VerdictBy detail layered.now)) plan.old plan.new)
+        (EndsFile P.remaining (PlanBy detail.reasons (VerdictBy detail layered.now)) plan.old plan.new)
         out.old out.new result }
 {
     match read_flat_plan(alloc, plan) {
@@ -88,7 +89,7 @@ pub fn answer_bytes<W: Write>(
 ) -> Result<Status, ToolFault>
     requires { out.old.failed ≡ false }
     ensures answers { Answers W.contents
-        (EndsCounting (PlanBy detail (VerdictBy detail loaded.old) plan.now))
+        (EndsCounting (PlanBy detail.reasons (VerdictBy detail loaded.old) plan.now))
         out.old out.new result }
     ensures same { loaded.new ≡ loaded.old }
 {

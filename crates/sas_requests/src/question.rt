@@ -1,39 +1,26 @@
-// What is asked, and how much is reported.
-ghost use Rattle.std.specs.Prelude.{◌≡◌};
-ghost use Rattle.sas_requests.specs.Answering.{detail_of, request_of};
+// What is asked.
+use crate::Detail;
 
-use crate::{Detail, Request};
-
-/// What is asked of a task, a plan or both.
+/// A request.
 #[derive(Clone, Copy, Debug, PartialEq, Eq)]
-pub enum Question {
-    /// The answer to a request.
-    Answer(Request),
-    /// The answer to a request, with the reasons for a no.
-    Explanation(Request),
-    /// The trace of a plan.
-    Trace,
+pub enum Request {
+    /// Print the summary of a task.
+    Show,
+    /// Print a task again, as a task file.
+    Print,
+    /// Print a plan again, as a plan file.
+    Steps,
+    /// Check whether a task is layered.
+    Check,
+    /// Check whether a plan solves a task.
+    Plan,
+    /// Check which mutex groups of a task are exclusive.
+    Mutex,
 }
 
-impl Question {
-    /// Returns the request. A trace answers `plan`.
-    pub fn request(self) -> Request
-        ensures { result ≡ request_of self }
-    {
-        match self {
-            Question::Answer(request) | Question::Explanation(request) => request,
-            Question::Trace => Request::Plan,
-        }
-    }
-
-    /// Returns how much is reported.
-    pub fn detail(self) -> Detail
-        ensures { result ≡ detail_of self }
-    {
-        match self {
-            Question::Answer(_) => Detail::Plain,
-            Question::Explanation(_) => Detail::Reasons,
-            Question::Trace => Detail::Trace,
-        }
-    }
+/// A request, and what its answer reports.
+#[derive(Clone, Copy, Debug, PartialEq, Eq)]
+pub struct Question {
+    pub request: Request,
+    pub detail: Detail,
 }

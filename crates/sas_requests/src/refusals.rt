@@ -20,19 +20,16 @@ pub fn write_task_refusal<W: Write>(
 ) -> Result<Status, ToolFault>
     requires { out.old.failed ≡ false }
     ensures answers { Answers W.contents (Ends (λ output.
-        output ≡ refusal_by detail (codes "task") refused.fault (task_refusal_lines refused)))
+        output ≡ refusal_by detail.reasons (codes "task") refused.fault (task_refusal_lines refused)))
         out.old out.new result }
     ensures long { IsErrOf result ToolFault.TooLong ↔ (refused.fault.kind ≡ Kind.TooLong) }
     ensures reads { IsErrOf result ToolFault.Read ↔ (refused.fault.kind ≡ Kind.Read) }
 {
     let mut answer = refuse_file(alloc, "task", refused.fault)?;
-    match detail {
-        Detail::Plain | Detail::Trace => answer.write(out),
-        Detail::Reasons => {
-            push_task_reasons(&mut answer.text, &refused)?;
-            answer.write(out)
-        }
+    if detail.reasons {
+        push_task_reasons(&mut answer.text, &refused)?;
     }
+    answer.write(out)
 }
 
 /// Writes the refusal of a plan for its fault, or returns why the run ends at it.
@@ -44,17 +41,14 @@ pub fn write_plan_refusal<W: Write>(
 ) -> Result<Status, ToolFault>
     requires { out.old.failed ≡ false }
     ensures answers { Answers W.contents (Ends (λ output.
-        output ≡ refusal_by detail (codes "plan") refused.fault (plan_refusal_lines refused)))
+        output ≡ refusal_by detail.reasons (codes "plan") refused.fault (plan_refusal_lines refused)))
         out.old out.new result }
     ensures long { IsErrOf result ToolFault.TooLong ↔ (refused.fault.kind ≡ Kind.TooLong) }
     ensures reads { IsErrOf result ToolFault.Read ↔ (refused.fault.kind ≡ Kind.Read) }
 {
     let mut answer = refuse_file(alloc, "plan", refused.fault)?;
-    match detail {
-        Detail::Plain | Detail::Trace => answer.write(out),
-        Detail::Reasons => {
-            push_plan_reasons(&mut answer.text, &refused)?;
-            answer.write(out)
-        }
+    if detail.reasons {
+        push_plan_reasons(&mut answer.text, &refused)?;
     }
+    answer.write(out)
 }

@@ -5,7 +5,8 @@ ghost use Rattle.sas_answers.specs.Ending.{Answers, EndsCounting, Writes};
 ghost use Rattle.sas_reader.specs.Devices.{ReadsAll, ValueOf};
 ghost use Rattle.sas_task_file.specs.TaskFormat.{task_format};
 ghost use Rattle.sas_requests.specs.EndsRequest.{EndsFile};
-ghost use Rattle.sas_requests.specs.Answering.{IfEnded, IfLayered, TaskBy, UnlayeredBy, layers_by};
+ghost use Rattle.sas_requests.specs.Answering.{IfEnded, IfLayered, TaskBy, UnlayeredBy};
+ghost use Rattle.sas_requests.specs.OutBy.{layers_by};
 
 use crate::refusals::write_task_refusal;
 use crate::{Detail, Status, ToolFault};
@@ -42,7 +43,7 @@ pub fn read_layered<R: Read, W: Write>(
     ensures layered { IfLayered result IsLayered }
     ensures silent { IfLayered result (λ p. out.new ≡ out.old) }
     ensures refused { IfEnded result (Answers W.contents
-        (EndsFile R.remaining (TaskBy detail (UnlayeredBy detail)) task.old task.new)
+        (EndsFile R.remaining (TaskBy detail.reasons (UnlayeredBy detail.reasons)) task.old task.new)
         out.old out.new) }
 {
     let read = match read_flat_task(alloc, task) {
@@ -71,11 +72,12 @@ fn refuse_unlayered<W: Write>(
 ) -> Result<Status, ToolFault>
     requires { out.old.failed ≡ false }
     ensures { Writes W.contents (EndsCounting
-        (λ output. IsSomeAnd output (λ reported. layers_by detail task.now fault ≡ Some reported)))
+        (λ output. IsSomeAnd output (λ reported. layers_by detail.reasons task.now fault ≡ Some reported)))
         out.old out.new result }
 {
-    match detail {
-        Detail::Reasons => write_unlayered(alloc, task, fault, out),
-        Detail::Plain | Detail::Trace => refuse_layers(alloc, fault)?.write(out),
+    if detail.reasons {
+        write_unlayered(alloc, task, fault, out)
+    } else {
+        refuse_layers(alloc, fault)?.write(out)
     }
 }

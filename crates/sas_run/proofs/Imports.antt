@@ -40,7 +40,7 @@ pub use Rattle.sas_meaning.proofs.Layers.{layer_cases}
 pub use Rattle.sas_meaning.proofs.Settling.{settled_where_empty}
 pub use Rattle.sas_meaning.proofs.Unique.{settled_is_one, step_is_one}
 pub use Rattle.sas_meaning.specs.FastDownward.{FastDownwardStep}
-pub use Rattle.sas_meaning.specs.Following.{HaveGone}
+pub use Rattle.sas_meaning.specs.Following.{HaveGone, ListsDerived}
 pub use Rattle.sas_meaning.specs.Layers.{IsBasic, IsLayered}
 pub use Rattle.sas_meaning.specs.Reachable.{Reachable, Initial, Next}
 pub use Rattle.sas_meaning.specs.InitialStates.{IsInitial}
@@ -61,7 +61,7 @@ pub use Rattle.sas_run.specs.OtherSensesLaws.{ValidIsUsuallyValid, ValidInFastDo
 pub use Rattle.sas_run.specs.Plans.{IsApplicable, NoneApplicable, IsChosen, LeadFrom, LeadsTo, IsValid, cost_of_all}
 pub use Rattle.sas_run.specs.Running.{IsSolution, IsFaultOrMemory, IsChoice, StepFailsBy, IsFinalVerdict, Steps, IsApplied, IsFirstConflict, IsFirstMissedFact, IsFirstChosen, IsLater, IsLaterIfAny, IsStepFault}
 pub use Rattle.sas_run.specs.Runs.{Run, steps_before, RunEndsWith, IsRunOf, IsEnding, state_at, last_state, StepsSucceed}
-pub use Rattle.sas_run.specs.Observing.{IsTold, CanSee, AreMadeAndSeen}
+pub use Rattle.sas_run.specs.Observing.{IsTold, CanSee, ListsLast, AreMadeAndSeen}
 pub use Rattle.sas_run.specs.Stepping.{IsAt}
 pub use Rattle.sas_run.specs.Verdicts.{IsFirstMissed, ComesTo, IsFaultOf}
 pub use Rattle.sas_run.specs.declared.deletions.DeletedFacts.{DeletedFacts}
@@ -69,8 +69,8 @@ pub use Rattle.sas_run.specs.declared.long_chains.LongChain.{LongChain}
 pub use Rattle.sas_run.specs.declared.long_chains.LongChains.{LongChains}
 pub use Rattle.sas_run.specs.declared.plan_check.PlanFault.{PlanFault}
 pub use Rattle.sas_run.specs.declared.plan_check.PlanFault.TheVariants.{Memory, NoOperator, NotApplicable, Conflict, GoalMissed, CostDiffers}
-pub use Rattle.sas_run.specs.declared.runner.Choice.{Choice}
-pub use Rattle.sas_run.specs.declared.runner.Choice.TheVariants.{Found}
+pub use Rattle.sas_run.specs.declared.choice.Choice.{Choice}
+pub use Rattle.sas_run.specs.declared.choice.Choice.TheVariants.{Found}
 pub use Rattle.sas_names.specs.declared.step_operators.StepOperators.{StepOperators}
 pub use Rattle.sas_run.specs.declared.stepper.Stepper.{Stepper}
 pub use Rattle.sas_run.specs.declared.steps.StepFault.{StepFault}

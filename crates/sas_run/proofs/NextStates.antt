@@ -1,7 +1,7 @@
 -- An applicable operator whose effects agree has a step. It is decidable whether an operator has a
 -- step.
 use Rattle.std.proofs.lemmas.Grind.{common_steps}
-use Rattle.sas_run.proofs.Imports.{err_from_is_err_and, ◌≡◌, ℕ, zero, suc, ◌<◌, ◌⊎◌, List, [], ◌∷◌, length, get_or, set, slice_index, refl, sym, ◌∙◌, inl, inr, arith, All, cases_eq, get_or-set_same, get_or-set_other, All-nil, All-cons, All-head, All-tail, Effect, Operator, Parts, operator_at, HasValue, IsState, WellRanged, holds_at, IsBasic, IsLayered, Settles, Fires, Agree, IsApplicable, StepFault, IsApplied, IsStepFault, Step, hold_or_not, Untouched, state_set, fact_within, settled_exists, settled_where_empty}
+use Rattle.sas_run.proofs.Imports.{err_from_is_err_and, ◌≡◌, ℕ, zero, suc, ◌<◌, ◌⊎◌, List, [], ◌∷◌, length, get_or, set, slice_index, refl, sym, ap, ◌∙◌, none-some, layer_of, ListsDerived, inl, inr, arith, All, cases_eq, get_or-set_same, get_or-set_other, All-nil, All-cons, All-head, All-tail, Effect, Operator, Parts, operator_at, HasValue, IsState, WellRanged, holds_at, IsBasic, IsLayered, Settles, Fires, Agree, IsApplicable, StepFault, IsApplied, IsStepFault, Step, hold_or_not, Untouched, state_set, fact_within, settled_exists, settled_where_empty}
 use Rattle.sas_run.specs.declared.steps.StepFault.TheVariants.{NotApplicable, Conflict}
 use Rattle.sas_run.proofs.Choosing.{no_fact}
 use Rattle.sas_run.proofs.Going.{passed_on}
@@ -96,6 +96,26 @@ settled_if_basic p s basic state = grind (arith, common_steps, settled_where_emp
 pub step_from_applied : (p : Parts) (s : List ℕ) (o : Operator) (s' next : List ℕ) → All (λ (e : Effect). IsBasic p e.var) o.effects
     → IsApplied p s o s' → Settles p s' next → Step p s o next
 step_from_applied p s o s' next basic a settles = grind (arith, common_steps)
+
+-- ---- the derived variables that a step changed
+
+-- effects leave them as they are
+pub applied_lists : (p : Parts) (s : List ℕ) (o : Operator) (s' next listed : List ℕ) → All (λ (e : Effect). IsBasic p e.var) o.effects
+    → IsApplied p s o s' → ListsDerived p s' next listed → ListsDerived p s next listed
+applied_lists p s o s' next listed basic applied lists = record {
+  exist = lists.exist;
+  each = λ layer var on. elim (lists.each layer var on) [
+    | inr there ↦ inr there
+    | inl same ↦ inl (same ∙ applied.kept var (λ k e lt fires is. none-some layer (sym (basic k e lt) ∙ (ap (layer_of p.variables) is ∙ on))))
+  ];
+}
+
+-- where there are none, none changed
+pub lists_no_derived : (p : Parts) (s s' : List ℕ) → ((var : ℕ) → IsBasic p var) → ListsDerived p s s' []
+lists_no_derived p s s' basic = record {
+  exist = All-nil (λ (var : ℕ). var < length p.variables);
+  each = λ layer var on. absurd (none-some layer (sym (basic var) ∙ on));
+}
 
 -- what a step needs
 pub ruleset stepping = (common_steps, step_from_applied, effects_basic, settled_if_basic, passed_on, err_from_is_err_and)

@@ -1,6 +1,6 @@
 -- An observer is told of the next step. Operators that go through are made once more.
-use Rattle.sas_run.proofs.Imports.{◌≡◌, ℕ, ◌+◌, ◌<◌, List, [], ◌∷◌, ◌++◌, length, get_or, Option, None, Some, Ok, sym, ap, subst, ◌∙◌, arith, Parts, operator_at, IsLayered, Step, PlanFault, Memory, NoOperator, NotApplicable, Conflict, GoalMissed, CostDiffers, Choice, IsState, GoThrough, GoesThrough, Makes, MakesStepBy, EndsSteps, StepFailsBy, IsTold, CanSee, Vec}
-use Rattle.sas_run.proofs.GoingByNumbers.{goes_one_more, goes_on}
+use Rattle.sas_run.proofs.Imports.{◌≡◌, ℕ, ◌+◌, ◌<◌, List, [], ◌∷◌, ◌++◌, length, get_or, Option, None, Some, Ok, sym, ap, subst, ◌∙◌, arith, Parts, operator_at, IsLayered, Step, PlanFault, Memory, NoOperator, NotApplicable, Conflict, GoalMissed, CostDiffers, Choice, IsState, GoThrough, GoesThrough, Makes, MakesStepBy, EndsSteps, StepFailsBy, IsTold, CanSee, ListsDerived, ListsLast, Vec}
+use Rattle.sas_run.proofs.GoingByNumbers.{goes_one_more, goes_one_way, goes_on}
 use Rattle.sas_run.proofs.MadeSteps.{by_number, front, whole}
 
 module _ {O : Type 0} {Admits : O → Parts → ℕ → ℕ → Type 0} {Sees : Parts → O → O → List ℕ → Type 0} (p : Parts) (Means : ℕ → List ℕ → Choice → Type 0) where
@@ -15,6 +15,10 @@ module _ {O : Type 0} {Admits : O → Parts → ℕ → ℕ → Type 0} {Sees : 
     admits = can.each before operator s lt means;
     sees = sees;
   }
+
+-- the derived variables that it changed are listed
+pub lists_last : (p : Parts) → IsLayered p → (before s next listed : List ℕ) → GoesThrough p before s → ListsDerived p s next listed → ListsLast p before next listed
+lists_last p layered before s next listed through lists last goes = subst (λ z. ListsDerived p z next listed) (goes_one_way p layered before s last through goes) lists
 
 -- ---- operators that are known to go through
 

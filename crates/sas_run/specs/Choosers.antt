@@ -7,8 +7,8 @@ use Rattle.sas_meaning.specs.Steps.{Step}
 use Rattle.sas_run.specs.declared.plan_check.PlanFault.{PlanFault}
 use Rattle.sas_run.specs.declared.plan_check.PlanFault.TheVariants.{Memory}
 use Rattle.sas_run.specs.declared.plan_check.Valid.{Valid}
-use Rattle.sas_run.specs.declared.runner.Choice.{Choice}
-use Rattle.sas_run.specs.declared.runner.Choice.TheVariants.{Unknown, Blocked, Found}
+use Rattle.sas_run.specs.declared.choice.Choice.{Choice}
+use Rattle.sas_run.specs.declared.choice.Choice.TheVariants.{Unknown, Blocked, Found}
 use Rattle.sas_names.specs.Chains.{AreStepOperators}
 use Rattle.sas_run.specs.declared.long_chains.LongChains.{LongChains}
 use Rattle.sas_run.specs.ByNumbers.{GoesThrough}

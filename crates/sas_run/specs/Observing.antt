@@ -1,12 +1,19 @@
 -- What an observer is told of the steps of a plan.
 use Rattle.std.specs.Prelude.{◌≡◌, ℕ, ◌+◌, ◌<◌, List, [], ◌∷◌, ◌++◌, length, Option}
 use Rattle.sas_core.specs.declared.parts.Parts.{Parts}
+use Rattle.sas_meaning.specs.Following.{ListsDerived}
 use Rattle.sas_meaning.specs.Layers.{IsLayered}
 use Rattle.sas_run.specs.declared.plan_check.PlanFault.{PlanFault}
-use Rattle.sas_run.specs.declared.runner.Choice.{Choice}
-use Rattle.sas_run.specs.declared.runner.Choice.TheVariants.{Found}
+use Rattle.sas_run.specs.declared.choice.Choice.{Choice}
+use Rattle.sas_run.specs.declared.choice.Choice.TheVariants.{Found}
 use Rattle.sas_run.specs.ByNumbers.{GoesThrough}
 use Rattle.sas_run.specs.Choosers.{Makes, EndsSteps}
+
+-- the list has the derived variables that the step changed which led to s from the state behind
+-- these operators
+abbrev pub ListsLast : Parts → List ℕ → List ℕ → List ℕ → Type 0
+ListsLast p before s listed = (last : List ℕ) → GoesThrough p before last
+    → ListsDerived p last s listed
 
 -- `Admits` says of which steps an observer can be told, each with its number and its operator.
 -- `Sees` says what it was, and what it is after the steps of these operators.

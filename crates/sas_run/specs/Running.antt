@@ -13,8 +13,8 @@ use Rattle.sas_names.specs.Named.{IsNamed}
 use Rattle.sas_run.specs.declared.plan_check.PlanFault.{PlanFault}
 use Rattle.sas_run.specs.declared.plan_check.PlanFault.TheVariants as plan_fault
 use Rattle.sas_run.specs.declared.plan_check.Valid.{Valid}
-use Rattle.sas_run.specs.declared.runner.Choice.{Choice}
-use Rattle.sas_run.specs.declared.runner.Choice.TheVariants.{Unknown, Blocked, Found}
+use Rattle.sas_run.specs.declared.choice.Choice.{Choice}
+use Rattle.sas_run.specs.declared.choice.Choice.TheVariants.{Unknown, Blocked, Found}
 use Rattle.sas_run.specs.declared.steps.StepFault.{StepFault}
 use Rattle.sas_run.specs.declared.steps.StepFault.TheVariants as step_fault
 use Rattle.sas_run.specs.Plans.{IsApplicable, NoneApplicable, IsChosen, IsValid, cost_of_all}

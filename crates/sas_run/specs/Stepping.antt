@@ -1,5 +1,5 @@
--- When a stepper is ready for a task.
-use Rattle.std.specs.Prelude.{ℕ, ◌<◌, List, length, IsTrue, IsFalse}
+-- When a stepper is ready for a task, and what it tells of a step.
+use Rattle.std.specs.Prelude.{◌≡◌, ℕ, ◌<◌, List, [], length, IsTrue, IsFalse}
 use Rattle.sas_core.specs.declared.parts.Parts.{Parts}
 use Rattle.sas_core.specs.Grounded.{operator_at}
 use Rattle.sas_core.specs.Variables.{IsState}
@@ -26,3 +26,10 @@ pub record IsAt {E : Type 0} (Ready : E → Parts → Type 0) (Follows : E → P
   pub prepared : IsPrepared Ready p w
   pub follows : IsTrue w.deleted.noted → Follows w.evaluator p s
   pub state : IsState p.variables s
+
+-- This list has the derived variables that the evaluator changed in the last step. It is empty if
+-- deleted facts aren't noted, since no variable is derived then.
+pub record HasChanged {E : Type 0} (Changed : E → List ℕ → Type 0) (w : Stepper E) (listed : List ℕ)
+    : Type 0 where
+  pub noted : IsTrue w.deleted.noted → Changed w.evaluator listed
+  pub basic : IsFalse w.deleted.noted → listed ≡ []

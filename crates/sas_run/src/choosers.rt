@@ -4,8 +4,8 @@ ghost use Rattle.sas_core.specs.Stepwise.{step_at};
 ghost use Rattle.sas_run.specs.Choosers.{HaveOperators, IsNumberChoice};
 ghost use Rattle.sas_run.specs.Running.{IsChoice};
 
+use crate::choice::{Choice, is_applicable};
 use crate::long_chains::LongChains;
-use crate::runner::{Choice, is_applicable};
 use sas_core::{Grounded, Stepwise};
 use sas_meaning::{Layered, State};
 use sas_names::existing;
@@ -15,7 +15,7 @@ pub trait Chooser<T: Grounded> {
     ghost use Rattle.std.specs.Prelude.{◌≡◌, ◌<◌, ℕ, List};
     ghost use Rattle.sas_core.specs.declared.parts.Parts.{Parts};
     ghost use Rattle.sas_core.specs.Variables.{IsState};
-    ghost use Rattle.sas_run.specs.declared.runner.Choice.{Choice};
+    ghost use Rattle.sas_run.specs.declared.choice.Choice.{Choice};
     ghost use Rattle.sas_run.specs.Choosers.{IsPossible};
 
     /// It chooses operators of this task.

@@ -1,16 +1,17 @@
 // Makes the steps of plans, and tells an observer of each.
-ghost use Rattle.std.specs.Prelude.{◌≡◌, ◌^◌, ◌+◌, ◌<◌, ℕ, List, [], length, slice_index};
+ghost use Rattle.std.specs.Prelude.{◌≡◌, ◌^◌, ◌+◌, ◌<◌, ℕ, List, [], length, slice_index, OnOk};
+ghost use Rattle.sas_meaning.specs.Following.{ListsDerived};
 ghost use Rattle.sas_meaning.specs.InitialStates.{IsInitial};
 ghost use Rattle.sas_run.specs.ByNumbers.{GoesThrough};
 ghost use Rattle.sas_run.specs.Choosers.{MakesStepBy};
 ghost use Rattle.sas_run.specs.Observing.{AreMadeAndSeen, CanSee};
-ghost use Rattle.sas_run.specs.Stepping.{IsAt};
+ghost use Rattle.sas_run.specs.Stepping.{HasChanged, IsAt};
 
+use crate::choice::Choice;
 use crate::choosers::{Chooser, NumberedPlan};
 use crate::observer::Observer;
 use crate::plan_check::PlanFault;
-use crate::runner::Choice;
-use crate::stepper::{Stepper, go_on_from};
+use crate::stepper::{Stepper, changed_by, go_on_from};
 use sas_core::Grounded;
 use sas_meaning::{Layered, Settle, State};
 
@@ -34,7 +35,10 @@ pub fn make_steps<E: Settle<T> + Drop, T: Grounded, C: Chooser<T>, O: Observer<T
 {
     for before in 0..chooser.steps() {
         match make_plan_step(layered, stepper, chooser, before, state) {
-            Ok(operator) => observer.observe(layered, before + 1, operator, state),
+            Ok(operator) => {
+                let derived = changed_by::<E, T>(stepper);
+                observer.observe(layered, before + 1, operator, derived, state);
+            }
             Err(fault) => return Some(fault),
         }
     }
@@ -58,6 +62,8 @@ fn make_plan_step<E: Settle<T> + Drop, T: Grounded, C: Chooser<T>>(
     ensures at { IsAt E.ready E.follows layered.now stepper.new state.new }
     ensures makes { MakesStepBy layered.now (C.means chooser.now layered.now before state.old)
         state.old (before + 1) state.new result }
+    ensures changed { OnOk result ((listed : List ℕ) → HasChanged E.changed stepper.new listed
+        → ListsDerived layered.now state.old state.new listed) }
 {
     let step = before + 1;
     match chooser.choose(layered, state, before) {

@@ -2,6 +2,7 @@
 #![tactic(auto)]
 
 mod checker;
+mod choice;
 mod choosers;
 mod deletions;
 mod executor;
@@ -17,6 +18,7 @@ mod stepper;
 mod steps;
 
 pub use checker::{Checker, checker_for};
+pub use choice::{Choice, later_applicable};
 pub use choosers::{Chooser, NamedPlan, NumberedPlan};
 pub use executor::{make_steps, replay};
 pub use laws::{number_laws, verdict_laws};
@@ -24,6 +26,6 @@ pub use long_chains::LongChains;
 pub use observer::Observer;
 pub use other_senses::other_senses_laws;
 pub use plan_check::{PlanEnd, PlanFault, Valid, check, find_end};
-pub use runner::{Choice, Runner, later_applicable};
+pub use runner::Runner;
 pub use stepper::{Stepper, initial_of, stepper_for};
 pub use steps::StepFault;

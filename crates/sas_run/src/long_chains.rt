@@ -8,7 +8,7 @@ ghost use Rattle.sas_run.specs.LongChains.{AreEither, AreLongChains, BeginsLower
 ghost use Rattle.sas_run.specs.Plans.{IsApplicable};
 ghost use Rattle.sas_run.specs.Running.{IsFirstChosen};
 
-use crate::runner::{is_applicable, later_applicable};
+use crate::choice::{is_applicable, later_applicable};
 use sas_core::Grounded;
 use sas_meaning::{Layered, Preconditions, State};
 use sas_names::{Names, existing, next_in};

@@ -6,9 +6,9 @@ use sas_meaning::{Layered, State};
 
 /// Is told of each step of a plan when it was made.
 pub trait Observer<T: Grounded> {
-    ghost use Rattle.std.specs.Prelude.{◌∷◌, ◌++◌, ℕ, List, []};
+    ghost use Rattle.std.specs.Prelude.{◌∷◌, ◌++◌, ℕ, List, [], IfSome};
     ghost use Rattle.sas_core.specs.declared.parts.Parts.{Parts};
-    ghost use Rattle.sas_run.specs.Observing.{IsTold};
+    ghost use Rattle.sas_run.specs.Observing.{IsTold, ListsLast};
 
     /// It can be told of the step with this number, which this operator made.
     ghost admits: { Self → Parts → ℕ → ℕ → Type 0 };
@@ -16,10 +16,19 @@ pub trait Observer<T: Grounded> {
     /// What it was before the first step, and what it is after the steps of these operators.
     ghost sees: { Parts → Self → Self → List ℕ → Type 0 };
 
-    /// Notes a step, counted from 1. `state` is the state after it.
-    fn observe(&mut self, task: &Layered<T>, step: usize, operator: u32, state: &State)
+    /// Notes a step, counted from 1. `derived` has the derived variables that it changed, if they are known. `state` is the state after
+    /// it.
+    fn observe(
+        &mut self,
+        task: &Layered<T>,
+        step: usize,
+        operator: u32,
+        derived: Option<&[u32]>,
+        state: &State,
+    )
         requires told { (first : Self) × (before : List ℕ)
-            × IsTold admits sees task.now first before self.old step operator state.now }
+            × IsTold admits sees task.now first before self.old step operator state.now
+            × IfSome derived (λ listed. ListsLast task.now before state.now listed.now) }
         ensures sees { (first : Self) (before : List ℕ)
             → IsTold admits sees task.now first before self.old step operator state.now
             → sees task.now first self.new (before ++ operator ∷ []) };
@@ -33,7 +42,14 @@ impl<T: Grounded> Observer<T> for Vec<u32> {
         × (vec_capacity first ≤ vec_capacity now) };
 
     #[inline(always)]
-    fn observe(&mut self, _task: &Layered<T>, _step: usize, operator: u32, _state: &State) {
+    fn observe(
+        &mut self,
+        _task: &Layered<T>,
+        _step: usize,
+        operator: u32,
+        _derived: Option<&[u32]>,
+        _state: &State,
+    ) {
         self.push(operator).unwrap();
     }
 }

@@ -1,14 +1,15 @@
 // Makes the steps of a task, one after another.
-ghost use Rattle.std.specs.Prelude.{◌≡◌, ◌<◌, ◌≤◌, ℕ, length, IfOk, IfErr, IsFalse};
+ghost use Rattle.std.specs.Prelude.{◌≡◌, ◌<◌, ◌≤◌, ℕ, List, length, IfOk, OnOk, IfErr, IfSome, IsFalse};
 ghost use Rattle.sas_core.specs.Grounded.{operator_at};
 ghost use Rattle.sas_core.specs.Variables.{IsState};
+ghost use Rattle.sas_meaning.specs.Following.{ListsDerived};
 ghost use Rattle.sas_meaning.specs.Layers.{IsBasic, IsLayered};
 ghost use Rattle.sas_meaning.specs.InitialStates.{IsInitial};
 ghost use Rattle.sas_run.specs.PlainSteps.{DeletedHasRoom};
 ghost use Rattle.sas_run.specs.Given.{NothingGiven};
 ghost use Rattle.sas_run.specs.Plans.{IsApplicable};
 ghost use Rattle.sas_run.specs.Running.{Steps};
-ghost use Rattle.sas_run.specs.Stepping.{IsAt, IsPrepared};
+ghost use Rattle.sas_run.specs.Stepping.{HasChanged, IsAt, IsPrepared};
 
 use crate::deletions::DeletedFacts;
 use crate::steps::{StepFault, apply};
@@ -127,6 +128,8 @@ pub fn go_on_from<E: Settle<T> + Drop, T: Grounded>(
     requires applicable { IsApplicable state.old (operator_at layered.now operator) }
     ensures at { IsAt E.ready E.follows layered.now stepper.new state.new }
     ensures steps { Steps layered.now state.old operator state.new result }
+    ensures changed { OnOk result ((listed : List ℕ) → HasChanged E.changed stepper.new listed
+        → ListsDerived layered.now state.old state.new listed) }
 {
     apply(layered, stepper, operator, state)?;
     if stepper.deleted.noted {
@@ -134,6 +137,18 @@ pub fn go_on_from<E: Settle<T> + Drop, T: Grounded>(
         stepper.evaluator.settle_on(layered, gone, state);
     }
     Ok(())
+}
+
+/// Returns a list of derived variables that has all that the last step changed. Returns `None` if the evaluator doesn't have it.
+#[inline(always)]
+pub fn changed_by<E: Settle<T> + Drop, T: Grounded>(stepper: &Stepper<E>) -> Option<&[u32]>
+    ensures { IfSome result (λ listed. HasChanged E.changed stepper.now listed.now) }
+{
+    if stepper.deleted.noted {
+        stepper.evaluator.changed()
+    } else {
+        Some(&[])
+    }
 }
 
 /// Returns an upper bound on the number of effects of an operator.

@@ -1,6 +1,7 @@
 -- The blocks of a task file are stretches: a variable, a mutex group, an operator, a rule.
 use Rattle.sas_task_file.proofs.Imports.{◌≡◌, ℕ, suc, ◌-◌, List, [], ◌∷◌, ◌++◌, length, refl, ap, ◌∙◌, append_assoc, codes, Fact, Variable, Effect, Operator, AllByRecursion, Change, Place, Tracker, SoFar, Due, FixedWord, TaskState, table_node, state_after, before, TaskLine, word, name, number, signed, fact, effect, head, word_slot, name_slot, number_slot, signed_slot, fact_slot, effect_slot, head_slot, task_slot, slot_of_due, fixed_word_bytes, any_number, positive_number, single_line, between, counted, variable_lines, group_lines, operator_lines, rule_lines, test_of_due, name_in, number_in, signed_in, fact_in, effect_in, head_in, behind_variable, behind_group, behind_operator, behind_rule}
 use Rattle.sas_task_file.specs.declared.places.Place.TheVariants as place
+use Rattle.sas_task_file.specs.declared.marks.What.TheVariants as what
 use Rattle.sas_task_file.specs.declared.marks.Due.TheVariants as due
 use Rattle.sas_task_file.specs.declared.marks.FixedWord.TheVariants as fixed
 use Rattle.sas_task_file.proofs.Stretches.{Stretch, Allowed, line, ◌then◌, converted, numbered}
@@ -49,15 +50,15 @@ abbrev pub ListAllowed : List ℕ → Due → Due → {A : Type 0} → (A → Ta
 ListAllowed ranges count d into xs = Allowed ranges count (number (length xs)) × AllByRecursion (λ a. Allowed ranges d (into a)) xs
 
 abbrev pub VariableAllowed : List ℕ → Variable → Type 0
-VariableAllowed ranges v = Allowed ranges due.Name (name v.name) × (Allowed ranges due.Layer (signed v.layer) × ListAllowed ranges positive_number due.Name name v.values)
+VariableAllowed ranges v = Allowed ranges (due.Name what.Variable) (name v.name) × (Allowed ranges due.Layer (signed v.layer) × ListAllowed ranges (positive_number what.Range) (due.Name what.Value) name v.values)
 
 abbrev pub FactsAllowed : List ℕ → List Fact → Type 0
-FactsAllowed ranges facts = ListAllowed ranges any_number due.Fact fact facts
+FactsAllowed ranges facts = ListAllowed ranges (any_number what.Facts) due.Fact fact facts
 
 abbrev pub OperatorAllowed : List ℕ → Operator → Type 0
 OperatorAllowed ranges o =
-    Allowed ranges due.Name (name o.name)
-    × (FactsAllowed ranges o.prevail × (ListAllowed ranges any_number due.Effect effect o.effects × Allowed ranges any_number (number o.cost)))
+    Allowed ranges (due.Name what.Operator) (name o.name)
+    × (FactsAllowed ranges o.prevail × (ListAllowed ranges (any_number what.Effects) due.Effect effect o.effects × Allowed ranges (any_number what.Cost) (number o.cost)))
 
 abbrev pub RuleAllowed : List ℕ → Effect → Type 0
 RuleAllowed ranges r = FactsAllowed ranges r.conditions × Allowed ranges due.Head (head r.var r.old r.new)
@@ -92,21 +93,21 @@ module _ (left more : ℕ) (t : Tracker) (s : SoFar) where
   pub variable_block : Stretch (state_at place.Variables (suc left) more t s) variable_lines (VariableAllowed t.ranges) (λ v. state_at place.Variables (suc left - 1) 0 (record t { ranges = t.ranges ++ length v.values ∷ [] }) (behind_variable s v))
   variable_block = converted (λ p. record { name = p.0; layer = p.1.0; values = p.1.1 })
       (enclosed fixed.BeginVariable fixed.EndVariable refl
-      (line due.Name refl name name_in name_is then (λ label. line due.Layer refl signed signed_in signed_is then (λ layer.
-      numbered (λ m n xs. state_at place.VariableValues (suc left - 1) n (record t { ranges = t.ranges ++ m ∷ [] }) (record s { name = label; layer = layer; values = xs })) (line positive_number refl number number_in number_is) (λ m n xs. line due.Name refl name name_in name_is))))
+      (line (due.Name what.Variable) refl name name_in name_is then (λ label. line due.Layer refl signed signed_in signed_is then (λ layer.
+      numbered (λ m n xs. state_at place.VariableValues (suc left - 1) n (record t { ranges = t.ranges ++ m ∷ [] }) (record s { name = label; layer = layer; values = xs })) (line (positive_number what.Range) refl number number_in number_is) (λ m n xs. line (due.Name what.Value) refl name name_in name_is))))
       (λ p. refl))
       (record { good = λ p g. g; lines_are = λ p g. refl; next_is = λ p g. refl; back = λ v g. ((v.name, (v.layer, v.values)), g, refl) })
 
   pub group_block : Stretch (state_at place.Groups (suc left) more t s) group_lines (FactsAllowed t.ranges) (λ g. state_at place.Groups (suc left - 1) 0 t (behind_group s g))
-  group_block = enclosed fixed.BeginMutexGroup fixed.EndMutexGroup refl (numbered (λ m n fs. inside place.GroupFacts n (record s { facts = fs })) (line any_number refl number number_in number_is) (λ m n fs. line due.Fact refl fact fact_in fact_is)) (λ fs. refl)
+  group_block = enclosed fixed.BeginMutexGroup fixed.EndMutexGroup refl (numbered (λ m n fs. inside place.GroupFacts n (record s { facts = fs })) (line (any_number what.Facts) refl number number_in number_is) (λ m n fs. line due.Fact refl fact fact_in fact_is)) (λ fs. refl)
 
   pub operator_block : Stretch (state_at place.Operators (suc left) more t s) operator_lines (OperatorAllowed t.ranges) (λ o. state_at place.Operators (suc left - 1) 0 t (behind_operator s o))
   operator_block = converted (λ p. record { name = p.0; prevail = p.1.0; effects = p.1.1.0; cost = p.1.1.1 })
       (enclosed fixed.BeginOperator fixed.EndOperator refl
-      (line due.Name refl name name_in name_is
-      then (λ label. numbered (λ m n fs. inside place.Prevail n (record s { name = label; facts = fs })) (line any_number refl number number_in number_is) (λ m n fs. line due.Fact refl fact fact_in fact_is)
-      then (λ fs. numbered (λ m n es. inside place.Effects n (record s { name = label; facts = fs; effects = es })) (line any_number refl number number_in number_is) (λ m n es. line due.Effect refl effect effect_in effect_is)
-      then (λ es. line any_number refl number number_in number_is))))
+      (line (due.Name what.Operator) refl name name_in name_is
+      then (λ label. numbered (λ m n fs. inside place.Prevail n (record s { name = label; facts = fs })) (line (any_number what.Prevail) refl number number_in number_is) (λ m n fs. line due.Fact refl fact fact_in fact_is)
+      then (λ fs. numbered (λ m n es. inside place.Effects n (record s { name = label; facts = fs; effects = es })) (line (any_number what.Effects) refl number number_in number_is) (λ m n es. line due.Effect refl effect effect_in effect_is)
+      then (λ es. line (any_number what.Cost) refl number number_in number_is))))
       (λ p. refl))
       (record {
         good = λ p g. g;
@@ -118,7 +119,7 @@ module _ (left more : ℕ) (t : Tracker) (s : SoFar) where
   pub rule_block : Stretch (state_at place.Rules (suc left) more t s) rule_lines (RuleAllowed t.ranges) (λ r. state_at place.Rules (suc left - 1) 0 t (behind_rule s r))
   rule_block = converted (λ p. record { conditions = p.0; var = p.1.var; old = p.1.old; new = p.1.new })
       (enclosed fixed.BeginRule fixed.EndRule refl
-      (numbered (λ m n fs. inside place.RuleConditions n (record s { facts = fs })) (line any_number refl number number_in number_is) (λ m n fs. line due.Fact refl fact fact_in fact_is)
+      (numbered (λ m n fs. inside place.RuleConditions n (record s { facts = fs })) (line (any_number what.Conditions) refl number number_in number_is) (λ m n fs. line due.Fact refl fact fact_in fact_is)
       then (λ fs. line due.Head refl head_line head_in head_is))
       (λ p. refl))
       (record { good = λ p g. g; lines_are = λ p g. refl; next_is = λ p g. refl; back = λ r g. ((r.conditions, record { var = r.var; old = r.old; new = r.new }), g, refl) })

@@ -1,6 +1,6 @@
 -- The counts of a task are those of a tracker over its lines. After the same lines of a task, one
 -- count applies, or none.
-use Rattle.sas_task_file.proofs.Imports.{ranges_of, ◌≡◌, ℕ, suc, ◌+◌, ◌-◌, List, [], ◌∷◌, ◌++◌, length, map, refl, sym, ap, ◌∙◌, append_assoc, append-nil, map-append, arith, codes, length-map, Option, Some, None, slice_get, flat_map, Variable, Parts, WellRanged, cut_at, TaskLine, word, number, fact, single_line, version_lines, metric_lines, variable_lines, group_lines, operator_lines, rule_lines, task_layout, task_line_bytes, Tracker, tracker_start, track_line, track, row_in, number_in, Counts, ListCount, after_count, counts_start, counts_after, count_at, list_counts, section_counts, variable_counts, group_counts, operator_counts, rule_counts, task_counts, IsCounted, OneCount, SomeCount}
+use Rattle.sas_task_file.proofs.Imports.{ranges_of, ◌≡◌, ℕ, suc, ◌+◌, ◌-◌, List, [], ◌∷◌, ◌++◌, length, map, refl, sym, ap, ◌∙◌, append_assoc, append-nil, map-append, arith, codes, length-map, Option, Some, None, slice_get, flat_map, Variable, Parts, WellRanged, cut_at, TaskLine, word, number, fact, single_line, version_lines, metric_lines, variable_lines, group_lines, operator_lines, rule_lines, task_layout, task_line_bytes, Tracker, tracker_start, track_line, track, row_in, number_in, Counts, ListCount, after_count, counts_start, counts_after, counted_on_seven, count_at, list_counts, section_counts, variable_counts, group_counts, operator_counts, rule_counts, task_counts, IsCounted, OneCount, SomeCount}
 use Rattle.sas_task_file.specs.declared.places.Place.TheVariants as place
 use Rattle.sas_task_file.proofs.TaskSections.{InRanges, state_paired}
 use Rattle.sas_task_file.proofs.TrackedSections.{variables_scan, groups_scan, operators_scan, rules_scan}
@@ -50,11 +50,13 @@ module _ (p : Parts) (good : WellRanged p) where
       let k3 = k2 + length (section_counts group_counts p.groups k2) in
       let c2 = groups.0 in
       let many : length ranges ≡ length p.init = length-map vs (λ (v : Variable). length v.values) ∙ many_values vs p.init (state_paired vs p.init good.init) in
-      let values = each_told number place.StateValues second c2 None (λ n j. refl) (λ n k j. refl) refl k3 p.init in
-      let k4 = k3 + length (map {B = Option ListCount} (λ _. None) p.init) in
+      let on_seven = Some (counted_on_seven (length vs)) in
+      let state : count_at place.StateValues (length ranges) c2 ≡ on_seven = ap (λ (n : ℕ). Some (counted_on_seven n)) (length-map vs (λ (v : Variable). length v.values)) in
+      let values = each_told number place.StateValues second c2 on_seven (λ n j. refl) (λ n k j. refl) state k3 p.init in
+      let k4 = k3 + length (map (λ _. on_seven) p.init) in
       let c3 : Counts = record c2 { list = record { line = k4 + 2; number = length p.goal } } in
-      let between : Tells k4 (record second { place = place.StateValues; more = 0 }) c2 (word (codes "end_state") ∷ word (codes "begin_goal") ∷ number (length p.goal) ∷ []) (None ∷ None ∷ None ∷ []) (record second { place = place.GoalFacts; more = length p.goal }) c3 =
-      record { counts = refl; tracks = refl; notes = ap (λ (l : ℕ). let r : Counts = record c2 { list = record { line = l; number = length p.goal } } in r) (omega arith) } in
+      let between : Tells k4 (record second { place = place.StateValues; more = 0 }) c2 (word (codes "end_state") ∷ word (codes "begin_goal") ∷ number (length p.goal) ∷ []) (on_seven ∷ None ∷ None ∷ []) (record second { place = place.GoalFacts; more = length p.goal }) c3 =
+      record { counts = ap (λ (y : Option ListCount). y ∷ None ∷ None ∷ []) state; tracks = refl; notes = ap (λ (l : ℕ). let r : Counts = record c2 { list = record { line = l; number = length p.goal } } in r) (omega arith) } in
       let k5 = k4 + 3 in
       let goal = list_told fact place.GoalFacts second c3 (λ n j. refl) (λ n k j. refl) refl k5 p.goal (word (codes "end_goal"))
       (ap (λ (l : ℕ). let r : ListCount = record { line = l; number = length p.goal } in r) (omega arith)) in
@@ -82,12 +84,12 @@ module _ (p : Parts) (good : WellRanged p) where
 
   -- ---- the first lines
 
-  count_at_line : (k : ℕ) (t : Tracker) (c : Counts) (before : List TaskLine) (i : TaskLine) (more : List TaskLine) → slice_get (counts_along k t c (before ++ i ∷ more)) (length before) ≡ Some (count_at (track t before).place (counts_after k t c before))
+  count_at_line : (k : ℕ) (t : Tracker) (c : Counts) (before : List TaskLine) (i : TaskLine) (more : List TaskLine) → slice_get (counts_along k t c (before ++ i ∷ more)) (length before) ≡ Some (count_at (track t before).place (length (track t before).ranges) (counts_after k t c before))
   count_at_line k t c [] i more = refl
   count_at_line k t c (j ∷ before) i more = count_at_line (k + 1) (track_line t j) (after_count (row_in t).moves k (number_in j) c) before i more
 
   -- the count of the task there
-  pub counted_behind : (before more : List TaskLine) → task_layout p ≡ before ++ more → slice_get (task_counts p) (length before) ≡ Some (count_at (track tracker_start before).place (counts_after 1 tracker_start counts_start before))
+  pub counted_behind : (before more : List TaskLine) → task_layout p ≡ before ++ more → slice_get (task_counts p) (length before) ≡ Some (count_at (track tracker_start before).place (length (track tracker_start before).ranges) (counts_after 1 tracker_start counts_start before))
   counted_behind before [] e =
       let i = word [] in
       ap (λ (x : List (Option ListCount)). slice_get x (length before)) (sym (told i).2.counts)
@@ -101,7 +103,7 @@ module _ (p : Parts) (good : WellRanged p) where
 
 -- the count after these items of a task
 abbrev pub count_after : List TaskLine → Option ListCount
-count_after items = count_at (track tracker_start items).place (counts_after 1 tracker_start counts_start items)
+count_after items = count_at (track tracker_start items).place (length (track tracker_start items).ranges) (counts_after 1 tracker_start counts_start items)
 
 pub is_counted : (v : Parts) → WellRanged v → (begun : List (List ℕ)) (items more : List TaskLine) → map task_line_bytes items ≡ begun → task_layout v ≡ items ++ more → IsCounted begun (count_after items)
 is_counted v good begun items more s e = record {

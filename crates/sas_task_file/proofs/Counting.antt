@@ -6,7 +6,7 @@ use Rattle.sas_task_file.proofs.Tracking.{track-append}
 -- the counts of lines after a tracker, of which the first is line k
 abbrev pub counts_along : ℕ → Tracker → Counts → List TaskLine → List (Option ListCount)
 counts_along k t c [] = []
-counts_along k t c (i ∷ items) = count_at t.place c ∷ counts_along (k + 1) (track_line t i) (after_count (row_in t).moves k (number_in i) c) items
+counts_along k t c (i ∷ items) = count_at t.place (length t.ranges) c ∷ counts_along (k + 1) (track_line t i) (after_count (row_in t).moves k (number_in i) c) items
 
 -- ---- lines after lines
 
@@ -20,7 +20,7 @@ counts-append k t c (i ∷ a) b =
     let u = track_line t i in
     let d = after_count (row_in t).moves k (number_in i) c in
     let on : k + 1 + length a ≡ k + suc (length a) = omega arith in
-    ap (λ (x : List (Option ListCount)). count_at t.place c ∷ x) (counts-append (k + 1) u d a b ∙ ap (λ (n : ℕ). counts_along (k + 1) u d a ++ counts_along n (track u a) (counts_after (k + 1) u d a) b) on)
+    ap (λ (x : List (Option ListCount)). count_at t.place (length t.ranges) c ∷ x) (counts-append (k + 1) u d a b ∙ ap (λ (n : ℕ). counts_along (k + 1) u d a ++ counts_along n (track u a) (counts_after (k + 1) u d a) b) on)
 
 pub after-append : (k : ℕ) (t : Tracker) (c : Counts) (a b : List TaskLine) → counts_after k t c (a ++ b) ≡ counts_after (k + length a) (track t a) (counts_after k t c a) b
 after-append k t c [] b = ap (λ (n : ℕ). counts_after n t c b) (omega arith)
@@ -75,7 +75,7 @@ no_line = record { counts = refl; tracks = refl; notes = refl }
 module _ {A : Type 0} (says : A → TaskLine) (p : Place) (t : Tracker) (c : Counts) (x : Option ListCount)
     (moves : (n : ℕ) (i : TaskLine) → track_line (record t { place = p; more = suc n }) i ≡ record t { place = p; more = suc n - 1 })
     (notes : (n k : ℕ) (i : TaskLine) → after_count (row_in (record t { place = p; more = suc n })).moves k (number_in i) c ≡ c)
-    (has : count_at p c ≡ x) where
+    (has : count_at p (length t.ranges) c ≡ x) where
   one_told : (k n : ℕ) (a : A) → Tells k (record t { place = p; more = suc n }) c (says a ∷ []) (x ∷ []) (record t { place = p; more = n }) c
   one_told k n a =
       let less : suc n - 1 ≡ n = omega arith in
@@ -93,13 +93,13 @@ module _ {A : Type 0} (says : A → TaskLine) (p : Place) (t : Tracker) (c : Cou
 module _ {A : Type 0} (says : A → TaskLine) (p : Place) (t : Tracker) (c : Counts)
     (moves : (n : ℕ) (i : TaskLine) → track_line (record t { place = p; more = suc n }) i ≡ record t { place = p; more = suc n - 1 })
     (notes : (n k : ℕ) (i : TaskLine) → after_count (row_in (record t { place = p; more = suc n })).moves k (number_in i) c ≡ c)
-    (has : count_at p c ≡ Some c.list) where
+    (has : count_at p (length t.ranges) c ≡ Some c.list) where
   pub list_told : (k : ℕ) (xs : List A) (i : TaskLine) → c.list ≡ before_items xs k
       → Tells k (record t { place = p; more = length xs }) c (flat_map (single_line says) xs ++ i ∷ []) (list_counts xs k)
       (track_line (record t { place = p; more = 0 }) i) (after_count (row_in (record t { place = p; more = 0 })).moves (k + length xs) (number_in i) c)
   list_told k xs i e =
       let x = Some (before_items xs k) in
-      let is : count_at p c ≡ x = has ∙ ap (λ (y : ListCount). Some y) e in
+      let is : count_at p (length t.ranges) c ≡ x = has ∙ ap (λ (y : ListCount). Some y) e in
       let u : Tracker = record t { place = p; more = 0 } in
       let long = length-map xs (λ _. x) in
       ◌and◌ (each_told says p t c x moves notes is k xs)
@@ -230,7 +230,7 @@ module _ {A : Type 0} (lines : A → List TaskLine) (inside : A → List Counted
       )
 
   -- the blocks of a section, and the line behind them; where they lead is known
-  pub section_told : (r : List ℕ) (k : ℕ) (c : Counts) (xs : List A) (i : TaskLine) (u : Tracker) → c.section ≡ before_items xs k → track (at_left r (length xs)) (flat_map lines xs) ≡ u → ((d : Counts) → count_at u.place d ≡ Some d.section)
+  pub section_told : (r : List ℕ) (k : ℕ) (c : Counts) (xs : List A) (i : TaskLine) (u : Tracker) → c.section ≡ before_items xs k → track (at_left r (length xs)) (flat_map lines xs) ≡ u → ((d : Counts) → count_at u.place (length u.ranges) d ≡ Some d.section)
       → (d : Counts) × Tells k (at_left r (length xs)) c (flat_map lines xs ++ i ∷ []) (section_counts inside xs k) (track_line u i) (after_count (row_in u).moves (k + length (section_counts inside xs k) - 1) (number_in i) d)
   section_told r k c xs i u e ends has =
       let x = before_items xs k in

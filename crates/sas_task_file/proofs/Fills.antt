@@ -47,7 +47,7 @@ pub record Ready (before : Option TaskSlot) (t : Tracker) : Type 0 where
 
 -- whether a number is allowed, and whether the first fact exists
 abbrev passes : Due → ℕ → Bool → Bool
-passes (due.Number least most) n first = is_from least most n
+passes (due.Number its least most) n first = is_from least most n
 passes due.Fact n first = first
 passes due.Head n first = first
 passes due.Effect n first = first
@@ -81,8 +81,8 @@ few _ = omega arith
 
 filling_allowed : (ranges : List ℕ) (d : Due) (b : Option TaskSlot) → IsNumber (number_filling b) → IsTrue (passes d (number_filling b) (value_in ranges 0 0)) → Allowed ranges d (filling b (slot_of_due d))
 filling_allowed ranges (due.Word w) b f h = record { slot = refl; fits = tt; good = refl }
-filling_allowed ranges due.Name b f h = record { slot = refl; fits = tt; good = refl }
-filling_allowed ranges (due.Number least most) b f h = record { slot = refl; fits = f; good = h }
+filling_allowed ranges (due.Name its) b f h = record { slot = refl; fits = tt; good = refl }
+filling_allowed ranges (due.Number its least most) b f h = record { slot = refl; fits = f; good = h }
 filling_allowed ranges due.Layer b f h = record { slot = refl; fits = tt; good = refl }
 filling_allowed ranges due.Fact b f h = record { slot = refl; fits = (omega arith, omega arith); good = h }
 filling_allowed ranges due.Head b f h = record { slot = refl; fits = (omega arith, tt, omega arith); good = h }

@@ -55,9 +55,9 @@ pub use Rattle.sas_reader.specs.declared.fault.Kind.{Kind}
 pub use Rattle.sas_reader.specs.declared.fault.Kind.TheVariants.{Keyword, Name, Shape, Value, Memory}
 pub use Rattle.sas_reader.specs.declared.reader.Front.{Front}
 pub use Rattle.sas_task_file.specs.Ahead.{LineAhead, NumberAhead, SignedAhead, FactAhead, ChangeAhead, LinesBefore, AppendedBefore, EffectsBefore, FactsBefore, NamesBefore}
-pub use Rattle.sas_task_file.specs.Counts.{Counted, in_order, uncounted, before_items, list_counts, section_counts, variable_counts, group_counts, operator_counts, rule_counts, task_counts, IsCounted, OneCount, SomeCount}
+pub use Rattle.sas_task_file.specs.Counts.{Counted, in_order, uncounted, counted_on_seven, before_items, list_counts, section_counts, variable_counts, group_counts, operator_counts, rule_counts, task_counts, IsCounted, OneCount, SomeCount}
 pub use Rattle.sas_task_file.specs.TaskReasons.{HasWrong, FirstWrong, first_wrong, line_bounds, OneTaskReason, OneWrongWord, Bounded, fact_bounds, change_bounds, IsTaskReason, SomeTaskReason, IsFirstWrong, SpeaksOfFacts, SomeWrongWord, WrongWordIsNamed, below}
-pub use Rattle.sas_task_file.specs.Marks.{fixed_word_bytes, slot_of_due, IsDue, any_number, task_marks, OneDue, SomeDue, between_words, counted_dues, there, variable_dues, group_dues, operator_dues, rule_dues, numbered, positive_number}
+pub use Rattle.sas_task_file.specs.Marks.{fixed_word_bytes, slot_of_due, IsDue, any_number, task_marks, OneDue, SomeDue, between_words, counted_dues, there, variable_dues, group_dues, operator_dues, rule_dues, numbered, positive_number, value_dues}
 pub use Rattle.sas_task_file.specs.Sections.{spelled, LinesAhead, VariableAhead, GroupAhead, OperatorAhead, RuleAhead}
 pub use Rattle.sas_task_file.specs.TaskFormat.{TaskLine, TaskLineFits, TaskSlot, task_line_bytes, task_layout, task_format, task_slot, fact, effect, head, word_slot, name_slot, number_slot, signed_slot, fact_slot, effect_slot, head_slot, NumbersKind, no_shape, no_value, TaskKind, task_texts, HasShape, number, word, name, signed, fact_words, head_words, FactNumbers, HeadNumbers, EffectNumbers, effect_words, single_line, between, counted, version_lines, metric_lines, variable_lines, group_lines, goal_lines, operator_lines, rule_lines, state_lines}
 pub use Rattle.sas_task_file.specs.TaskLaws.{number_filling, filling, FillingsInBytes, last_slot, AreFillings, Completion, TaskIsFilled, OneCompletion}

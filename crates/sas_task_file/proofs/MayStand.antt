@@ -40,8 +40,8 @@ module _ (ranges : List ℕ) where
   passes due.Effect _ s b h = absurd cc
   passes due.Head _ s b h = absurd cc
   passes (due.Word w) i s b h = absurd b
-  passes due.Name i s b h = absurd b
-  passes (due.Number least most) i s b h = absurd b
+  passes (due.Name its) i s b h = absurd b
+  passes (due.Number its least most) i s b h = absurd b
   passes due.Layer i s b h = absurd b
   passes due.Nothing i s b h = absurd b
 

@@ -1,6 +1,7 @@
 -- The sections of task files: stretches of the table of places.
 use Rattle.sas_task_file.proofs.Imports.{◌≡◌, ◌≤◌, ℕ, zero, suc, ◌+◌, ◌-◌, ◌<◌, Bool, true, false, List, [], ◌∷◌, ◌++◌, length, length-append, length-map, get_or-append-add, refl, sym, ap, subst, ◌∙◌, append_assoc, append-nil, arith, IsTrue, rules, Some, None, Option, nat_lt, ◌==◌, slice_index, slice_index_or, if◌then◌else◌, list_all, flat_map, AllByRecursion, ltb-true, Fact, Variable, Effect, Operator, Parts, IsName, IsNumber, IsSigned, range_of, HasValue, MayHaveValue, FactExists, IsState, Listed, VariableFits, EffectFits, OperatorFits, WellRanged, and_from, and_parts, Place, Due, TaskState, table_node, table_start, one_allocator, one_ended, after_ends, TaskLine, TaskSlot, name, number, fact, effect, any_number, positive_number, FactNumbers, HeadNumbers, EffectNumbers, single_line, counted, version_lines, metric_lines, variable_lines, group_lines, state_lines, goal_lines, operator_lines, rule_lines, task_layout, task_format, TaskLineFits, is_from, number_in, fact_in, ranges_of, value_in, fact_in_ranges, change_in_ranges, effect_in_ranges, no_parts, SoFar}
 use Rattle.sas_task_file.specs.declared.places.Place.TheVariants as place
+use Rattle.sas_task_file.specs.declared.marks.What.TheVariants as what
 use Rattle.sas_task_file.specs.declared.marks.Due.TheVariants as due
 use Rattle.sas_task_file.specs.declared.marks.FixedWord.TheVariants as fixed
 use Rattle.sas_task_file.proofs.Ranges.{range_is, ranges_push}
@@ -40,13 +41,13 @@ between_of least most n h =
     (omega arith, omega arith)
 
 -- a number that a file can spell is allowed as a count
-pub any_allowed : (ranges : List ℕ) (n : ℕ) → IsNumber n → Allowed ranges any_number (number n)
+pub any_allowed : (ranges : List ℕ) (n : ℕ) → IsNumber n → Allowed ranges (any_number what.Facts) (number n)
 any_allowed ranges n h = record { slot = refl; fits = h; good = is_between 0 2147483647 n (omega arith) (omega (arith, h)) }
 
-pub positive_allowed : (ranges : List ℕ) (n : ℕ) → 0 < n → IsNumber n → Allowed ranges positive_number (number n)
+pub positive_allowed : (ranges : List ℕ) (n : ℕ) → 0 < n → IsNumber n → Allowed ranges (positive_number what.Range) (number n)
 positive_allowed ranges n some h = record { slot = refl; fits = h; good = is_between 1 2147483647 n (omega (arith, some)) (omega (arith, h)) }
 
-pub some_if_positive : (ranges : List ℕ) (n : ℕ) → Allowed ranges positive_number (number n) → 0 < n
+pub some_if_positive : (ranges : List ℕ) (n : ℕ) → Allowed ranges (positive_number what.Range) (number n) → 0 < n
 some_if_positive ranges n a = let b = between_of 1 2147483647 n a.good in omega (arith, b.0)
 
 -- ---- lines with variables and values
@@ -158,19 +159,19 @@ state_paired (v ∷ vs) (x ∷ xs) s = (s.in_range 0 (omega arith), state_paired
 
 -- as many lines as their number says
 module _ (ranges : List ℕ) (d : Due) {A : Type 0} (into : A → TaskLine) {Good : A → Type 0} where
-  list_good : ((a : A) → Allowed ranges d (into a) → Good a) → (xs : List A) → ListAllowed ranges any_number d into xs → Listed Good xs
+  list_good : ((a : A) → Allowed ranges d (into a) → Good a) → (xs : List A) → ListAllowed ranges (any_number what.Facts) d into xs → Listed Good xs
   list_good good xs h = record { count = h.0.fits; each = all_map (λ a. Allowed ranges d (into a)) Good good xs h.1 }
 
-  list_allowed : ((a : A) → Good a → Allowed ranges d (into a)) → (xs : List A) → Listed Good xs → ListAllowed ranges any_number d into xs
+  list_allowed : ((a : A) → Good a → Allowed ranges d (into a)) → (xs : List A) → Listed Good xs → ListAllowed ranges (any_number what.Facts) d into xs
   list_allowed allowed xs h = (any_allowed ranges (length xs) h.count, all_map Good (λ a. Allowed ranges d (into a)) allowed xs h.each)
 
 variable_good : (ranges : List ℕ) (v : Variable) → VariableAllowed ranges v → VariableFits v
-variable_good ranges v h = record { name = h.0.good; layer = h.1.0.fits; some_value = some_if_positive ranges (length v.values) h.1.1.0; values = record { count = h.1.1.0.fits; each = all_map (λ w. Allowed ranges due.Name (name w)) IsName (λ w a. a.good) v.values h.1.1.1 } }
+variable_good ranges v h = record { name = h.0.good; layer = h.1.0.fits; some_value = some_if_positive ranges (length v.values) h.1.1.0; values = record { count = h.1.1.0.fits; each = all_map (λ w. Allowed ranges (due.Name what.Value) (name w)) IsName (λ w a. a.good) v.values h.1.1.1 } }
 
 variable_allowed : (ranges : List ℕ) (v : Variable) → VariableFits v → VariableAllowed ranges v
 variable_allowed ranges v g =
-    let named : (w : List ℕ) → IsName w → Allowed ranges due.Name (name w) = λ w h. record { slot = refl; fits = tt; good = h } in
-    (named v.name g.name, (record { slot = refl; fits = g.layer; good = refl }, (positive_allowed ranges (length v.values) g.some_value g.values.count, all_map IsName (λ w. Allowed ranges due.Name (name w)) named v.values g.values.each)))
+    let named : (w : List ℕ) → IsName w → Allowed ranges (due.Name what.Value) (name w) = λ w h. record { slot = refl; fits = tt; good = h } in
+    (named v.name g.name, (record { slot = refl; fits = g.layer; good = refl }, (positive_allowed ranges (length v.values) g.some_value g.values.count, all_map IsName (λ w. Allowed ranges (due.Name what.Value) (name w)) named v.values g.values.each)))
 
 module _ (vs : List Variable) where
   abbrev r : List ℕ
@@ -213,7 +214,7 @@ between_blocks place total left ranges p layer = record { tracker = record { pla
 -- ---- the version and the metric
 
 three_stretch : Stretch (between_blocks place.VersionNumber 0 0 [] no_parts None) (λ (u : Unit {0}). number 3 ∷ []) (λ u. Unit {0}) (λ u. between_blocks place.VersionEnd 0 0 [] no_parts None)
-three_stretch = converted (λ n. tt) (line (due.Number 3 3) refl number number_in number_is) (record {
+three_stretch = converted (λ n. tt) (line (due.Number what.Version 3 3) refl number number_in number_is) (record {
   good = λ n g. tt;
   lines_are = λ n g. let b = between_of 3 3 n g.good in let three : 3 ≡ n = omega (arith, b.0, b.1) in ap (λ (m : ℕ). number m ∷ []) three;
   next_is = λ n g. refl;
@@ -234,12 +235,12 @@ bit_number zero h = refl
 bit_number (suc zero) h = refl
 bit_number (suc (suc n)) h = absurd (omega arith)
 
-bit_back : (m : Bool) → Unit {0} → (n : ℕ) × Allowed [] (due.Number 0 1) (number n) × ((n == 1) ≡ m)
+bit_back : (m : Bool) → Unit {0} → (n : ℕ) × Allowed [] (due.Number what.Metric 0 1) (number n) × ((n == 1) ≡ m)
 bit_back true g = (1, record { slot = refl; fits = omega arith; good = refl }, refl)
 bit_back false g = (0, record { slot = refl; fits = omega arith; good = refl }, refl)
 
 bit_stretch : Stretch (between_blocks place.MetricNumber 0 0 [] no_parts None) (λ m. number (metric_number m) ∷ []) (λ m. Unit {0}) (λ m. between_blocks place.MetricEnd 0 0 [] (with_metric m) None)
-bit_stretch = converted (λ n. n == 1) (line (due.Number 0 1) refl number number_in number_is) (record {
+bit_stretch = converted (λ n. n == 1) (line (due.Number what.Metric 0 1) refl number number_in number_is) (record {
   good = λ n g. tt;
   lines_are = λ n g. let b = between_of 0 1 n g.good in ap (λ (m : ℕ). number m ∷ []) (bit_number n b.1);
   next_is = λ n g. refl;
@@ -268,8 +269,8 @@ with_variables m vs = record (with_metric m) { variables = vs }
 abbrev at_variables : Bool → ℕ → ℕ → List Variable → TaskState
 at_variables m total left vs = between_blocks place.Variables total left (ranges_of vs) (with_variables m vs) (last_layer vs)
 
-variables_stretch : (m : Bool) → Stretch (between_blocks place.VariableCount 0 0 [] (with_metric m) None) (counted variable_lines) (λ vs. Allowed [] positive_number (number (length vs)) × AllByRecursion VariableFits vs) (λ vs. at_variables m (length vs) 0 vs)
-variables_stretch m = numbered (at_variables m) (line positive_number refl number number_in number_is) (λ total n vs. converted (λ v. v) (variable_block n 0 (at_variables m total n vs).tracker (at_variables m total n vs).so_far) (record {
+variables_stretch : (m : Bool) → Stretch (between_blocks place.VariableCount 0 0 [] (with_metric m) None) (counted variable_lines) (λ vs. Allowed [] (positive_number what.Variables) (number (length vs)) × AllByRecursion VariableFits vs) (λ vs. at_variables m (length vs) 0 vs)
+variables_stretch m = numbered (at_variables m) (line (positive_number what.Variables) refl number number_in number_is) (λ total n vs. converted (λ v. v) (variable_block n 0 (at_variables m total n vs).tracker (at_variables m total n vs).so_far) (record {
   good = variable_good (ranges_of vs);
   lines_are = λ v g. refl;
   next_is = λ v g. ap (λ (r : List ℕ). between_blocks place.Variables total (suc n - 1) r (with_variables m (vs ++ v ∷ [])) (last_layer (vs ++ v ∷ []))) (ranges_push vs v)
@@ -280,7 +281,7 @@ variables_stretch m = numbered (at_variables m) (line positive_number refl numbe
 -- ---- after the variables
 
 -- a number, and then this many blocks
-blocks : {A : Type 0} {x : TaskState} (ranges : List ℕ) {lines : A → List TaskLine} {Good : A → Type 0} (at : ℕ → ℕ → List A → TaskState) → Stretch x (single_line number) (λ n. Allowed ranges any_number (number n)) (λ n. at n n [])
+blocks : {A : Type 0} {x : TaskState} (ranges : List ℕ) {lines : A → List TaskLine} {Good : A → Type 0} (at : ℕ → ℕ → List A → TaskState) → Stretch x (single_line number) (λ n. Allowed ranges (any_number what.Facts) (number n)) (λ n. at n n [])
     → ((m n : ℕ) (xs : List A) → Stretch (at m (suc n) xs) lines Good (λ a. at m (suc n - 1) (xs ++ a ∷ []))) → Stretch x (counted lines) (Listed Good) (λ xs. at (length xs) 0 xs)
 blocks ranges at count one = restated (λ xs g. record { count = g.0.fits; each = g.1 }) (λ xs g. (any_allowed ranges (length xs) g.count, g.each)) (numbered at count one)
 
@@ -305,10 +306,10 @@ module _ (vs : List Variable) (k : Known vs) (l : Option ℕ) where
         let next : length ranges - suc (length ws) ≡ length done = omega (arith, many, length-map ws (λ (w : Variable). length w.values)) in
         ap (λ (i : ℕ). slice_index_or ranges i 0) next ∙ ap (λ (x : List ℕ). slice_index_or x (length done) 0) e ∙ read_next done (length v.values) (ranges_of ws)
 
-    value_good : (v : Variable) (n : ℕ) → n ≡ length v.values → Ranged v → (x : ℕ) → Allowed ranges (due.Number 0 (n - 1)) (number x) → InRange v x
+    value_good : (v : Variable) (n : ℕ) → n ≡ length v.values → Ranged v → (x : ℕ) → Allowed ranges (due.Number what.Cost 0 (n - 1)) (number x) → InRange v x
     value_good v n e h x a = let b = between_of 0 (n - 1) x a.good in omega (arith, e, b.1, h.0)
 
-    value_allowed : (v : Variable) (n : ℕ) → n ≡ length v.values → Ranged v → (x : ℕ) → InRange v x → Allowed ranges (due.Number 0 (n - 1)) (number x)
+    value_allowed : (v : Variable) (n : ℕ) → n ≡ length v.values → Ranged v → (x : ℕ) → InRange v x → Allowed ranges (due.Number what.Cost 0 (n - 1)) (number x)
     value_allowed v n e h x g = record { slot = refl; fits = omega (arith, g, h.1); good = is_between 0 (n - 1) x (omega arith) (omega (arith, e, g)) }
 
     values_back : (v : Variable) (ws : List Variable) (xs : List ℕ) → InRanges (v ∷ ws) xs → (q : ℕ × List ℕ) × (InRange v q.0 × InRanges ws q.1) × (q.0 ∷ q.1 ≡ xs)
@@ -329,7 +330,7 @@ module _ (vs : List Variable) (k : Known vs) (l : Option ℕ) where
         let n = slice_index_or ranges (length ranges - suc (length ws)) 0 in
         let next = next_range done v ws e in
         converted (λ q. q.0 ∷ q.1)
-        (both (restated (value_good v n next h.0) (value_allowed v n next h.0) (line (due.Number 0 (n - 1)) refl number number_in number_is))
+        (both (restated (value_good v n next h.0) (value_allowed v n next h.0) (line (due.Number (what.ValueOf (length ranges - suc (length ws))) 0 (n - 1)) refl number number_in number_is))
         (λ x g. subst (λ (m : ℕ). Stretch (at_value m (xs ++ x ∷ [])) (flat_map (single_line number)) (InRanges ws) (λ more. at_value 0 ((xs ++ x ∷ []) ++ more))) (sym less)
         (state_values (done ++ length v.values ∷ []) ws (xs ++ x ∷ []) (e ∙ sym (append_assoc done (length v.values ∷ []) (ranges_of ws))) h.1)))
         (record { good = λ q g. g; lines_are = λ q g. refl; next_is = λ q g. ap (at_value 0) (sym (append_assoc xs (q.0 ∷ []) q.1)); back = values_back v ws })
@@ -348,23 +349,23 @@ module _ (vs : List Variable) (k : Known vs) (l : Option ℕ) where
       let t = (between_blocks place.GoalSize total 0 ranges p l).tracker in
       enclosed fixed.BeginGoal fixed.EndGoal refl
       (restated (facts_good vs) (facts_allowed vs k) (numbered (λ m n fs. state_at place.GoalFacts 0 n t (content (record p { goal = fs }) l))
-      (subst (λ (q : Parts). Stretch (state_at place.GoalSize 0 0 t (content p l)) (single_line number) (λ n. Allowed ranges any_number (number n)) (λ n. state_at place.GoalFacts 0 n t (content q l))) none (line any_number refl number number_in number_is)) (λ m n fs. line due.Fact refl fact fact_in fact_is)))
+      (subst (λ (q : Parts). Stretch (state_at place.GoalSize 0 0 t (content p l)) (single_line number) (λ n. Allowed ranges (any_number what.Facts) (number n)) (λ n. state_at place.GoalFacts 0 n t (content q l))) none (line (any_number what.Facts) refl number number_in number_is)) (λ m n fs. line due.Fact refl fact fact_in fact_is)))
       (λ fs. refl)
 
   groups_stretch : (total : ℕ) (p : Parts) → Stretch (between_blocks place.Variables total 0 ranges (record p { groups = [] }) l) (counted group_lines) (Listed (Listed (FactExists vs))) (λ gs. between_blocks place.Groups (length gs) 0 ranges (record p { groups = gs }) l)
   groups_stretch total p =
       let at : ℕ → ℕ → List (List Fact) → TaskState = λ m n gs. between_blocks place.Groups m n ranges (record p { groups = gs }) l in
-      blocks ranges at (line any_number refl number number_in number_is) (λ m n gs. restated (facts_good vs) (facts_allowed vs k) (group_block n 0 (at m n gs).tracker (at m n gs).so_far))
+      blocks ranges at (line (any_number what.Groups) refl number number_in number_is) (λ m n gs. restated (facts_good vs) (facts_allowed vs k) (group_block n 0 (at m n gs).tracker (at m n gs).so_far))
 
   operators_stretch : (total : ℕ) (p : Parts) → Stretch (between_blocks place.OperatorCount total 0 ranges (record p { operators = [] }) l) (counted operator_lines) (Listed (OperatorFits vs)) (λ os. between_blocks place.Operators (length os) 0 ranges (record p { operators = os }) l)
   operators_stretch total p =
       let at : ℕ → ℕ → List Operator → TaskState = λ m n os. between_blocks place.Operators m n ranges (record p { operators = os }) l in
-      blocks ranges at (line any_number refl number number_in number_is) (λ m n os. restated (operator_good vs) (operator_allowed vs k) (operator_block n 0 (at m n os).tracker (at m n os).so_far))
+      blocks ranges at (line (any_number what.Operators) refl number number_in number_is) (λ m n os. restated (operator_good vs) (operator_allowed vs k) (operator_block n 0 (at m n os).tracker (at m n os).so_far))
 
   rules_stretch : (total : ℕ) (p : Parts) → Stretch (between_blocks place.Operators total 0 ranges (record p { rules = [] }) l) (counted rule_lines) (Listed (EffectFits vs)) (λ rs. between_blocks place.Rules (length rs) 0 ranges (record p { rules = rs }) l)
   rules_stretch total p =
       let at : ℕ → ℕ → List Effect → TaskState = λ m n rs. between_blocks place.Rules m n ranges (record p { rules = rs }) l in
-      blocks ranges at (line any_number refl number number_in number_is) (λ m n rs. restated (rule_good vs) (rule_allowed vs k) (rule_block n 0 (at m n rs).tracker (at m n rs).so_far))
+      blocks ranges at (line (any_number what.Rules) refl number number_in number_is) (λ m n rs. restated (rule_good vs) (rule_allowed vs k) (rule_block n 0 (at m n rs).tracker (at m n rs).so_far))
 
 -- ---- lists in another order of brackets
 

@@ -40,6 +40,10 @@ section_counts inside items k =
     let count : Counted = λ _. Some (before_items items k) ∷ [] in
     in_order (flat_map (λ a. count ∷ inside a) items ++ count ∷ []) k
 
+-- this number of variables is on line 7
+abbrev pub counted_on_seven : ℕ → ListCount
+counted_on_seven variables = record { line = 7; number = variables }
+
 -- ---- the lines of a block behind its first line
 
 abbrev pub variable_counts : Variable → List Counted
@@ -72,8 +76,9 @@ task_counts p = in_order
     ++ single_line number (length p.variables))
     ∷ section_counts variable_counts p.variables
     ∷ section_counts group_counts p.groups
-    ∷ uncounted p.init
-    ∷ uncounted (word (codes "end_state") ∷ word (codes "begin_goal") ∷ number (length p.goal) ∷ [])
+    -- the values of the state, and the three lines behind them
+    ∷ (λ _. map (λ _. Some (counted_on_seven (length p.variables))) p.init)
+    ∷ (λ _. Some (counted_on_seven (length p.variables)) ∷ None ∷ None ∷ [])
     ∷ list_counts p.goal
     ∷ uncounted (single_line number (length p.operators))
     ∷ section_counts operator_counts p.operators

@@ -13,6 +13,8 @@ use Rattle.sas_task_file.specs.declared.marks.FixedWord.TheVariants as fixed
 use Rattle.sas_task_file.specs.declared.marks.Location.{Location}
 use Rattle.sas_task_file.specs.declared.marks.Location.TheVariants as at
 use Rattle.sas_task_file.specs.declared.marks.Mark.{Mark}
+use Rattle.sas_task_file.specs.declared.marks.What.{What}
+use Rattle.sas_task_file.specs.declared.marks.What.TheVariants as what
 use Rattle.sas_task_file.specs.TaskFormat.{TaskSlot, word_slot, name_slot, number_slot, signed_slot, fact_slot, effect_slot, head_slot, task_format}
 
 -- the bytes of the words
@@ -37,37 +39,45 @@ fixed_word_bytes fixed.EndRule = codes "end_rule"
 -- ---- what is expected on the lines of each section
 
 -- any number, and one that isn't 0
-abbrev pub any_number : Due
-any_number = due.Number 0 2147483647
+abbrev pub any_number : What → Due
+any_number its = due.Number its 0 2147483647
 
-abbrev pub positive_number : Due
-positive_number = due.Number 1 2147483647
+abbrev pub positive_number : What → Due
+positive_number its = due.Number its 1 2147483647
 
 -- the first word, the lines between, the last word
 abbrev pub between_words : FixedWord → List Due → FixedWord → List Due
 between_words first dues last = due.Word first ∷ (dues ++ due.Word last ∷ [])
 
 -- the number of items, and then the same line for each
-abbrev pub counted_dues : {A : Type 0} → Due → List A → List Due
-counted_dues one items = any_number ∷ map (λ _. one) items
+abbrev pub counted_dues : {A : Type 0} → What → Due → List A → List Due
+counted_dues its one items = any_number its ∷ map (λ _. one) items
 
 abbrev pub variable_dues : Variable → List Due
 variable_dues v = between_words fixed.BeginVariable
-    (due.Name ∷ due.Layer ∷ positive_number ∷ map (λ _. due.Name) v.values) fixed.EndVariable
+    (due.Name what.Variable ∷ due.Layer ∷ positive_number what.Range
+    ∷ map (λ _. due.Name what.Value) v.values) fixed.EndVariable
 
 abbrev pub group_dues : List Fact → List Due
 group_dues facts =
-    between_words fixed.BeginMutexGroup (counted_dues due.Fact facts) fixed.EndMutexGroup
+    between_words fixed.BeginMutexGroup (counted_dues what.Facts due.Fact facts) fixed.EndMutexGroup
 
 abbrev pub operator_dues : Operator → List Due
 operator_dues o = between_words fixed.BeginOperator
-    (due.Name ∷ (counted_dues due.Fact o.prevail
-    ++ (counted_dues due.Effect o.effects ++ any_number ∷ [])))
+    (due.Name what.Operator ∷ (counted_dues what.Prevail due.Fact o.prevail
+    ++ (counted_dues what.Effects due.Effect o.effects ++ any_number what.Cost ∷ [])))
     fixed.EndOperator
 
 abbrev pub rule_dues : Effect → List Due
 rule_dues r = between_words fixed.BeginRule
-    (counted_dues due.Fact r.conditions ++ due.Head ∷ []) fixed.EndRule
+    (counted_dues what.Conditions due.Fact r.conditions ++ due.Head ∷ []) fixed.EndRule
+
+-- the values of these variables in the initial state, of which the first is variable n; each is less
+-- than the variable's range
+abbrev pub value_dues : ℕ → List Variable → List Due
+value_dues n [] = []
+value_dues n (v ∷ variables) =
+    due.Number (what.ValueOf n) 0 (length v.values - 1) ∷ value_dues (n + 1) variables
 
 -- ---- the marks of a task
 
@@ -83,19 +93,18 @@ numbered at dues n (a ∷ rest) = there (at n) (dues a) ++ numbered at dues (n +
 -- the location of each line of the task and what is expected there, in order
 abbrev pub task_marks : Parts → List Mark
 task_marks p =
-    there at.Version (between_words fixed.BeginVersion (due.Number 3 3 ∷ []) fixed.EndVersion)
-    ++ (there at.Metric (between_words fixed.BeginMetric (due.Number 0 1 ∷ []) fixed.EndMetric)
-    ++ (there at.Variables (positive_number ∷ [])
+    there at.Version (between_words fixed.BeginVersion (due.Number what.Version 3 3 ∷ []) fixed.EndVersion)
+    ++ (there at.Metric (between_words fixed.BeginMetric (due.Number what.Metric 0 1 ∷ []) fixed.EndMetric)
+    ++ (there at.Variables (positive_number what.Variables ∷ [])
     ++ (numbered at.Variable variable_dues 0 p.variables
-    ++ (there at.Groups (any_number ∷ [])
+    ++ (there at.Groups (any_number what.Groups ∷ [])
     ++ (numbered at.Group group_dues 0 p.groups
-    -- a value in the initial state is less than its variable's range
-    ++ (there at.State (between_words fixed.BeginState
-    (map (λ v. due.Number 0 (length v.values - 1)) p.variables) fixed.EndState)
-    ++ (there at.Goal (between_words fixed.BeginGoal (counted_dues due.Fact p.goal) fixed.EndGoal)
-    ++ (there at.Operators (any_number ∷ [])
+    ++ (there at.State (between_words fixed.BeginState (value_dues 0 p.variables) fixed.EndState)
+    ++ (there at.Goal (between_words fixed.BeginGoal (counted_dues what.Facts due.Fact p.goal)
+    fixed.EndGoal)
+    ++ (there at.Operators (any_number what.Operators ∷ [])
     ++ (numbered at.Operator operator_dues 0 p.operators
-    ++ (there at.Rules (any_number ∷ [])
+    ++ (there at.Rules (any_number what.Rules ∷ [])
     ++ numbered at.Rule rule_dues 0 p.rules))))))))))
 
 -- After these lines, this is expected: some task begins with them, and its next line has this mark.
@@ -106,8 +115,8 @@ pub record IsDue (begun : List (List ℕ)) (mark : Mark) : Type 0 where
 -- the slot of an expected line
 abbrev pub slot_of_due : Due → TaskSlot
 slot_of_due (due.Word w) = word_slot (fixed_word_bytes w)
-slot_of_due due.Name = name_slot
-slot_of_due (due.Number least most) = number_slot
+slot_of_due (due.Name its) = name_slot
+slot_of_due (due.Number its least most) = number_slot
 slot_of_due due.Layer = signed_slot
 slot_of_due due.Fact = fact_slot
 slot_of_due due.Head = head_slot

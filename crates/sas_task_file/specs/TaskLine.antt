@@ -40,8 +40,8 @@ ParsesLineOrMemory slot test said line (Err kind) =
 -- whether a line of the expected slot is allowed
 abbrev pub test_of_due : List ℕ → Due → TaskLine → Bool
 test_of_due ranges (due.Word w) i = true
-test_of_due ranges due.Name i = is_name (name_in i)
-test_of_due ranges (due.Number least most) i = is_from least most (number_in i)
+test_of_due ranges (due.Name its) i = is_name (name_in i)
+test_of_due ranges (due.Number its least most) i = is_from least most (number_in i)
 test_of_due ranges due.Layer i = true
 test_of_due ranges due.Fact i = fact_in_ranges ranges (fact_in i)
 test_of_due ranges due.Head i = head_in_ranges ranges (head_in i)
@@ -51,8 +51,8 @@ test_of_due ranges due.Nothing i = is_name (name_in i)
 -- the content of an expected line, which is in `said` or is the line itself
 abbrev pub line_of_due : Due → LineValues → List ℕ → TaskLine
 line_of_due (due.Word w) said line = word (fixed_word_bytes w)
-line_of_due due.Name said line = name line
-line_of_due (due.Number least most) said line = number said.number
+line_of_due (due.Name its) said line = name line
+line_of_due (due.Number its least most) said line = number said.number
 line_of_due due.Layer said line = signed said.layer
 line_of_due due.Fact said line = fact said.fact
 line_of_due due.Head said line = head said.head.var said.head.old said.head.new

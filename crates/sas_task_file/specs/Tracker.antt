@@ -17,6 +17,9 @@ use Rattle.sas_task_file.specs.declared.marks.FixedWord.TheVariants as fixed
 use Rattle.sas_task_file.specs.declared.marks.Location.{Location}
 use Rattle.sas_task_file.specs.declared.marks.Location.TheVariants as at
 use Rattle.sas_task_file.specs.declared.marks.Mark.{Mark}
+use Rattle.sas_task_file.specs.declared.marks.What.{What}
+use Rattle.sas_task_file.specs.declared.marks.What.TheVariants as what
+use Rattle.sas_task_file.specs.Counts.{counted_on_seven}
 use Rattle.sas_task_file.specs.Marks.{any_number, positive_number}
 use Rattle.sas_task_file.specs.TaskFormat.{TaskLine}
 use Rattle.sas_task_file.specs.TaskValues.{number_in}
@@ -47,8 +50,9 @@ abbrev pub begin_row : Location → FixedWord → Place → Row
 begin_row l w to = record { at = l; due = due.Word w; adds = adds.Nothing; moves = moves.Begin to }
 
 -- a number of facts or effects, and a value, a fact or an effect of a list
-abbrev pub list_row : Location → Event → Place → Row
-list_row l e to = record { at = l; due = any_number; adds = e; moves = moves.List to }
+abbrev pub list_row : Location → What → Event → Place → Row
+list_row l its e to =
+    record { at = l; due = any_number its; adds = e; moves = moves.List to }
 
 abbrev pub item_row : Location → Due → Event → Row
 item_row l d e = record { at = l; due = d; adds = e; moves = moves.Item }
@@ -67,39 +71,42 @@ next_number t = t.total - t.left
 abbrev pub this_number : Tracker → ℕ
 this_number t = t.total - t.left - 1
 
--- the greatest value of the next variable in the initial state
+-- the next variable in the initial state, and its greatest value
+abbrev pub next_variable : Tracker → ℕ
+next_variable t = length t.ranges - t.more
+
 abbrev pub most_value : Tracker → ℕ
-most_value t = slice_index_or t.ranges (length t.ranges - t.more) 0 - 1
+most_value t = slice_index_or t.ranges (next_variable t) 0 - 1
 
 abbrev pub value_due : Tracker → Due
-value_due t = due.Number 0 (most_value t)
+value_due t = due.Number (what.ValueOf (next_variable t)) 0 (most_value t)
 
 abbrev pub row_at : Place → Tracker → Row
 row_at place.VersionBegin t = word_row at.Version fixed.BeginVersion place.VersionNumber
 row_at place.VersionNumber t =
-    line_row at.Version (due.Number 3 3) adds.Nothing place.VersionEnd
+    line_row at.Version (due.Number what.Version 3 3) adds.Nothing place.VersionEnd
 row_at place.VersionEnd t = word_row at.Version fixed.EndVersion place.MetricBegin
 row_at place.MetricBegin t = word_row at.Metric fixed.BeginMetric place.MetricNumber
-row_at place.MetricNumber t = line_row at.Metric (due.Number 0 1) adds.Metric place.MetricEnd
+row_at place.MetricNumber t = line_row at.Metric (due.Number what.Metric 0 1) adds.Metric place.MetricEnd
 row_at place.MetricEnd t = word_row at.Metric fixed.EndMetric place.VariableCount
-row_at place.VariableCount t = count_row at.Variables positive_number place.Variables
+row_at place.VariableCount t = count_row at.Variables (positive_number what.Variables) place.Variables
 row_at place.Variables t = by_count t.left
-    (count_row at.Groups any_number place.Groups)
+    (count_row at.Groups (any_number what.Groups) place.Groups)
     (begin_row (at.Variable (next_number t)) fixed.BeginVariable place.VariableName)
 row_at place.VariableName t =
-    line_row (at.Variable (this_number t)) due.Name adds.Name place.VariableLayer
+    line_row (at.Variable (this_number t)) (due.Name what.Variable) adds.Name place.VariableLayer
 row_at place.VariableLayer t =
     line_row (at.Variable (this_number t)) due.Layer adds.Layer place.VariableRange
 row_at place.VariableRange t = record {
   at = at.Variable (this_number t);
-  due = positive_number;
+  due = positive_number what.Range;
   adds = adds.Values;
   moves = moves.Range place.VariableValues;
 }
 row_at place.VariableValues t = by_count t.more
     (line_row (at.Variable (this_number t)) (due.Word fixed.EndVariable) adds.Variable
     place.Variables)
-    (item_row (at.Variable (this_number t)) due.Name adds.Value)
+    (item_row (at.Variable (this_number t)) (due.Name what.Value) adds.Value)
 row_at place.Groups t = by_count t.left
     (record {
       at = at.State;
@@ -108,7 +115,7 @@ row_at place.Groups t = by_count t.left
       moves = moves.State place.StateValues;
     })
     (begin_row (at.Group (next_number t)) fixed.BeginMutexGroup place.GroupSize)
-row_at place.GroupSize t = list_row (at.Group (this_number t)) adds.Facts place.GroupFacts
+row_at place.GroupSize t = list_row (at.Group (this_number t)) what.Facts adds.Facts place.GroupFacts
 row_at place.GroupFacts t = by_count t.more
     (line_row (at.Group (this_number t)) (due.Word fixed.EndMutexGroup) adds.Group place.Groups)
     (item_row (at.Group (this_number t)) due.Fact adds.Fact)
@@ -116,29 +123,29 @@ row_at place.StateValues t = by_count t.more
     (word_row at.State fixed.EndState place.GoalBegin)
     (item_row at.State (value_due t) adds.State)
 row_at place.GoalBegin t = word_row at.Goal fixed.BeginGoal place.GoalSize
-row_at place.GoalSize t = list_row at.Goal adds.Nothing place.GoalFacts
+row_at place.GoalSize t = list_row at.Goal what.Facts adds.Nothing place.GoalFacts
 row_at place.GoalFacts t = by_count t.more
     (word_row at.Goal fixed.EndGoal place.OperatorCount)
     (item_row at.Goal due.Fact adds.Goal)
-row_at place.OperatorCount t = count_row at.Operators any_number place.Operators
+row_at place.OperatorCount t = count_row at.Operators (any_number what.Operators) place.Operators
 row_at place.Operators t = by_count t.left
-    (count_row at.Rules any_number place.Rules)
+    (count_row at.Rules (any_number what.Rules) place.Rules)
     (begin_row (at.Operator (next_number t)) fixed.BeginOperator place.OperatorName)
 row_at place.OperatorName t =
-    line_row (at.Operator (this_number t)) due.Name adds.Name place.PrevailCount
-row_at place.PrevailCount t = list_row (at.Operator (this_number t)) adds.Facts place.Prevail
+    line_row (at.Operator (this_number t)) (due.Name what.Operator) adds.Name place.PrevailCount
+row_at place.PrevailCount t = list_row (at.Operator (this_number t)) what.Prevail adds.Facts place.Prevail
 row_at place.Prevail t = by_count t.more
-    (list_row (at.Operator (this_number t)) adds.Effects place.Effects)
+    (list_row (at.Operator (this_number t)) what.Effects adds.Effects place.Effects)
     (item_row (at.Operator (this_number t)) due.Fact adds.Fact)
 row_at place.Effects t = by_count t.more
-    (line_row (at.Operator (this_number t)) any_number adds.Operator place.OperatorEnd)
+    (line_row (at.Operator (this_number t)) (any_number what.Cost) adds.Operator place.OperatorEnd)
     (item_row (at.Operator (this_number t)) due.Effect adds.Effect)
 row_at place.OperatorEnd t =
     word_row (at.Operator (this_number t)) fixed.EndOperator place.Operators
 row_at place.Rules t = by_count t.left
     (line_row at.End due.Nothing adds.Nothing place.Rules)
     (begin_row (at.Rule (next_number t)) fixed.BeginRule place.RuleSize)
-row_at place.RuleSize t = list_row (at.Rule (this_number t)) adds.Facts place.RuleConditions
+row_at place.RuleSize t = list_row (at.Rule (this_number t)) what.Conditions adds.Facts place.RuleConditions
 row_at place.RuleConditions t = by_count t.more
     (line_row (at.Rule (this_number t)) due.Head adds.Rule place.RuleEnd)
     (item_row (at.Rule (this_number t)) due.Fact adds.Fact)
@@ -195,19 +202,21 @@ after_count (moves.List p) k n c = record c { list = record { line = k; number =
 after_count (moves.Range p) k n c = record c { list = record { line = k; number = n } }
 after_count _ k n c = c
 
--- the count of the list whose next item is due at the place, or whose last item is directly before
-abbrev pub count_at : Place → Counts → Option ListCount
-count_at place.Variables c = Some c.section
-count_at place.VariableValues c = Some c.list
-count_at place.Groups c = Some c.section
-count_at place.GroupFacts c = Some c.list
-count_at place.GoalFacts c = Some c.list
-count_at place.Operators c = Some c.section
-count_at place.Prevail c = Some c.list
-count_at place.Effects c = Some c.list
-count_at place.Rules c = Some c.section
-count_at place.RuleConditions c = Some c.list
-count_at _ c = None
+-- the count of the list whose next item is due at the place, or whose last item is directly before;
+-- the values of the state are counted by this number of variables
+abbrev pub count_at : Place → ℕ → Counts → Option ListCount
+count_at place.Variables variables c = Some c.section
+count_at place.VariableValues variables c = Some c.list
+count_at place.Groups variables c = Some c.section
+count_at place.GroupFacts variables c = Some c.list
+count_at place.StateValues variables c = Some (counted_on_seven variables)
+count_at place.GoalFacts variables c = Some c.list
+count_at place.Operators variables c = Some c.section
+count_at place.Prevail variables c = Some c.list
+count_at place.Effects variables c = Some c.list
+count_at place.Rules variables c = Some c.section
+count_at place.RuleConditions variables c = Some c.list
+count_at _ variables c = None
 
 -- the counts after all of these lines, of which the first is line k
 abbrev pub counts_after : ℕ → Tracker → Counts → List TaskLine → Counts

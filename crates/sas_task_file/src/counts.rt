@@ -8,12 +8,25 @@ use crate::places::{Move, Place};
 #[derive(Clone, Copy)]
 pub struct ListCount {
     pub line: u64,
-    pub number: u32,
+    pub number: u64,
 }
+
+/// The line with the number of variables.
+const VARIABLES_LINE: u64 = 7;
 
 impl ListCount {
     /// No line.
     const NONE: ListCount = ListCount { line: 0, number: 0 };
+
+    /// Returns that this number is on this line.
+    fn of(line: u64, number: u32) -> ListCount
+        ensures { result ≡ record { line = line; number = number } }
+    {
+        ListCount {
+            line,
+            number: u64::from(number),
+        }
+    }
 }
 
 /// The last numbers of items among the lines so far.
@@ -41,16 +54,16 @@ impl Counts {
         ensures { self.new ≡ after_count by line number self.old }
     {
         match by {
-            Move::Count(_) => self.section = ListCount { line, number },
-            Move::List(_) | Move::Range(_) => self.list = ListCount { line, number },
+            Move::Count(_) => self.section = ListCount::of(line, number),
+            Move::List(_) | Move::Range(_) => self.list = ListCount::of(line, number),
             _ => {}
         }
     }
 
     /// Returns the count of the list whose next item is expected at this place, or whose last item is directly before it. Returns `None` if
-    /// there is no such list.
-    pub fn at(&self, place: Place) -> Option<ListCount>
-        ensures { result ≡ count_at place self.now }
+    /// there is no such list. The values of the state are counted by the number of variables, which is `variables`.
+    pub fn at(&self, place: Place, variables: usize) -> Option<ListCount>
+        ensures { result ≡ count_at place variables self.now }
     {
         match place {
             Place::Variables | Place::Groups | Place::Operators | Place::Rules => {
@@ -62,6 +75,10 @@ impl Counts {
             | Place::Prevail
             | Place::Effects
             | Place::RuleConditions => Some(self.list),
+            Place::StateValues => Some(ListCount {
+                line: VARIABLES_LINE,
+                number: variables as u64,
+            }),
             _ => None,
         }
     }

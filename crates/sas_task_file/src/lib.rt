@@ -19,7 +19,7 @@ mod wrong_word;
 pub use ahead::{read_effect, read_fact, read_name, read_number_line};
 pub use counts::{Counts, ListCount};
 pub use laws::{line_number_laws, mark_laws, task_laws};
-pub use marks::{Due, FixedWord, Location, Mark, WrongWord};
+pub use marks::{Due, FixedWord, Location, Mark, What, WrongWord};
 pub use places::{Event, Move, Place, Row};
 pub use sections::{ParsedOperator, ParsedRule, read_operator, read_rule};
 pub use so_far::SoFar;

@@ -69,15 +69,43 @@ impl FixedWord {
     }
 }
 
+/// What a name or a number is that has a line of its own.
+#[derive(Clone, Copy)]
+pub enum What {
+    /// The name of a variable, a value, or an operator.
+    Variable,
+    Value,
+    Operator,
+    Version,
+    Metric,
+    /// How many variables, groups, operators or rules there are.
+    Variables,
+    Groups,
+    Operators,
+    Rules,
+    /// How many values a variable has.
+    Range,
+    /// How many facts a group or the goal has.
+    Facts,
+    /// The value of this variable, counted from 0, in the initial state.
+    ValueOf(usize),
+    /// How many prevail conditions or effects an operator has, and its cost.
+    Prevail,
+    Effects,
+    Cost,
+    /// How many conditions a rule has.
+    Conditions,
+}
+
 /// What is expected on a line of a task file.
 #[derive(Clone, Copy)]
 pub enum Due {
     /// This word.
     Word(FixedWord),
     /// A name.
-    Name,
+    Name(What),
     /// A number from `least` to `most`.
-    Number { least: u32, most: u32 },
+    Number { what: What, least: u32, most: u32 },
     /// An axiom layer: a number, or `-1` for a basic variable.
     Layer,
     /// A fact: a variable and one of its values.

@@ -1,32 +1,51 @@
 // The table of places: for each place the location of the next line, what is expected there, what the line adds, and how it moves the
 // tracker.
 ghost use Rattle.std.specs.Prelude.{◌≡◌};
-ghost use Rattle.sas_task_file.specs.Tracker.{line_row, word_row, count_row, begin_row, list_row, item_row, next_number, this_number, most_value, value_due, IsRow};
+ghost use Rattle.sas_task_file.specs.Tracker.{line_row, word_row, count_row, begin_row, list_row, item_row, next_number, this_number, next_variable, most_value, value_due, IsRow};
+ghost use Rattle.sas_task_file.specs.Marks.{any_number, positive_number};
 
-use crate::marks::{Due, FixedWord as Word, Location as At};
+use crate::marks::{Due, FixedWord as Word, Location as At, What};
 use crate::places::{Event, Move, Place, Row};
 use crate::tracker::Tracker;
 
 /// The greatest number of a task file.
 const MOST: u32 = 2_147_483_647;
 
-/// Any number.
-const ANY_NUMBER: Due = Due::Number {
-    least: 0,
-    most: MOST,
-};
-
-/// Any number but 0.
-const POSITIVE_NUMBER: Due = Due::Number {
-    least: 1,
-    most: MOST,
-};
-
 /// The version.
-const VERSION: Due = Due::Number { least: 3, most: 3 };
+const VERSION: Due = Due::Number {
+    what: What::Version,
+    least: 3,
+    most: 3,
+};
 
 /// The metric.
-const METRIC: Due = Due::Number { least: 0, most: 1 };
+const METRIC: Due = Due::Number {
+    what: What::Metric,
+    least: 0,
+    most: 1,
+};
+
+/// Returns that any number is expected.
+fn any_number(what: What) -> Due
+    ensures { result ≡ any_number what }
+{
+    Due::Number {
+        what,
+        least: 0,
+        most: MOST,
+    }
+}
+
+/// Returns that any number but 0 is expected.
+fn positive_number(what: What) -> Due
+    ensures { result ≡ positive_number what }
+{
+    Due::Number {
+        what,
+        least: 1,
+        most: MOST,
+    }
+}
 
 /// Returns the row of a line after which the place is `to`.
 fn line_row(at: At, due: Due, adds: Event, to: Place) -> Row
@@ -72,12 +91,12 @@ fn begin_row(at: At, word: Word, to: Place) -> Row
 }
 
 /// Returns the row of a number of facts or effects.
-fn list_row(at: At, adds: Event, to: Place) -> Row
-    ensures { result ≡ list_row at adds to }
+fn list_row(at: At, what: What, adds: Event, to: Place) -> Row
+    ensures { result ≡ list_row at what adds to }
 {
     Row {
         at,
-        due: ANY_NUMBER,
+        due: any_number(what),
         adds,
         moves: Move::List(to),
     }
@@ -110,11 +129,18 @@ impl Tracker {
         self.next_number().saturating_sub(1)
     }
 
+    /// Returns the next variable in the initial state, counted from 0.
+    fn next_variable(&self) -> usize
+        ensures { result ≡ next_variable self.now }
+    {
+        self.ranges.len().saturating_sub(self.more)
+    }
+
     /// Returns the greatest value of the next variable in the initial state.
     pub fn most_value(&self) -> u32
         ensures { result ≡ most_value self.now }
     {
-        match self.ranges.get(self.ranges.len().saturating_sub(self.more)) {
+        match self.ranges.get(self.next_variable()) {
             Some(&range) => range.saturating_sub(1),
             None => 0,
         }
@@ -125,6 +151,7 @@ impl Tracker {
         ensures { result ≡ value_due self.now }
     {
         Due::Number {
+            what: What::ValueOf(self.next_variable()),
             least: 0,
             most: self.most_value(),
         }
@@ -152,14 +179,27 @@ impl Tracker {
             Place::MetricBegin => word_row(At::Metric, Word::BeginMetric, Place::MetricNumber),
             Place::MetricNumber => line_row(At::Metric, METRIC, Event::Metric, Place::MetricEnd),
             Place::MetricEnd => word_row(At::Metric, Word::EndMetric, Place::VariableCount),
-            Place::VariableCount => count_row(At::Variables, POSITIVE_NUMBER, Place::Variables),
-            Place::Variables if self.left == 0 => count_row(At::Groups, ANY_NUMBER, Place::Groups),
+            Place::VariableCount => count_row(
+                At::Variables,
+                positive_number(What::Variables),
+                Place::Variables,
+            ),
+            Place::Variables if self.left == 0 => count_row(
+                At::Groups,
+                any_number(What::Groups),
+                Place::Groups,
+            ),
             Place::Variables => begin_row(
                 At::Variable(next),
                 Word::BeginVariable,
                 Place::VariableName,
             ),
-            Place::VariableName => line_row(variable, Due::Name, Event::Name, Place::VariableLayer),
+            Place::VariableName => line_row(
+                variable,
+                Due::Name(What::Variable),
+                Event::Name,
+                Place::VariableLayer,
+            ),
             Place::VariableLayer => line_row(
                 variable,
                 Due::Layer,
@@ -168,7 +208,7 @@ impl Tracker {
             ),
             Place::VariableRange => Row {
                 at: variable,
-                due: POSITIVE_NUMBER,
+                due: positive_number(What::Range),
                 adds: Event::Values,
                 moves: Move::Range(Place::VariableValues),
             },
@@ -178,7 +218,7 @@ impl Tracker {
                 Event::Variable,
                 Place::Variables,
             ),
-            Place::VariableValues => item_row(variable, Due::Name, Event::Value),
+            Place::VariableValues => item_row(variable, Due::Name(What::Value), Event::Value),
             Place::Groups if self.left == 0 => Row {
                 at: At::State,
                 due: Due::Word(Word::BeginState),
@@ -186,7 +226,7 @@ impl Tracker {
                 moves: Move::State(Place::StateValues),
             },
             Place::Groups => begin_row(At::Group(next), Word::BeginMutexGroup, Place::GroupSize),
-            Place::GroupSize => list_row(group, Event::Facts, Place::GroupFacts),
+            Place::GroupSize => list_row(group, What::Facts, Event::Facts, Place::GroupFacts),
             Place::GroupFacts if self.more == 0 => line_row(
                 group,
                 Due::Word(Word::EndMutexGroup),
@@ -201,27 +241,45 @@ impl Tracker {
             ),
             Place::StateValues => item_row(At::State, self.value_due(), Event::State),
             Place::GoalBegin => word_row(At::Goal, Word::BeginGoal, Place::GoalSize),
-            Place::GoalSize => list_row(At::Goal, Event::Nothing, Place::GoalFacts),
+            Place::GoalSize => list_row(At::Goal, What::Facts, Event::Nothing, Place::GoalFacts),
             Place::GoalFacts if self.more == 0 => word_row(
                 At::Goal,
                 Word::EndGoal,
                 Place::OperatorCount,
             ),
             Place::GoalFacts => item_row(At::Goal, Due::Fact, Event::Goal),
-            Place::OperatorCount => count_row(At::Operators, ANY_NUMBER, Place::Operators),
-            Place::Operators if self.left == 0 => count_row(At::Rules, ANY_NUMBER, Place::Rules),
+            Place::OperatorCount => count_row(
+                At::Operators,
+                any_number(What::Operators),
+                Place::Operators,
+            ),
+            Place::Operators if self.left == 0 => count_row(
+                At::Rules,
+                any_number(What::Rules),
+                Place::Rules,
+            ),
             Place::Operators => begin_row(
                 At::Operator(next),
                 Word::BeginOperator,
                 Place::OperatorName,
             ),
-            Place::OperatorName => line_row(operator, Due::Name, Event::Name, Place::PrevailCount),
-            Place::PrevailCount => list_row(operator, Event::Facts, Place::Prevail),
-            Place::Prevail if self.more == 0 => list_row(operator, Event::Effects, Place::Effects),
+            Place::OperatorName => line_row(
+                operator,
+                Due::Name(What::Operator),
+                Event::Name,
+                Place::PrevailCount,
+            ),
+            Place::PrevailCount => list_row(operator, What::Prevail, Event::Facts, Place::Prevail),
+            Place::Prevail if self.more == 0 => list_row(
+                operator,
+                What::Effects,
+                Event::Effects,
+                Place::Effects,
+            ),
             Place::Prevail => item_row(operator, Due::Fact, Event::Fact),
             Place::Effects if self.more == 0 => line_row(
                 operator,
-                ANY_NUMBER,
+                any_number(What::Cost),
                 Event::Operator,
                 Place::OperatorEnd,
             ),
@@ -234,7 +292,12 @@ impl Tracker {
                 Place::Rules,
             ),
             Place::Rules => begin_row(At::Rule(next), Word::BeginRule, Place::RuleSize),
-            Place::RuleSize => list_row(rule, Event::Facts, Place::RuleConditions),
+            Place::RuleSize => list_row(
+                rule,
+                What::Conditions,
+                Event::Facts,
+                Place::RuleConditions,
+            ),
             Place::RuleConditions if self.more == 0 => line_row(
                 rule,
                 Due::Head,

@@ -311,8 +311,8 @@ impl LineValues {
     {
         match due {
             Due::Word(word) => word_at(line, word.bytes())?,
-            Due::Name | Due::Nothing => name_at(line)?,
-            Due::Number { least, most } => self.number = number_from(line, least, most)?,
+            Due::Name(_) | Due::Nothing => name_at(line)?,
+            Due::Number { least, most, .. } => self.number = number_from(line, least, most)?,
             Due::Layer => self.layer = signed_at(line)?,
             Due::Fact => self.fact = fact_at(ranges, line)?,
             Due::Head => self.head = head_at(ranges, line)?,

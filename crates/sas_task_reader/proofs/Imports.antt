@@ -46,7 +46,7 @@ pub use Rattle.sas_reader.proofs.Plain.{plain}
 pub use Rattle.sas_reader.proofs.Reading.{reads_all, refuses_all, feeds, end_fault}
 pub use Rattle.sas_reader.proofs.Refusals.{reads_explained, refuses_explained}
 pub use Rattle.sas_reader.specs.About.{EndsUnended}
-pub use Rattle.sas_reader.specs.Found.{IsFoundOf, kept_bytes}
+pub use Rattle.sas_reader.specs.Found.{IsFoundOf, Kept, kept_bytes}
 pub use Rattle.sas_reader.specs.declared.found.Excerpt.{Excerpt}
 pub use Rattle.sas_reader.specs.Devices.{ValueOf, ReadsAll}
 pub use Rattle.sas_reader.specs.Format.{IsBegun, ReadsAs, AreAllLines}

@@ -1,6 +1,6 @@
 -- The last line of a task: the machine knows which one it is, and so whether only a line end is
 -- missing.
-use Rattle.sas_task_reader.proofs.Imports.{◌≡◌, ◌↔◌, ℕ, zero, suc, ◌≤◌, List, [], ◌∷◌, ◌++◌, length, map, refl, sym, ap, subst, ◌∙◌, arith, inl, inr, ◌⊎◌, Option, Some, None, IsSomeAnd, IfSome, IfNone, codes, take_all, length-take, map-append, decimal_digit, Parts, Kind, Excerpt, kept_bytes, IsFoundOf, without_return, return_length, AreAllLines, EndsUnended, LeadsToEnd, ended, cut_at, ends_split, after_ends, same_path, TaskLine, word, number, task_slot, task_line_bytes, task_layout, task_format, TaskLineFits, slot_of_due, number_in, Place, Tracker, row_at, after_move, TaskMachine, TaskState, SoFar, state_after, state_of, table_node, table_start, LedBy, IsLastLine}
+use Rattle.sas_task_reader.proofs.Imports.{◌≡◌, ◌↔◌, ℕ, zero, suc, ◌≤◌, List, [], ◌∷◌, ◌++◌, length, map, refl, sym, ap, subst, ◌∙◌, arith, inl, inr, ◌⊎◌, Option, Some, None, IsSomeAnd, IfSome, IfNone, codes, take_all, length-take, map-append, decimal_digit, Parts, Kind, Excerpt, kept_bytes, take, without_return, return_length, AreAllLines, EndsUnended, LeadsToEnd, ended, cut_at, ends_split, after_ends, same_path, TaskLine, word, number, task_slot, task_line_bytes, task_layout, task_format, TaskLineFits, slot_of_due, number_in, Place, Tracker, row_at, after_move, TaskMachine, TaskState, SoFar, state_after, state_of, table_node, table_start, LedBy, IsLastLine}
 use Rattle.sas_reader.specs.declared.fault.Kind.TheVariants as kinds
 use Rattle.sas_task_file.specs.declared.places.Place.TheVariants as at
 use Rattle.sas_task_file.proofs.TaskEnds.{IsOver, over_if_ended}
@@ -93,14 +93,14 @@ module _ {K : Type 0} (keeps : List (List ℕ) → SoFar → K → Type 0) (line
   one_last a b (l, inr (p, e)) (k, inl (q, f)) = absurd (places_apart (sym q ∙ p))
   one_last a b (l, inr (p, e)) (k, inr (q, f)) = e ∙ sym f
 
-  module _ (text : List ℕ) (found : Excerpt) (kept : IsFoundOf text found) where
+  module _ (text : List ℕ) (found : Excerpt) (front : kept_bytes found ≡ take 65 text) where
     -- a short text is kept as a whole
-    whole_if : length (kept_bytes found) ≤ 63 → kept_bytes found ≡ text
-    whole_if short = kept.front ∙ take_all 64 text (omega (arith, short, ap length kept.front, length-take 64 text))
+    whole_if : length (kept_bytes found) ≤ 64 → kept_bytes found ≡ text
+    whole_if short = front ∙ take_all 65 text (omega (arith, short, ap length front, length-take 65 text))
 
     -- the last line is kept, too
     kept_if : (line : List ℕ) → IsLastLine m.judge line → without_return text ≡ line → kept_bytes found ≡ text
-    kept_if line last e = kept.front ∙ take_all 64 text (omega (arith, last_short line last, ap length e, return_length text))
+    kept_if line last e = front ∙ take_all 65 text (omega (arith, last_short line last, ap length e, return_length text))
 
     pub unended : {L : Type 0} (now : L → List ℕ) (kind : Kind) (lacks : Type 0) (last : Option L) → IfSome last (λ l. IsLastLine m.judge (now l)) → IfNone last ((line : List ℕ) → IsLastLine m.judge line → ⊥)
         → (lacks ↔ (kind ≡ kinds.End) × IsSomeAnd last (λ l. without_return (kept_bytes found) ≡ now l)) → lacks ↔ EndsUnended task_format kind lines text

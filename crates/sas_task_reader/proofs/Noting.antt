@@ -22,9 +22,10 @@ abbrev AgreesOn : Place → ℕ → ℕ → Tracker → ℕ → ℕ → Counts �
 AgreesOn p left more t k n c d =
     let u : Tracker = record t { place = p; left = left; more = more } in
     let m : Move = (row_at p u).moves in
-    count_at (after_move m n u).place (after_count m k n c) ≡ count_at (after_move m n u).place (after_count m k n d)
+    let v = after_move m n u in
+    count_at v.place (length v.ranges) (after_count m k n c) ≡ count_at v.place (length v.ranges) (after_count m k n d)
 
-here_on : (p : Place) (left more : ℕ) (t : Tracker) (k n : ℕ) (c d : Counts) → c.section ≡ d.section → count_at p c ≡ count_at p d → AgreesOn p left more t k n c d
+here_on : (p : Place) (left more : ℕ) (t : Tracker) (k n : ℕ) (c d : Counts) → c.section ≡ d.section → count_at p (length t.ranges) c ≡ count_at p (length t.ranges) d → AgreesOn p left more t k n c d
 here_on at.VariableValues left zero t k n c d e h = ap (λ (x : ListCount). Some x) e
 here_on at.VariableValues left (suc more) t k n c d e h = h
 here_on at.GroupFacts left zero t k n c d e h = ap (λ (x : ListCount). Some x) e
@@ -60,7 +61,7 @@ module _ (items : List TaskLine) (item : TaskLine) (j k : TaskJudge) (tracks : t
       let agree = here_on t.place t.left t.more t l (number_in item) j.counts (counts_behind items) noted.section noted.here in
       record {
         section = ap (λ (c : Counts). c.section) judge ∙ section_on m l (number_in item) j.counts (counts_behind items) noted.section ∙ sym (ap (λ (c : Counts). c.section) behind);
-        here = ap (count_at k.tracker.place) judge ∙ subst (λ (u : Tracker). count_at u.place a ≡ count_at u.place b) leads agree ∙ sym (ap (count_at k.tracker.place) behind);
+        here = ap (count_at k.tracker.place (length k.tracker.ranges)) judge ∙ subst (λ (u : Tracker). count_at u.place (length u.ranges) a ≡ count_at u.place (length u.ranges) b) leads agree ∙ sym (ap (count_at k.tracker.place (length k.tracker.ranges)) behind);
       }
 
 -- ---- a whole section
@@ -69,7 +70,7 @@ module _ (items : List TaskLine) (item : TaskLine) (j k : TaskJudge) (tracks : t
 abbrev pub KeepsCount : Tracker → List TaskLine → Type 0
 KeepsCount t items = (n : ℕ) (c : Counts) → (counts_after n t c items).section ≡ c.section
 
-pub noted_past : (items lines : List TaskLine) (j : TaskJudge) (next : Tracker) → track tracker_start items ≡ j.tracker → HasNoted items j → ((c : Counts) → count_at next.place c ≡ Some c.section) → KeepsCount j.tracker lines → HasNoted (items ++ lines) (record j { tracker = next })
+pub noted_past : (items lines : List TaskLine) (j : TaskJudge) (next : Tracker) → track tracker_start items ≡ j.tracker → HasNoted items j → ((c : Counts) → count_at next.place (length next.ranges) c ≡ Some c.section) → KeepsCount j.tracker lines → HasNoted (items ++ lines) (record j { tracker = next })
 noted_past items lines j next tracks noted in_section keeps =
     let behind : (counts_behind (items ++ lines)).section ≡ (counts_behind items).section =
     ap (λ (c : Counts). c.section) (after-append 1 tracker_start counts_start items lines)

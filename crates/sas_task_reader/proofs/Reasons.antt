@@ -1,5 +1,5 @@
 -- A task file is refused for the reason that its machine knows.
-use Rattle.sas_task_reader.proofs.Imports.{◌≡◌, ◌≢◌, ℕ, List, Option, None, sym, subst, ◌∙◌, Parts, Kind, Node, ended, before, Rejects, behind_line, behind_text, at_end, Mark, WrongWord, table_node, TaskLine, TaskSlot, word_slot, name_slot, number_slot, signed_slot, fact_slot, effect_slot, head_slot, HasShape, NumbersKind, no_shape, no_value, TaskKind, task_format, TaskLineFits, StandsBehind, task_behavior, TaskState, node_of_due, Due, row_in, slot_of_due, IsTaskReason, shape_of_value, SoFar, FirstWrong, TaskMachine, mark_of, due_slot, WrongWordIn, state_of, ◌↔◌, IsTrue, IfSome, IfNone, IsSomeAnd, Excerpt, IsFoundOf, kept_bytes, without_return, EndsUnended, LedBy, count_of, IsLastLine, IsCounted, HasReason, TaskRefusal}
+use Rattle.sas_task_reader.proofs.Imports.{◌≡◌, ◌≢◌, ℕ, List, Option, None, sym, subst, ◌∙◌, Parts, Kind, Node, ended, before, Rejects, behind_line, behind_text, at_end, Mark, WrongWord, table_node, TaskLine, TaskSlot, word_slot, name_slot, number_slot, signed_slot, fact_slot, effect_slot, head_slot, HasShape, NumbersKind, no_shape, no_value, TaskKind, task_format, TaskLineFits, StandsBehind, task_behavior, TaskState, node_of_due, Due, row_in, slot_of_due, IsTaskReason, shape_of_value, SoFar, FirstWrong, TaskMachine, mark_of, due_slot, WrongWordIn, state_of, ◌↔◌, IsTrue, IfSome, IfNone, IsSomeAnd, Excerpt, IsFoundOf, Kept, ap, kept_bytes, without_return, EndsUnended, LedBy, count_of, IsLastLine, IsCounted, HasReason, TaskRefusal}
 use Rattle.sas_task_reader.proofs.LastLines.{unended}
 use Rattle.sas_task_reader.proofs.RefusedLines.{count_there, task_reason, trailing_reason, led_still, ended_still, shape_still, wrong_still}
 use Rattle.sas_reader.specs.declared.fault.Kind.TheVariants as kinds
@@ -65,11 +65,11 @@ module _ {K : Type 0} (keeps : List (List ℕ) → SoFar → K → Type 0) (line
   -- the refusal has the reason, the count, and whether only a line end is missing
   pub reported : {L : Type 0} (now : L → List ℕ) (last : Option L) (found : Excerpt) (r : TaskRefusal) → r.fault.kind ≡ kind → r.mark ≡ mark → r.word ≡ word → r.count ≡ count_of m.judge
       → IfSome last (λ l. IsLastLine m.judge (now l)) → IfNone last ((line : List ℕ) → IsLastLine m.judge line → ⊥) → (IsTrue r.lacks_line_end ↔ (kind ≡ kinds.End) × IsSomeAnd last (λ l. without_return (kept_bytes found) ≡ now l))
-      → StandsBehind (task_behavior keeps) lines text kind m → IsFoundOf text found → HasReason lines text r
+      → StandsBehind (task_behavior keeps) lines text kind m → IsFoundOf kind text found → HasReason lines text r
   reported now last found r same is_mark is_word counts some none lacks stands kept =
       let led = stands_led stands in
       let why : IsTaskReason r.fault.kind lines text r.mark r.word = rw (same, is_mark, is_word) (reported_reason stands) in
-      let ends : IsTrue r.lacks_line_end ↔ EndsUnended task_format r.fault.kind lines text = rw same (unended keeps lines m led text found kept now kind (IsTrue r.lacks_line_end) last some none lacks) in
+      let ends : IsTrue r.lacks_line_end ↔ EndsUnended task_format r.fault.kind lines text = rw same (unended keeps lines m led text found (ap (λ (k : Kept). k.front) kept.kept) now kind (IsTrue r.lacks_line_end) last some none lacks) in
       record {
         reason = why;
         counted = subst (IsCounted lines) (sym counts) (count_there keeps lines m led);

@@ -1,5 +1,5 @@
 -- Why a line is refused: what the machine expects, and which number of the line is wrong.
-use Rattle.sas_task_reader.proofs.Imports.{◌≡◌, ◌≢◌, ℕ, List, [], ◌∷◌, ◌++◌, Option, None, refl, sym, ap, subst, ◌∙◌, Parts, WellRanged, Kind, IsBegun, LeadsToEnd, cut_at, after_ends, Mark, WrongWord, Place, IsDue, TaskLine, task_line_bytes, task_layout, task_format, TaskLineFits, HasShape, first_wrong, IsFirstWrong, IsTaskReason, Tracker, tracker_start, track, mark_in, TaskJudge, TaskMachine, mark_of, due_slot, WrongWordIn, table_node, table_start, state_of, HasEnded, LedBy, MachineStopped, end_mark, ranges_behind, is_due, HasFacts, speaks_behind_variables, same_items, IsBehindVariables, same_bounds, SoFar, LineValues, FirstWrong, ranges_of, first_back, IsCounted, count_of, count_at, count_after, counts_behind, is_counted}
+use Rattle.sas_task_reader.proofs.Imports.{◌≡◌, ◌≢◌, ℕ, List, [], ◌∷◌, ◌++◌, Option, None, refl, sym, ap, subst, ◌∙◌, Parts, WellRanged, Kind, IsBegun, LeadsToEnd, cut_at, after_ends, Mark, WrongWord, Place, IsDue, TaskLine, task_line_bytes, task_layout, task_format, TaskLineFits, HasShape, first_wrong, IsFirstWrong, IsTaskReason, Tracker, tracker_start, track, mark_in, TaskJudge, TaskMachine, mark_of, due_slot, WrongWordIn, table_node, table_start, state_of, HasEnded, LedBy, MachineStopped, end_mark, ranges_behind, is_due, HasFacts, speaks_behind_variables, same_items, IsBehindVariables, same_bounds, SoFar, LineValues, FirstWrong, ranges_of, first_back, IsCounted, count_of, count_at, count_after, counts_behind, is_counted, length}
 use Rattle.sas_reader.specs.declared.fault.Kind.TheVariants as kinds
 use Rattle.sas_task_file.specs.declared.places.Place.TheVariants as at
 use Rattle.sas_task_file.proofs.TaskEnds.{over_if_ended}
@@ -39,7 +39,7 @@ module _ {K : Type 0} (keeps : List (List ℕ) → SoFar → K → Type 0) (line
       let x = state_of m.judge h.so_far in
       let f = task_grammar.fillable h.leads.items x h.leads.after in
       let s = task_grammar.sound (h.leads.items ++ f.0) f.1 (after_ends task_format TaskLineFits table_node table_start x f.1 h.leads.items f.0 h.leads.after f.2) in
-      let same : count_after h.leads.items ≡ count_of m.judge = ap (λ (t : Tracker). count_at t.place (counts_behind h.leads.items)) followed ∙ sym h.counts.here in
+      let same : count_after h.leads.items ≡ count_of m.judge = ap (λ (t : Tracker). count_at t.place (length t.ranges) (counts_behind h.leads.items)) followed ∙ sym h.counts.here in
       subst (IsCounted lines) same (is_counted f.1 s.0 lines h.leads.items f.0 h.leads.spells (sym s.1))
 
   module _ (going_on : HasEnded m.judge → ⊥) where

@@ -1,6 +1,7 @@
 -- The lines of a variable, a mutex group, an operator or a rule lead through this part of a task.
 use Rattle.sas_task_reader.proofs.Imports.{◌≡◌, ℕ, zero, suc, ◌<◌, ◌-◌, Bool, List, [], ◌∷◌, ◌++◌, length, refl, sym, ap, subst, ◌∙◌, append_assoc, arith, IsTrue, codes, AllByRecursion, flat_map, list_all, and_parts, IsName, Fact, Variable, Operator, Effect, TaskLine, word, name, number, fact, effect, head, single_line, variable_lines, group_lines, operator_lines, rule_lines, TaskLineFits, Due, Place, Tracker, SoFar, TaskState, HasNames, OperatorInRanges, fact_in_ranges, effect_in_ranges, change_in_ranges, behind_variable, behind_group, behind_operator, behind_rule, past_section, Some, None}
 use Rattle.sas_task_file.specs.declared.places.Place.TheVariants as at
+use Rattle.sas_task_file.specs.declared.marks.What.TheVariants as what
 use Rattle.sas_task_file.specs.declared.marks.Due.TheVariants as due
 use Rattle.sas_task_file.proofs.Stretches.{LeadsOn, Allowed, one_less}
 use Rattle.sas_task_file.proofs.Blocks.{state_at, FactsAllowed, VariableAllowed, OperatorAllowed, variable_block, group_block, operator_block, rule_block}
@@ -27,7 +28,7 @@ module _ (ranges : List ℕ) where
       let t = tested ranges due.Fact fact (fact_in_ranges ranges) (λ f h g. record { slot = refl; fits = h; good = g }) facts rest fits.1 good in
       ((any_allowed ranges (length facts) fits.0, t.0), t.1)
 
-  named : (w : List ℕ) → IsName w → Allowed ranges due.Name (name w)
+  named : (w : List ℕ) → IsName w → Allowed ranges (due.Name what.Value) (name w)
   named w h = record { slot = refl; fits = tt; good = h }
 
 -- ---- the sections
@@ -50,7 +51,7 @@ pub variable_on : (t : Tracker) (s : SoFar) (v : Variable) → t.place ≡ at.Va
     → LeadsOn (record { tracker = t; so_far = s }) (variable_lines v) (record { tracker = past_section (Some (length v.values)) t; so_far = behind_variable s v })
 variable_on t s v here left good fits =
     let layer = fits.1.1 in
-    let names = all_map IsName (λ w. Allowed t.ranges due.Name (name w)) (named t.ranges) v.values good.values in
+    let names = all_map IsName (λ w. Allowed t.ranges (due.Name what.Value) (name w)) (named t.ranges) v.values good.values in
     let allowed : VariableAllowed t.ranges v = (named t.ranges v.name good.name, (record { slot = refl; fits = layer.0; good = refl }, (positive_allowed t.ranges (length v.values) good.some layer.1.0, names))) in
     from_place t s (behind_variable s v) at.Variables (t.ranges ++ length v.values ∷ []) (variable_lines v) here left ((variable_block (t.left - 1) t.more t s).complete v allowed)
 

@@ -1,5 +1,5 @@
 -- The location of the next line, and what is expected there.
-use Rattle.std.specs.Prelude.{◌≡◌, ◌≢◌, ◌⊎◌, ℕ, List, Option, None, codes}
+use Rattle.std.specs.Prelude.{◌≡◌, ◌≢◌, ◌⊎◌, ℕ, List, Option, None, codes, length}
 use Rattle.sas_task_file.specs.declared.marks.Mark.{Mark}
 use Rattle.sas_task_file.specs.Tracker.{mark_in, count_at}
 use Rattle.sas_task_file.specs.declared.counts.ListCount.{ListCount}
@@ -22,7 +22,7 @@ due_slot j = slot_of_due (mark_of j).due
 
 -- the count of the list whose next item is expected, or whose last item is directly before
 abbrev pub count_of : TaskJudge → Option ListCount
-count_of j = count_at j.tracker.place j.counts
+count_of j = count_at j.tracker.place (length j.tracker.ranges) j.counts
 
 -- after this line all lines have been read: it is the number of rules, or the end of the last rule
 abbrev pub IsLastLine : TaskJudge → List ℕ → Type 0

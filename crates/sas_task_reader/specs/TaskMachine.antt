@@ -1,6 +1,6 @@
 -- What the machine of task files represents: the lines so far, their content, and what is stored of
 -- it.
-use Rattle.std.specs.Prelude.{◌≡◌, ℕ, List, []}
+use Rattle.std.specs.Prelude.{◌≡◌, ℕ, List, [], length}
 use Rattle.std.specs.Global.{Global}
 use Rattle.sas_reader.specs.declared.fault.Kind.{Kind}
 use Rattle.sas_task_file.specs.declared.so_far.SoFar.{SoFar}
@@ -23,7 +23,8 @@ counts_behind items = counts_after 1 tracker_start counts_start items
 -- the judge has noted the counts after these lines, as far as they still apply
 pub record HasNoted (items : List TaskLine) (j : TaskJudge) : Type 0 where
   pub section : j.counts.section ≡ (counts_behind items).section
-  pub here : count_of j ≡ count_at j.tracker.place (counts_behind items)
+  pub here : count_of j ≡ count_at j.tracker.place (length j.tracker.ranges)
+      (counts_behind items)
 
 -- after refusing a line, the machine is unchanged and knows the wrong word of the line
 pub record MachineStopped {K : Type 0} (m : TaskMachine K) (line : List ℕ) (kind : Kind)

@@ -12,7 +12,7 @@ use sas_reader::{Excerpt, Fault, Kind, Refusal};
 use sas_task_file::{ListCount, Mark, WrongWord};
 
 /// Why a task file is refused: its first fault, the location of the fault and what was expected there, the first wrong word of the line, if
-/// any, the count of the list whose item was expected there or whose last item is directly before, if any, the text that was found, and
+/// any, the count of the list whose item was expected there or whose last item is directly before, if any, what is kept of the text there, and
 /// whether only the last line end is missing.
 #[derive(Clone, Copy)]
 pub struct TaskRefusal {
@@ -54,7 +54,7 @@ impl TaskRefusal {
         ensures found { result.found ≡ refused.found }
         ensures reason { (accepted : List (List ℕ)) (text : List ℕ)
             → StandsBehind (task_behavior K.keeps) accepted text refused.fault.kind refused.machine
-            → IsFoundOf text refused.found
+            → IsFoundOf refused.fault.kind text refused.found
             → HasReason accepted text result }
     {
         let Refusal {

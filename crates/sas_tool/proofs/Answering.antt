@@ -1,74 +1,26 @@
 -- What the program does at a call.
-use Rattle.std.proofs.Common.{◌≡◌, ◌∙◌, ◌≢◌, ◌++◌, inl, inr, ℕ, Bool, true, false, true≢false, cond, refl, sym, ap, subst, subst₂, arith, List, [], ◌∷◌, bytes_eq, codes, Option, Some, None, Result, Ok, Err}
+use Rattle.std.proofs.Common.{◌≡◌, ◌≢◌, ◌++◌, ◌<◌, inl, inr, ℕ, Bool, true, false, cond, refl, sym, ap, subst, subst₂, arith, List, [], ◌∷◌, bytes_eq, codes, Option, Some, None, Result, Ok, Err, IfOk}
 use Rattle.std.proofs.lemmas.Slice.Eq.{bytes_eq-Decides}
 use Rattle.std.specs.Result.{IsOkAnd}
 use Rattle.std.specs.String.{string_bytes}
 use Rattle.sas_answers.specs.declared.ending.ToolFault.TheVariants.{Memory, Read, TooLong, Write}
-use Rattle.sas_requests.specs.declared.Request.{Request}
-use Rattle.sas_requests.specs.declared.Request.TheVariants as request
 use Rattle.sas_requests.specs.declared.question.Question.{Question}
-use Rattle.sas_requests.specs.declared.question.Question.TheVariants.{Answer, Explanation, Trace}
 use Rattle.sas_words.specs.declared.calls.WordsFault.{WordsFault}
 use Rattle.sas_words.specs.declared.calls.WordsFault.TheVariants as fault
-use Rattle.sas_tool.specs.Does.{Does, IsLast, Reports, words_held}
+use Rattle.sas_tool.specs.Does.{Does, IsLast, IsUnanswered, Reports, words_held}
 use Rattle.sas_words.specs.Grammar.{plan_words, task_words}
 use Rattle.sas_tool.specs.Endings.{error_text, status_of}
 use Rattle.sas_tool.specs.Files.{source_held}
 use Rattle.sas_tool.specs.Held.{Held, held_if_known}
-use Rattle.sas_tool.specs.Jobs.{Asks, IsRefusedFor}
-use Rattle.sas_tool.specs.Sources.{IsSource, asks_why, question_name, request_name}
+use Rattle.sas_tool.specs.Jobs.{IsRefusedFor}
+use Rattle.sas_tool.specs.Sources.{IsSource}
 use Rattle.sas_tool.specs.Runs.{IsLastOf, Ran}
 use Rattle.sas_tool.specs.Says.{Says}
-use Rattle.sas_tool.specs.declared.arguments.Job.TheVariants.{Files}
 use Rattle.sas_tool.specs.declared.arguments.Source.{Source}
 use Rattle.sas_tool.specs.declared.arguments.Source.TheVariants.{File, Input}
 use Rattle.sas_tool.specs.declared.endings.Ended.{Ended}
 use Rattle.sas_tool.specs.declared.endings.Ended.TheVariants as ended
-use Rattle.sas_tool.proofs.Running.{says_none}
-
--- ---- questions, by their names
-
-abbrev request_named : List ℕ → Request
-request_named name = cond (bytes_eq name (codes "plan")) request.Plan (cond (bytes_eq name (codes "mutex")) request.Mutex
-    (cond (bytes_eq name (codes "show")) request.Show (cond (bytes_eq name (codes "check")) request.Check
-    (cond (bytes_eq name (codes "print")) request.Print request.Steps))))
-
-abbrev question_named : List ℕ → Bool → Question
-question_named name why = cond (bytes_eq name (codes "trace")) Trace (cond why (Explanation (request_named name)) (Answer (request_named name)))
-
-same_named : (q : Question) → question_named (question_name q) (asks_why q) ≡ q
-same_named (Answer request.Plan) = refl
-same_named (Answer request.Mutex) = refl
-same_named (Answer request.Show) = refl
-same_named (Answer request.Check) = refl
-same_named (Answer request.Print) = refl
-same_named (Answer request.Steps) = refl
-same_named (Explanation request.Plan) = refl
-same_named (Explanation request.Mutex) = refl
-same_named (Explanation request.Show) = refl
-same_named (Explanation request.Check) = refl
-same_named (Explanation request.Print) = refl
-same_named (Explanation request.Steps) = refl
-same_named Trace = refl
-
-pub same_question : (q r : Question) → question_name q ≡ question_name r → asks_why q ≡ asks_why r → q ≡ r
-same_question q r name why = sym (same_named q) ∙ ap (λ n. question_named n (asks_why q)) name ∙ ap (question_named (question_name r)) why ∙ same_named r
-
-not_many : (r : Request) → bytes_eq (request_name r) (codes "plans") ≡ false
-not_many request.Plan = refl
-not_many request.Mutex = refl
-not_many request.Show = refl
-not_many request.Check = refl
-not_many request.Print = refl
-not_many request.Steps = refl
-
-not_plans : (q : Question) → bytes_eq (question_name q) (codes "plans") ≡ false
-not_plans (Answer r) = not_many r
-not_plans (Explanation r) = not_many r
-not_plans Trace = refl
-
-pub no_plans : (q : Question) → codes "plans" ≡ question_name q → ⊥
-no_plans q e = true≢false (sym ((bytes_eq-Decides (question_name q) (codes "plans")).1 (sym e)) ∙ not_plans q)
+use Rattle.sas_tool.proofs.Running.{none_said, says_none}
 
 -- ---- sources, by their words
 
@@ -106,6 +58,7 @@ no_memory question task plan old Same same = record {
   no_task = λ e. (inr (inl refl), same);
   no_plan = λ b et ep. (inr (inl refl), same);
   says = λ about b c before et ep ew. says_none b c _ 3 (omega arith);
+  invariants = λ about b before et ew less. none_said _ 3 (omega arith) less;
 }
 
 pub refused_does : (question : Question) (held : List (List ℕ) → Held) (task plan files : List (List ℕ)) (old : Option (List ℕ)) (Same : Type 0) (Put : List ℕ → Type 0)
@@ -116,7 +69,7 @@ refused_does question held task plan files old Same Put (Ok status) fault.Memory
   ran = no_memory question (held task) (held plan) old Same same;
   whose = tt;
   ends = reports.0;
-  put = put_memory (asks_why question) reports.1;
+  put = put_memory question.detail.reasons reports.1;
 }
   where
     put_memory : (why : Bool) → Put (codes "sas: out of memory" ++ codes "\n") → Put (error_text (ended.Answered (Err Memory)) why None)
@@ -136,22 +89,47 @@ refused_says b c Sent files Put (Err e) fault.InputTwice refused reports = absur
 refused_says b c Sent files Put result (fault.Refused error) refused reports = absurd refused
 refused_says b c Sent files Put result (fault.Version error) refused reports = absurd refused
 
+-- two files that are standard input
+pub refused_twice : (files : List (List ℕ)) (Put : List ℕ → Type 0) (result : Result ℕ WordsFault) (f : WordsFault) → IsRefusedFor files f → Reports Put result f → IsOkAnd result (IsUnanswered Put)
+refused_twice files Put (Ok status) fault.Memory refused reports = inl reports
+refused_twice files Put (Err e) fault.Memory refused reports = absurd reports
+refused_twice files Put (Ok status) fault.InputTwice refused reports = inr reports
+refused_twice files Put (Err e) fault.InputTwice refused reports = absurd reports
+refused_twice files Put result (fault.Refused error) refused reports = absurd refused
+refused_twice files Put result (fault.Version error) refused reports = absurd refused
+
+-- groups
+pub refused_groups : (P : Type 0) (files : List (List ℕ)) (Put : List ℕ → Type 0) (result : Result ℕ WordsFault) (f : WordsFault) → IsRefusedFor files f → Reports Put result f → IsOkAnd result (λ status. status < 2 → P)
+refused_groups P files Put (Ok status) fault.Memory refused reports = λ less. none_said P status (omega (arith, reports.0)) less
+refused_groups P files Put (Err e) fault.Memory refused reports = absurd reports
+refused_groups P files Put (Ok status) fault.InputTwice refused reports = λ less. none_said P status (omega (arith, reports.0)) less
+refused_groups P files Put (Err e) fault.InputTwice refused reports = absurd reports
+refused_groups P files Put result (fault.Refused error) refused reports = absurd refused
+refused_groups P files Put result (fault.Version error) refused reports = absurd refused
+
+-- and words that are no call
+pub refused_words : (Put : List ℕ → Type 0) (result : Result ℕ WordsFault) (f : WordsFault) → Reports Put result f → IfOk result (λ status. 1 < status)
+refused_words Put (Ok status) fault.Memory reports = omega (arith, reports.0)
+refused_words Put (Ok status) fault.InputTwice reports = omega (arith, reports.0)
+refused_words Put (Ok status) (fault.Refused error) reports = absurd reports
+refused_words Put (Ok status) (fault.Version error) reports = absurd reports
+refused_words Put (Err e) f reports = tt
+
 -- ---- calls over files
 
-pub files_do : (held : List ℕ → Held) (input : Option (List ℕ)) (q question : Question) (task plan : Option Source) (files : List (List ℕ)) (old new : Option (List ℕ)) (Same : Type 0)
-    (Put : List ℕ → Type 0) (end : Ended) (last : Option Source) (why : Bool) (status : ℕ) → Asks (question_name question) (asks_why question) files (Files q task plan)
-    → Ran q (source_held held input task) (source_held held input plan) old new Same end → IsLastOf task plan end last → status ≡ status_of end → why ≡ asks_why q → Put (error_text end why last)
-    → Does question (words_held held input) (task_words (question_name question) files) (plan_words (question_name question) files) old new Same Put status
-files_do held input q question task plan files old new Same Put end last why status asks ran whose ends is_why put =
-    let same = same_question q question asks.0 asks.1 in
-    let tw = task_words (question_name question) files in
-    let pw = plan_words (question_name question) files in
+pub files_do : (held : List ℕ → Held) (input : Option (List ℕ)) (q question : Question) (name : List ℕ) (task plan : Option Source) (files : List (List ℕ)) (old new : Option (List ℕ)) (Same : Type 0)
+    (Put : List ℕ → Type 0) (end : Ended) (last : Option Source) (status : ℕ) → q ≡ question → IsSource (task_words name files) task → IsSource (plan_words name files) plan
+    → Ran q (source_held held input task) (source_held held input plan) old new Same end → IsLastOf task plan end last → status ≡ status_of end → Put (error_text end q.detail.reasons last)
+    → Does question (words_held held input) (task_words name files) (plan_words name files) old new Same Put status
+files_do held input q question name task plan files old new Same Put end last status same is_task is_plan ran whose ends put =
+    let tw = task_words name files in
+    let pw = plan_words name files in
     record {
       end = end;
       last = last;
       ran = subst (λ r. Ran r (words_held held input tw) (words_held held input pw) old new Same end) same
-          (subst₂ (λ t p. Ran q t p old new Same end) (held_same held input tw task asks.2) (held_same held input pw plan asks.3) ran);
-      whose = last_is tw pw task plan end last asks.2 asks.3 whose;
+          (subst₂ (λ t p. Ran q t p old new Same end) (held_same held input tw task is_task) (held_same held input pw plan is_plan) ran);
+      whose = last_is tw pw task plan end last is_task is_plan whose;
       ends = ends;
-      put = subst (λ b. Put (error_text end b last)) (is_why ∙ ap asks_why same) put;
+      put = subst (λ (r : Question). Put (error_text end r.detail.reasons last)) same put;
     }

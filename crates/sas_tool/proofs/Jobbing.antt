@@ -1,7 +1,7 @@
 -- Which job a call asks for.
-use Rattle.std.proofs.Common.{◌≡◌, ◌∙◌, ◌<◌, ℕ, Bool, true, false, true≢false, cond, refl, sym, ap, subst, subst₂, arith, inl, inr, List, [], ◌∷◌, length, drop, take, bytes_eq, codes, Option, Some, None, Result, Ok, Err, IfOk, MatchResult, is_some, unwrap_or}
+use Rattle.std.proofs.lemmas.Option.{none-some, same_Some}
+use Rattle.std.proofs.Common.{◌≡◌, ◌∙◌, ◌<◌, ℕ, Bool, true, false, cond, refl, sym, ap, subst, arith, inl, inr, List, [], ◌∷◌, length, drop, take, bytes_eq, codes, Option, Some, None, Result, Ok, Err, IfOk, MatchResult}
 use Rattle.sas_requests.specs.declared.question.Question.{Question}
-use Rattle.sas_requests.specs.declared.question.Question.TheVariants.{Trace}
 use Rattle.sas_words.specs.Calls.{IsMemory, name_of}
 use Rattle.sas_words.specs.Grammar.{plan_words, task_words}
 use Rattle.sas_words.specs.Usage.{AreTwo, IsAccepted, IsOne}
@@ -9,10 +9,12 @@ use Rattle.sas_words.specs.declared.calls.Named.{Named}
 use Rattle.sas_words.specs.declared.calls.Named.TheVariants as named
 use Rattle.sas_words.specs.declared.calls.WordsFault.{WordsFault}
 use Rattle.sas_words.specs.declared.calls.WordsFault.TheVariants as fault
-use Rattle.sas_tool.specs.Jobs.{Asks, IsAsked, IsInputTwice, IsRefusedFor}
-use Rattle.sas_tool.specs.Sources.{IsSource, asks_why, question_name}
+use Rattle.sas_tool.specs.Jobs.{Asks, IsInputTwice, IsQuestion, IsRefusedFor, asked}
+use Rattle.sas_tool.specs.Sources.{IsSource}
 use Rattle.sas_tool.specs.declared.arguments.Job.{Job}
 use Rattle.sas_tool.specs.declared.arguments.Job.TheVariants.{Files, Plans}
+use Rattle.sas_tool.specs.declared.arguments.Source.{Source}
+use Rattle.sas_tool.specs.declared.arguments.Source.TheVariants.{File, Input}
 
 abbrev named_of : List ℕ → Named
 named_of name = cond (bytes_eq name (codes "plan")) named.Plan (cond (bytes_eq name (codes "plans")) named.Plans
@@ -36,7 +38,6 @@ Few name files = length (plan_words name files) < 2
 
 abbrev Fits : Named → Bool → List (List ℕ) → Type 0
 Fits named.Plans why files = why ≡ false
-Fits named.Trace why files = (why ≡ false) × Few (codes "trace") files
 Fits n why files = Few (name_of n) files
 
 two : (files : List (List ℕ)) → AreTwo files → length (drop 1 files) < 2
@@ -57,52 +58,64 @@ fits n name why files e accepted = go accepted
     go : IsAccepted name why files → Fits n why files
     go (inl a) = subst (λ m. Fits m why files) (is named.Plan a.0) (two files a.1)
     go (inr (inl a)) = subst (λ m. Fits m why files) (is named.Plans a.0) a.1
-    go (inr (inr (inl a))) = subst (λ m. Fits m why files) (is named.Trace a.0) (a.1, two files a.2)
+    go (inr (inr (inl a))) = subst (λ m. Fits m why files) (is named.Trace a.0) (two files a.1)
     go (inr (inr (inr (inl a)))) = subst (λ m. Fits m why files) (is named.Mutex a.0) (one files a.1)
     go (inr (inr (inr (inr (inl a))))) = subst (λ m. Fits m why files) (is named.Show a.0) (one files a.1)
     go (inr (inr (inr (inr (inr (inl a)))))) = subst (λ m. Fits m why files) (is named.Check a.0) (one files a.1)
     go (inr (inr (inr (inr (inr (inr (inl a))))))) = subst (λ m. Fits m why files) (is named.Print a.0) (one files a.1)
     go (inr (inr (inr (inr (inr (inr (inr a))))))) = subst (λ m. Fits m why files) (is named.Steps a.0) (alone files a.1)
 
-abbrev IsQuestion : Named → Bool → List (List ℕ) → Question → Type 0
-IsQuestion n why files q = (question_name q ≡ name_of n) × (asks_why q ≡ why) × Few (name_of n) files
-
-question_is : (n : Named) (why : Bool) (files : List (List ℕ)) (q : Question) → Fits n why files → IsAsked n why (Some q) → IsQuestion n why files q
-question_is named.Plan why files q few is = (is.0, is.1, few)
-question_is named.Plans why files q few is = absurd (true≢false (ap is_some is))
-question_is named.Trace why files q few is = subst (IsQuestion named.Trace why files) (sym (ap (λ o. unwrap_or o Trace) is)) (refl, sym few.0, few.1)
-question_is named.Mutex why files q few is = (is.0, is.1, few)
-question_is named.Show why files q few is = (is.0, is.1, few)
-question_is named.Check why files q few is = (is.0, is.1, few)
-question_is named.Print why files q few is = (is.0, is.1, few)
-question_is named.Steps why files q few is = (is.0, is.1, few)
+few_of : (n : Named) (why : Bool) (files : List (List ℕ)) (q : Question) → Fits n why files → asked n why ≡ Some q → Few (name_of n) files
+few_of named.Plans why files q few is = absurd (none-some q is)
+few_of named.Plan why files q few is = few
+few_of named.Trace why files q few is = few
+few_of named.Mutex why files q few is = few
+few_of named.Show why files q few is = few
+few_of named.Check why files q few is = few
+few_of named.Print why files q few is = few
+few_of named.Steps why files q few is = few
 
 -- of a call without a question: it is `plans`
 abbrev IsMany : Named → Bool → Type 0
 IsMany n why = (codes "plans" ≡ name_of n) × (why ≡ false)
 
-many_is : (n : Named) (why : Bool) (files : List (List ℕ)) → Fits n why files → IsAsked n why None → IsMany n why
-many_is named.Plan why files few is = absurd is
-many_is named.Plans why files few is = (refl, few)
-many_is named.Trace why files few is = absurd (true≢false (ap is_some (sym is)))
-many_is named.Mutex why files few is = absurd is
-many_is named.Show why files few is = absurd is
-many_is named.Check why files few is = absurd is
-many_is named.Print why files few is = absurd is
-many_is named.Steps why files few is = absurd is
+many_of : (n : Named) (why : Bool) (files : List (List ℕ)) → Fits n why files → None ≡ asked n why → IsMany n why
+many_of named.Plans why files few is = (refl, few)
+many_of named.Plan why files few is = absurd (none-some _ is)
+many_of named.Trace why files few is = absurd (none-some _ is)
+many_of named.Mutex why files few is = absurd (none-some _ is)
+many_of named.Show why files few is = absurd (none-some _ is)
+many_of named.Check why files few is = absurd (none-some _ is)
+many_of named.Print why files few is = absurd (none-some _ is)
+many_of named.Steps why files few is = absurd (none-some _ is)
 
 -- the same, by the name
-pub asks_files : (n : Named) (asked : Bool) (o : Option Question) (q : Question) (name : List ℕ) (why : Bool) (files : List (List ℕ)) → IsAsked n asked o → Some q ≡ o
-    → name_of n ≡ name → asked ≡ why → IsAccepted name why files → (question_name q ≡ name) × (asks_why q ≡ why) × Few name files
-asks_files n asked o q name why files is found e flag accepted =
-    let its = question_is n why files q (fits n name why files e accepted) (subst₂ (λ b p. IsAsked n b p) flag (sym found) is) in
-    (its.0 ∙ e, its.1, subst (λ m. Few m files) e its.2)
+pub asks_files : (n : Named) (flag why : Bool) (q : Question) (name : List ℕ) (files : List (List ℕ)) → Some q ≡ asked n flag
+    → name_of n ≡ name → flag ≡ why → IsAccepted name why files → IsQuestion name why q × Few name files
+asks_files n flag why q name files is e same accepted =
+    let its : asked n why ≡ Some q = ap (asked n) (sym same) ∙ sym is in
+    ((n, e, its), subst (λ m. Few m files) e (few_of n why files q (fits n name why files e accepted) its))
 
-pub asks_many : (n : Named) (asked : Bool) (o : Option Question) (name : List ℕ) (why : Bool) (files : List (List ℕ)) → IsAsked n asked o → None ≡ o
-    → name_of n ≡ name → asked ≡ why → IsAccepted name why files → (codes "plans" ≡ name) × (why ≡ false)
-asks_many n asked o name why files is found e flag accepted =
-    let its = many_is n why files (fits n name why files e accepted) (subst₂ (λ b p. IsAsked n b p) flag (sym found) is) in
+pub asks_many : (n : Named) (flag why : Bool) (name : List ℕ) (files : List (List ℕ)) → None ≡ asked n flag
+    → name_of n ≡ name → flag ≡ why → IsAccepted name why files → (codes "plans" ≡ name) × (why ≡ false)
+asks_many n flag why name files is e same accepted =
+    let its = many_of n why files (fits n name why files e accepted) (is ∙ ap (asked n) same) in
     (its.0 ∙ e, its.1)
+
+-- a name asks one question
+pub same_question : (n : Named) (why : Bool) (q r : Question) → asked n why ≡ Some q → IsQuestion (name_of n) why r → r ≡ q
+same_question n why q r is (m, name, its) =
+    let same : m ≡ n = sym (same_named m) ∙ ap named_of name ∙ same_named n in
+    same_Some r q (sym its ∙ ap (λ k. asked k why) same ∙ is)
+
+-- and `plans` none
+pub no_question : (n : Named) (why : Bool) (q : Question) → asked n why ≡ Some q → codes "plans" ≡ name_of n → ⊥
+no_question n why q is name =
+    let same : n ≡ named.Plans = sym (same_named n) ∙ ap named_of (sym name) in
+    none-some q (sym (ap (λ k. asked k why) same) ∙ is)
+
+pub no_plans : (why : Bool) (q : Question) → IsQuestion (codes "plans") why q → ⊥
+no_plans why q (n, name, is) = no_question n why q is (sym name)
 
 -- ---- two files that are standard input
 
@@ -117,7 +130,7 @@ joined false (x ∷ xs) task plan = ap (λ l. x ∷ l) plan ∙ ap (λ y. y ∷ 
 
 both_input : (name : List ℕ) (why : Bool) (files : List (List ℕ)) (job : Job) → Asks name why files job → IsInputTwice job → files ≡ codes "-" ∷ codes "-" ∷ []
 both_input name why files (Files question task plan) asks twice = joined (bytes_eq name (codes "steps")) files
-    (subst (IsSource (task_words name files)) twice.0 asks.2) (subst (IsSource (plan_words name files)) twice.1 asks.3)
+    (subst (IsSource (task_words name files)) twice.0 asks.1) (subst (IsSource (plan_words name files)) twice.1 asks.2)
 both_input name why files (Plans task labels) asks twice = absurd twice
 
 pub checked : (name : List ℕ) (why : Bool) (files : List (List ℕ)) (job : Job) (result : Result Job WordsFault) → Asks name why files job
@@ -140,3 +153,19 @@ memory_refused files fault.Memory is = tt
 memory_refused files fault.InputTwice is = absurd is
 memory_refused files (fault.Refused error) is = absurd is
 memory_refused files (fault.Version error) is = absurd is
+
+-- a job isn't over two files that are standard input
+pub never_twice : (n : Named) (why : Bool) (q : Question) (job : Job) → asked n why ≡ Some q → Asks (name_of n) why (codes "-" ∷ codes "-" ∷ []) job → (IsInputTwice job → ⊥) → ⊥
+never_twice n why q (Plans task labels) is asks once = no_question n why q is asks.0
+never_twice n why q (Files question task plan) is asks once = go (bytes_eq (name_of n) (codes "steps")) task plan asks.1 asks.2 once
+  where
+    named_input : (source : Option Source) → IsSource (codes "-" ∷ []) source → source ≡ Some Input
+    named_input None is = absurd (omega (arith, ap length is))
+    named_input (Some Input) is = refl
+    named_input (Some (File name)) is = absurd (is.1 (sym (ap head is.0)))
+
+    go : (b : Bool) (task plan : Option Source) → IsSource (cond b [] (codes "-" ∷ [])) task → IsSource (cond b (codes "-" ∷ codes "-" ∷ []) (codes "-" ∷ [])) plan → (IsInputTwice (Files question task plan) → ⊥) → ⊥
+    go false task plan is_task is_plan once = once (named_input task is_task, named_input plan is_plan)
+    go true task None is_task is_plan once = omega (arith, ap length is_plan)
+    go true task (Some Input) is_task is_plan once = omega (arith, ap length is_plan)
+    go true task (Some (File name)) is_task is_plan once = omega (arith, ap length is_plan.0)

@@ -1,17 +1,11 @@
 -- How a run over files ends.
 use Rattle.std.proofs.Common.{◌≡◌, ◌<◌, ℕ, List, Bool, true, false, true≢false, Option, Some, None, Result, Ok, Err, IfOk, is_some, refl, sym, ap, subst, arith}
-use Rattle.sas_answers.specs.Ending.{Ends, EndsCounting, Output}
 use Rattle.sas_answers.specs.declared.ending.Status.{Status}
 use Rattle.sas_answers.specs.declared.ending.Status.TheVariants.{Yes, No}
 use Rattle.sas_answers.specs.declared.ending.ToolFault.{ToolFault}
-use Rattle.sas_answers.specs.declared.ending.ToolFault.TheVariants.{Memory, Read, TooLong, Write}
 use Rattle.sas_requests.specs.Headline.{Headline}
-use Rattle.sas_requests.specs.declared.Request.{Request}
-use Rattle.sas_requests.specs.declared.Request.TheVariants as request
-use Rattle.sas_requests.specs.declared.question.Question.TheVariants.{Answer, Explanation}
 use Rattle.sas_tool.specs.Files.{Opens}
 use Rattle.sas_tool.specs.Held.{Held, absent, holds}
-use Rattle.sas_tool.specs.Runs.{IsAboutPlan}
 use Rattle.sas_tool.specs.Says.{Says}
 use Rattle.sas_tool.specs.Statuses.{exit_status}
 
@@ -24,34 +18,14 @@ left_is left h f b opens is = subst (λ k. Opens left k (Some f)) is opens
 pub not_held : {F : Type 0} (left : F → Option (List ℕ)) (h : Held) (b : List ℕ) → Opens left h None → h ≡ holds b → ⊥
 not_held left h b opens is = subst (λ k. Opens left k None) is opens
 
-pub exact : (Out : Option Output → Type 0) (Sent : List ℕ → Type 0) (result : Result Status ToolFault) → Ends Out Sent result → EndsCounting Out Sent result
-exact Out Sent (Ok status) e = e
-exact Out Sent (Err (Write written)) e = (written, λ small. refl, e)
-exact Out Sent (Err TooLong) e = e
-exact Out Sent (Err Memory) e = tt
-exact Out Sent (Err Read) e = tt
-
-pub asked_plan : (r : Request) → IsAboutPlan (Answer r) → r ≡ request.Plan
-asked_plan request.Plan about = refl
-asked_plan request.Mutex about = absurd about
-asked_plan request.Show about = absurd about
-asked_plan request.Check about = absurd about
-asked_plan request.Print about = absurd about
-asked_plan request.Steps about = absurd about
-
-pub explained_plan : (r : Request) → IsAboutPlan (Explanation r) → r ≡ request.Plan
-explained_plan request.Plan about = refl
-explained_plan request.Mutex about = absurd about
-explained_plan request.Show about = absurd about
-explained_plan request.Check about = absurd about
-explained_plan request.Print about = absurd about
-explained_plan request.Steps about = absurd about
-
 abbrev is_yes : Status → Bool
 is_yes Yes = true
 is_yes No = false
 
 -- a status above 1 says nothing
+pub none_said : (P : Type 0) (status : ℕ) → 1 < status → status < 2 → P
+none_said P status more less = absurd (omega (arith, more, less))
+
 pub says_none : (b c : List ℕ) (Sent : List ℕ → Type 0) (status : ℕ) → 1 < status → Says b c Sent status
 says_none b c Sent status more = record {
   yes = λ e. absurd (omega (arith, e, more));
@@ -73,3 +47,9 @@ says_of b c Sent (Ok No) h = record {
   line = λ e. h.line;
 }
 says_of b c Sent (Err fault) h = says_none b c Sent 3 (omega arith)
+
+-- of groups
+pub invariants_said : (P : Type 0) (result : Result Status ToolFault) → IfOk result (λ status. P) → exit_status result < 2 → P
+invariants_said P (Ok Yes) h less = h
+invariants_said P (Ok No) h less = h
+invariants_said P (Err fault) h less = none_said P 3 (omega arith) less

@@ -1,5 +1,5 @@
 -- What the program does at a call over a task, a plan or both.
-use Rattle.std.specs.Prelude.{◌≡◌, ◌⊎◌, ◌++◌, ⊤, ℕ, List, [], ◌∷◌, codes, Option, Result, Err}
+use Rattle.std.specs.Prelude.{◌≡◌, ◌⊎◌, ◌++◌, ⊤, ℕ, List, [], ◌∷◌, codes, Option, Result, Err, IfOk}
 use Rattle.std.specs.Result.{IsOkAnd}
 use Rattle.sas_answers.specs.declared.ending.ToolFault.TheVariants.{Read, TooLong}
 use Rattle.sas_words.specs.declared.calls.WordsFault.{WordsFault}
@@ -7,7 +7,7 @@ use Rattle.sas_words.specs.declared.calls.WordsFault.TheVariants as fault
 use Rattle.sas_requests.specs.declared.question.Question.{Question}
 use Rattle.sas_tool.specs.Endings.{error_text, status_of}
 use Rattle.sas_tool.specs.Held.{Held, holds, word_held}
-use Rattle.sas_tool.specs.Sources.{IsSource, asks_why}
+use Rattle.sas_tool.specs.Sources.{IsSource}
 use Rattle.sas_tool.specs.Runs.{Ran}
 use Rattle.sas_tool.specs.declared.arguments.Source.{Source}
 use Rattle.sas_tool.specs.declared.endings.Ended.{Ended}
@@ -37,12 +37,21 @@ pub record Does (question : Question) (held : List (List ℕ) → Held) (task pl
   pub ran : Ran question (held task) (held plan) old new Same end
   pub whose : IsLast task plan end last
   pub ends : status ≡ status_of end
-  pub put : Put (error_text end (asks_why question) last)
+  pub put : Put (error_text end question.detail.reasons last)
 
--- what the program does where a call has no job: its status, and what was written to standard error
+-- The exit status and what was written to standard error where memory was refused, and where two
+-- files are standard input.
+abbrev pub IsStarved : (List ℕ → Type 0) → ℕ → Type 0
+IsStarved Put status = (status ≡ 3) × Put (codes "sas: out of memory" ++ codes "\n")
+
+abbrev pub IsTwice : (List ℕ → Type 0) → ℕ → Type 0
+IsTwice Put status = (status ≡ 2) × Put (codes "sas: standard input used twice" ++ codes "\n")
+
+abbrev pub IsUnanswered : (List ℕ → Type 0) → ℕ → Type 0
+IsUnanswered Put status = IsStarved Put status ⊎ IsTwice Put status
+
+-- what the program does where a call has no job
 abbrev pub Reports : (List ℕ → Type 0) → Result ℕ WordsFault → WordsFault → Type 0
-Reports Put result fault.Memory =
-    IsOkAnd result (λ status. (status ≡ 3) × Put (codes "sas: out of memory" ++ codes "\n"))
-Reports Put result fault.InputTwice = IsOkAnd result (λ status. (status ≡ 2)
-    × Put (codes "sas: standard input used twice" ++ codes "\n"))
-Reports Put result _ = ⊤
+Reports Put result fault.Memory = IsOkAnd result (IsStarved Put)
+Reports Put result fault.InputTwice = IsOkAnd result (IsTwice Put)
+Reports Put result _ = IfOk result (λ status. ⊥)

@@ -1,17 +1,15 @@
 -- What a run over a task, a plan or both does.
-use Rattle.std.specs.Prelude.{◌≡◌, ◌⊎◌, ⊤, ℕ, List, Option, Some, Result, Err, IfOk}
+use Rattle.std.specs.Prelude.{◌≡◌, ◌⊎◌, ◌<◌, ⊤, ℕ, List, Option, Some, Result, Err, IfOk}
 use Rattle.std.specs.Io.KnownBytes.{Appends}
-use Rattle.sas_answers.specs.Ending.{EndsCounting, Output}
+use Rattle.sas_answers.specs.Ending.{EndsCounting}
 use Rattle.sas_answers.specs.declared.ending.Status.{Status}
 use Rattle.sas_answers.specs.declared.ending.ToolFault.{ToolFault}
 use Rattle.sas_answers.specs.declared.ending.ToolFault.TheVariants.{Memory}
 use Rattle.sas_requests.specs.Headline.{Headline}
-use Rattle.sas_requests.specs.Output.{Out}
-use Rattle.sas_requests.specs.TraceOut.{TraceOut}
-use Rattle.sas_requests.specs.Why.{OutWhy}
-use Rattle.sas_requests.specs.declared.Request.TheVariants.{Plan}
+use Rattle.sas_requests.specs.Invariants.{Invariants}
+use Rattle.sas_requests.specs.OutBy.{OutBy, SendsLine}
+use Rattle.sas_requests.specs.declared.question.Request.TheVariants.{Mutex, Plan}
 use Rattle.sas_requests.specs.declared.question.Question.{Question}
-use Rattle.sas_requests.specs.declared.question.Question.TheVariants.{Answer, Explanation, Trace}
 use Rattle.sas_tool.specs.Endings.{status_of}
 use Rattle.sas_tool.specs.Held.{Held, absent, holds}
 use Rattle.sas_tool.specs.Says.{Says}
@@ -19,26 +17,16 @@ use Rattle.sas_tool.specs.declared.arguments.Source.{Source}
 use Rattle.sas_tool.specs.declared.endings.Ended.{Ended}
 use Rattle.sas_tool.specs.declared.endings.Ended.TheVariants as ended
 
--- the output to a question, for the bytes of the task and of the plan
-abbrev pub Prints : Question → List ℕ → List ℕ → Option Output → Type 0
-Prints (Answer request) = Out request
-Prints (Explanation request) = OutWhy request
-Prints Trace = TraceOut
-
--- whether a plan solves a task, with reasons or without
-abbrev pub IsAboutPlan : Question → Type 0
-IsAboutPlan (Answer Plan) = ⊤
-IsAboutPlan (Explanation Plan) = ⊤
-IsAboutPlan _ = ⊥
-
 -- The question was answered about inputs that have these bytes left, if that is known.
 pub record IsAnswered (question : Question) (task plan old new : Option (List ℕ))
     (result : Result Status ToolFault) : Type 0 where
   pub answers : (b c : List ℕ) → task ≡ Some b → plan ≡ Some c
-      → EndsCounting (Prints question b c) (Appends old new) result
-  pub headline : IsAboutPlan question → IfOk result (λ status. (b c before : List ℕ)
+      → EndsCounting (OutBy question.detail question.request b c) (Appends old new) result
+  pub headline : question.request ≡ Plan → IfOk result (λ status. (b c before : List ℕ)
       → task ≡ Some b → plan ≡ Some c → old ≡ Some before
-      → Headline b c (Appends old new) status)
+      → Headline b c (SendsLine question.detail.trace old new) status)
+  pub invariants : question.request ≡ Mutex → IfOk result (λ status. (b before : List ℕ)
+      → task ≡ Some b → old ≡ Some before → Invariants b (Appends old new))
 
 -- it was stopped before an answer: memory was refused, or a closed stream wasn't replaced
 abbrev pub IsStopped : Ended → Type 0
@@ -51,15 +39,18 @@ pub record Ran (question : Question) (task plan : Held) (old new : Option (List 
   -- of inputs whose bytes are known, the output went out, or its first bytes, or there is none
   pub answers : (b c : List ℕ) → task ≡ holds b → plan ≡ holds c
       → ((result : Result Status ToolFault) × (end ≡ ended.Answered result)
-      × EndsCounting (Prints question b c) (Appends old new) result)
+      × EndsCounting (OutBy question.detail question.request b c) (Appends old new) result)
       ⊎ ((end ≡ ended.NotReady) × Same)
   -- if an input can't be opened, nothing is written; the task comes first
   pub no_task : task ≡ absent → ((end ≡ ended.TaskNotOpened) ⊎ IsStopped end) × Same
   pub no_plan : (b : List ℕ) → task ≡ holds b → plan ≡ absent
       → ((end ≡ ended.PlanNotOpened) ⊎ IsStopped end) × Same
   -- what the exit status of `plan` says
-  pub says : IsAboutPlan question → (b c before : List ℕ) → task ≡ holds b → plan ≡ holds c
-      → old ≡ Some before → Says b c (Appends old new) (status_of end)
+  pub says : question.request ≡ Plan → (b c before : List ℕ) → task ≡ holds b → plan ≡ holds c
+      → old ≡ Some before → Says b c (SendsLine question.detail.trace old new) (status_of end)
+  -- what the answer of `mutex` says
+  pub invariants : question.request ≡ Mutex → (b before : List ℕ) → task ≡ holds b
+      → old ≡ Some before → status_of end < 2 → Invariants b (Appends old new)
 
 -- of these inputs, the one that was opened or read last
 abbrev pub IsLastOf : Option Source → Option Source → Ended → Option Source → Type 0

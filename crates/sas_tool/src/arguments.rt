@@ -2,10 +2,10 @@
 ghost use Rattle.std.specs.Prelude.{◌≡◌, ◌<◌, ℕ, Bool, List, length, Some, IfOk, MatchResult};
 ghost use Rattle.sas_words.specs.Calls.{IsFor, IsMemory, bytes_of_words, words_in};
 ghost use Rattle.sas_words.specs.Usage.{IsAccepted, IsCall};
-ghost use Rattle.sas_tool.specs.Jobs.{Asks, IsAsked, IsInputTwice, IsRefusedFor};
-ghost use Rattle.sas_tool.specs.Sources.{IsSource, asks_why, question_name, request_name, source_name};
+ghost use Rattle.sas_tool.specs.Jobs.{Asks, IsInputTwice, IsRefusedFor, asked};
+ghost use Rattle.sas_tool.specs.Sources.{IsSource, source_name};
 
-use crate::{Question, Request};
+use crate::{Detail, Question, Request};
 use sas_words::{Call, Named, WordsFault, call_of};
 use std::alloc::Global;
 
@@ -116,31 +116,25 @@ fn job_of(call: Call) -> Job
     }
 }
 
-/// Returns the question of a request, with or without reasons. That about many plans is none of these.
+/// Returns the question that a request asks, with reasons or without. Over many plans it asks none.
 fn question_of(request: Named, why: bool) -> Option<Question>
-    ensures { IsAsked request why result }
+    ensures { result ≡ asked request why }
 {
-    match request {
-        Named::Plan => Some(question_about(Request::Plan, why)),
-        Named::Plans => None,
-        Named::Trace => Some(Question::Trace),
-        Named::Mutex => Some(question_about(Request::Mutex, why)),
-        Named::Show => Some(question_about(Request::Show, why)),
-        Named::Check => Some(question_about(Request::Check, why)),
-        Named::Print => Some(question_about(Request::Print, why)),
-        Named::Steps => Some(question_about(Request::Steps, why)),
-    }
-}
-
-fn question_about(request: Request, why: bool) -> Question
-    ensures name { question_name result ≡ request_name request }
-    ensures why { asks_why result ≡ why }
-{
-    if why {
-        Question::Explanation(request)
-    } else {
-        Question::Answer(request)
-    }
+    let (request, trace) = match request {
+        Named::Plan => (Request::Plan, false),
+        Named::Plans => return None,
+        Named::Trace => (Request::Plan, true),
+        Named::Mutex => (Request::Mutex, false),
+        Named::Show => (Request::Show, false),
+        Named::Check => (Request::Check, false),
+        Named::Print => (Request::Print, false),
+        Named::Steps => (Request::Steps, false),
+    };
+    let detail = Detail {
+        reasons: why,
+        trace,
+    };
+    Some(Question { request, detail })
 }
 
 /// Returns the source that a word names, if there is one.

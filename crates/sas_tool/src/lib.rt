@@ -20,7 +20,7 @@ pub use arguments::{Job, Source, command};
 #[doc(hidden)]
 pub use endings::ending;
 pub use sas_requests::{
-    InputFault, JudgeFault, PlanInputs, Question, Request, Status, ToolFault, explain,
-    explain_laws, judge, judge_laws, run, run_laws, trace, trace_output_laws,
+    Detail, InputFault, JudgeFault, PlanInputs, Question, Request, Status, ToolFault, answer,
+    answer_laws, judge, judge_laws, run,
 };
 pub use sas_words::WordsFault;

@@ -1,19 +1,20 @@
 // The program: its arguments, its streams and how it ends.
-ghost use Rattle.std.specs.Prelude.{◌≡◌, ◌≢◌, false, ℕ, List, [], ◌∷◌, Some, codes};
+ghost use Rattle.std.specs.Prelude.{◌≡◌, ◌≢◌, ◌<◌, Bool, false, ℕ, List, [], ◌∷◌, Some, codes, IfOk};
 ghost use Rattle.std.specs.Result.{IsOkAnd};
 ghost use Rattle.std.specs.Io.KnownBytes.{Appends};
-ghost use Rattle.sas_words.specs.Calls.{bytes_of_words};
+ghost use Rattle.sas_requests.specs.Invariants.{Invariants};
+ghost use Rattle.sas_words.specs.Calls.{bytes_of_words, name_of};
+ghost use Rattle.sas_words.specs.declared.calls.Named.{Named};
 ghost use Rattle.sas_words.specs.Grammar.{plan_words, task_words};
 ghost use Rattle.sas_words.specs.Usage.{IsCall};
-ghost use Rattle.sas_tool.specs.Does.{Does, Reports, words_held};
+ghost use Rattle.sas_requests.specs.declared.question.Question.{Question};
+ghost use Rattle.sas_tool.specs.Does.{Does, IsUnanswered, Reports, words_held};
 ghost use Rattle.sas_tool.specs.Endings.{Puts};
 ghost use Rattle.sas_tool.specs.Held.{holds, word_held};
-ghost use Rattle.sas_tool.specs.Jobs.{Asks};
-ghost use Rattle.sas_tool.specs.Sources.{asks_why, question_name};
+ghost use Rattle.sas_tool.specs.Jobs.{Asks, asked};
 ghost use Rattle.sas_tool.specs.PlansRuns.{PlansDo};
 ghost use Rattle.sas_tool.specs.Says.{Says};
 
-use crate::Question;
 use crate::arguments::{Job, command};
 use crate::endings::{
     FAULT, INPUT_TWICE, INVALID_ARGUMENTS, NO, OUT_OF_MEMORY, WRITE_FAILED, YES, finish, stop,
@@ -79,22 +80,40 @@ pub fn answer_words<N: NamedFiles, I: Read + Copy + Drop, W: Write, E: Write>(
 ) -> Result<u8, WordsFault>
     requires out { out.old.failed ≡ false }
     // At a call for `plan` over two files that hold b and c, the exit status says whether the plan is valid.
-    ensures headline { (t p b c before : List ℕ)
-        → IsCall (bytes_of_words words.now) (codes "plan") false (t ∷ p ∷ [])
+    ensures headline { (why : Bool) (t p b c before : List ℕ)
+        → IsCall (bytes_of_words words.now) (codes "plan") why (t ∷ p ∷ [])
         → word_held (N.held inputs.entry.files.now) (I.remaining inputs.entry.standard) t ≡ holds b
         → word_held (N.held inputs.entry.files.now) (I.remaining inputs.entry.standard) p ≡ holds c
         → W.contents out.old.device ≡ Some before
         → IsOkAnd result (Says b c
         (Appends (W.contents out.old.device) (W.contents out.new.device))) }
-    // At a call for a question over these files, it is answered, unless both are standard input.
-    ensures does { (question : Question) (files : List (List ℕ))
-        → IsCall (bytes_of_words words.now) (question_name question) (asks_why question) files
+    // At a call for `mutex` over a file that holds b, each group that is printed as exclusive is an invariant.
+    ensures invariants { (why : Bool) (t b before : List ℕ)
+        → IsCall (bytes_of_words words.now) (codes "mutex") why (t ∷ [])
+        → word_held (N.held inputs.entry.files.now) (I.remaining inputs.entry.standard) t ≡ holds b
+        → W.contents out.old.device ≡ Some before
+        → IsOkAnd result (λ status. status < 2 → Invariants b
+        (Appends (W.contents out.old.device) (W.contents out.new.device))) }
+    // At a call that asks a question over these files, it is answered, unless both are standard input.
+    ensures does { (named : Named) (why : Bool) (question : Question) (files : List (List ℕ))
+        → asked named why ≡ Some question
+        → IsCall (bytes_of_words words.now) (name_of named) why files
         → files ≢ codes "-" ∷ codes "-" ∷ []
         → IsOkAnd result (Does question
         (words_held (N.held inputs.entry.files.now) (I.remaining inputs.entry.standard))
-        (task_words (question_name question) files) (plan_words (question_name question) files)
+        (task_words (name_of named) files) (plan_words (name_of named) files)
         (W.contents out.old.device) (W.contents out.new.device) (out.new ≡ out.old)
         (λ text. Puts E.contents text errors.old errors.new)) }
+    // If both are, that is an error, and nothing is read or printed.
+    ensures twice { (named : Named) (why : Bool) (question : Question)
+        → asked named why ≡ Some question
+        → IsCall (bytes_of_words words.now) (name_of named) why (codes "-" ∷ codes "-" ∷ [])
+        → IsOkAnd result (IsUnanswered (λ text. Puts E.contents text errors.old errors.new))
+        × (out.new ≡ out.old) }
+    // Words that are no call print nothing on standard output.
+    ensures others { ((name : List ℕ) (why : Bool) (files : List (List ℕ))
+        → IsCall (bytes_of_words words.now) name why files → ⊥)
+        → (out.new ≡ out.old) × IfOk result (λ status. 1 < status) }
     // At a call for `plans`, the plans are judged, unless standard input is named twice or a label has a line end.
     ensures plans { (t : List ℕ) (labels : List (List ℕ))
         → IsCall (bytes_of_words words.now) (codes "plans") false (t ∷ labels)
@@ -129,10 +148,12 @@ fn answer_job<N: NamedFiles, I: Read + Copy + Drop, W: Write, E: Write>(
     errors: &mut Watched<E>,
 ) -> u8
     requires out { out.old.failed ≡ false }
-    ensures does { (question : Question) (files : List (List ℕ))
-        → Asks (question_name question) (asks_why question) files job.now
-        → Does question (words_held (N.held inputs.entry.files.now) (I.remaining inputs.entry.standard))
-        (task_words (question_name question) files) (plan_words (question_name question) files)
+    ensures does { (named : Named) (why : Bool) (question : Question) (files : List (List ℕ))
+        → asked named why ≡ Some question
+        → Asks (name_of named) why files job.now
+        → Does question
+        (words_held (N.held inputs.entry.files.now) (I.remaining inputs.entry.standard))
+        (task_words (name_of named) files) (plan_words (name_of named) files)
         (W.contents out.old.device) (W.contents out.new.device) (out.new ≡ out.old)
         (λ text. Puts E.contents text errors.old errors.new) result }
     ensures plans { (t : List ℕ) (labels : List (List ℕ))
@@ -148,7 +169,7 @@ fn answer_job<N: NamedFiles, I: Read + Copy + Drop, W: Write, E: Write>(
             plan,
         } => {
             let run = run_files(alloc, inputs, *question, Sources { task, plan }, out);
-            finish(errors, run.ended, is_for_reasons(*question), run.last)
+            finish(errors, run.ended, question.detail.reasons, run.last)
         }
         Job::Plans { task, labels } => {
             let names = labels.as_slice();
@@ -156,13 +177,6 @@ fn answer_job<N: NamedFiles, I: Read + Copy + Drop, W: Write, E: Write>(
             finish_plans(errors, ended, names)
         }
     }
-}
-
-/// Returns whether a question is for reasons, too.
-fn is_for_reasons(question: Question) -> bool
-    ensures { result ≡ asks_why question }
-{
-    matches!(question, Question::Explanation(_))
 }
 
 /// Ends where the words are no call: with the text of the parser, or with the version.

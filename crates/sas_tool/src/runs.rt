@@ -7,7 +7,7 @@ use crate::arguments::Source;
 use crate::endings::Ended;
 use crate::files::{Inputs, NamedFiles};
 use crate::until_end::UntilEnd;
-use crate::{Question, Status, ToolFault, explain, run, trace};
+use crate::{Question, Status, ToolFault, answer};
 use sas_lines::Watched;
 use std::alloc::Global;
 use std::io::{Read, Write};
@@ -101,30 +101,9 @@ fn answer_opened<T: Read + Drop, P: Read + Drop, W: Write>(
 {
     let mut task = Watched::new(task);
     let mut plan = Watched::new(plan);
-    let result = answer_files(alloc, question, &mut task, &mut plan, out);
+    let result = answer(alloc, question, &mut task, &mut plan, out);
     let begun = plan.device().has_begun();
     drop(plan);
     drop(task);
     (result, begun)
-}
-
-/// Answers the question about a task, a plan or both.
-fn answer_files<T: Read, P: Read, W: Write>(
-    alloc: Global,
-    question: Question,
-    task: &mut Watched<T>,
-    plan: &mut Watched<P>,
-    out: &mut Watched<W>,
-) -> Result<Status, ToolFault>
-    requires task { task.old.failed ≡ false }
-    requires plan { plan.old.failed ≡ false }
-    requires out { out.old.failed ≡ false }
-    ensures { IsAnswered question (T.remaining task.old.device) (P.remaining plan.old.device)
-        (W.contents out.old.device) (W.contents out.new.device) result }
-{
-    match question {
-        Question::Answer(request) => run(alloc, request, task, plan, out),
-        Question::Explanation(request) => explain(alloc, request, task, plan, out),
-        Question::Trace => trace(alloc, task, plan, out),
-    }
 }

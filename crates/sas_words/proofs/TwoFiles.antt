@@ -1,10 +1,9 @@
--- The words behind a request over a task and one plan: `plan`, with the flag, and `trace`, without.
-use Rattle.std.proofs.Common.{◌≡◌, inl, inr, ℕ, Bool, true, false, true≢false, refl, sym, ap, List, [], ◌∷◌, Option, Some, None, codes}
-use Rattle.clap.specs.Walk.{Row, Rule, Text, used, walked}
+-- The words behind a request over a task and one plan: `plan` and `trace`.
+use Rattle.std.proofs.Common.{◌≡◌, ◌∙◌, inl, inr, ℕ, Bool, true, false, cond, refl, sym, ap, List, [], ◌∷◌, Option, Some, None, bytes_eq, unwrap_or, codes}
+use Rattle.clap.specs.Walk.{Row, Rule, Text, all_of, one_of, used, walked}
 use Rattle.clap.specs.Simple.{Shape, built_leaf, filled, with_index}
-use Rattle.clap.specs.Words.{new_app}
 use Rattle.clap.specs.Faults.{defaults_fault}
-use Rattle.sas_words.specs.Grammar.{Among, explained, file_rule, over_plan, over_task, request_names}
+use Rattle.sas_words.specs.Grammar.{Among, HasRows, IsFlag, explained, file_rule, over_plan, over_task, request_names}
 use Rattle.sas_words.specs.Usage.{AreTwo}
 use Rattle.sas_words.proofs.Options.{cons≢nil, second, why_here}
 use Rattle.sas_words.proofs.Machines.{Machine, Follows, Flags, Places, Takes, TakesFlag, Ends, tail}
@@ -98,8 +97,8 @@ plan_machine = record {
 abbrev pub IsPlan : Bool → List Text → Type 0
 IsPlan _ given = AreTwo given
 
-abbrev pub plan_shape : Shape
-plan_shape = built_leaf (over_plan (over_task (explained (codes "plan")))).top
+abbrev pub plan_shape : Text → Shape
+plan_shape name = built_leaf (over_plan (over_task (explained name))).top
 
 no_more : (x y v : Text) (rest : List Text) → AreTwo (x ∷ y ∷ v ∷ rest) → ⊥
 no_more x y v rest well = cons≢nil v rest (ap (λ l. tail (tail l)) well.2)
@@ -132,132 +131,61 @@ plan_takes_flag (wtp x y) = inl refl
 plan_takes_flag (twp x y) = inl refl
 plan_takes_flag (tpw x y) = inl refl
 
-plan_places : (s : Seen) (v : Text) (b : Bool) → Places plan_shape plan_machine s v b
+plan_places : (name : Text) (s : Seen) (v : Text) (b : Bool) → Places (plan_shape name) plan_machine s v b
 unfolding walked
-plan_places none v b = (refl, refl)
-plan_places w v b = (refl, refl)
-plan_places (t x) v b = (refl, refl)
-plan_places (wt x) v b = (refl, refl)
-plan_places (tw x) v b = (refl, refl)
-plan_places (tp x y) v b = cons≢nil _ _
-plan_places (wtp x y) v b = cons≢nil _ _
-plan_places (twp x y) v b = cons≢nil _ _
-plan_places (tpw x y) v b = cons≢nil _ _
+plan_places name none v b = (refl, refl)
+plan_places name w v b = (refl, refl)
+plan_places name (t x) v b = (refl, refl)
+plan_places name (wt x) v b = (refl, refl)
+plan_places name (tw x) v b = (refl, refl)
+plan_places name (tp x y) v b = cons≢nil _ _
+plan_places name (wtp x y) v b = cons≢nil _ _
+plan_places name (twp x y) v b = cons≢nil _ _
+plan_places name (tpw x y) v b = cons≢nil _ _
 
-plan_flags : (s : Seen) → Flags plan_shape plan_machine s
+plan_flags : (name : Text) (s : Seen) → Flags (plan_shape name) plan_machine s
 unfolding walked
-plan_flags none = (refl, refl)
-plan_flags w = cons≢nil _ _
-plan_flags (t x) = (refl, refl)
-plan_flags (wt x) = cons≢nil _ _
-plan_flags (tw x) = cons≢nil _ _
-plan_flags (tp x y) = (refl, refl)
-plan_flags (wtp x y) = cons≢nil _ _
-plan_flags (twp x y) = cons≢nil _ _
-plan_flags (tpw x y) = cons≢nil _ _
+plan_flags name none = (refl, refl)
+plan_flags name w = cons≢nil _ _
+plan_flags name (t x) = (refl, refl)
+plan_flags name (wt x) = cons≢nil _ _
+plan_flags name (tw x) = cons≢nil _ _
+plan_flags name (tp x y) = (refl, refl)
+plan_flags name (wtp x y) = cons≢nil _ _
+plan_flags name (twp x y) = cons≢nil _ _
+plan_flags name (tpw x y) = cons≢nil _ _
 
-plan_known : Among request_names (codes "plan")
-plan_known = inl refl
+-- ---- all words
 
-plan_ends : (s : Seen) → Ends plan_machine IsPlan plan_shape (codes "plan") s
-unfolding defaults_fault
-plan_ends none = inr (cons≢nil _ _, nothing)
-plan_ends w = inr (cons≢nil _ _, nothing)
-plan_ends (t x) = inr (cons≢nil _ _, one x)
-plan_ends (wt x) = inr (cons≢nil _ _, one x)
-plan_ends (tw x) = inr (cons≢nil _ _, one x)
-plan_ends (tp x y) = inl (λ few. refl, (x, y, refl), record { known = plan_known; task = refl; plans = refl; flag = inl refl })
-plan_ends (wtp x y) = inl (λ few. refl, (x, y, refl), record { known = plan_known; task = refl; plans = refl; flag = inl refl })
-plan_ends (twp x y) = inl (λ few. refl, (x, y, refl), record { known = plan_known; task = refl; plans = refl; flag = inl refl })
-plan_ends (tpw x y) = inl (λ few. refl, (x, y, refl), record { known = plan_known; task = refl; plans = refl; flag = inl refl })
+module _ (name : Text) (known : Among request_names name) (other : bytes_eq name (codes "steps") ≡ false) where
+  rows_here : (b : Bool) (x y : Text) (rows : List Row) → all_of (codes "TASK") rows ≡ Some (x ∷ []) → all_of (codes "PLAN") rows ≡ Some (y ∷ [])
+      → IsFlag b (one_of (codes "why") rows) → HasRows name b (x ∷ y ∷ []) rows
+  rows_here b x y rows et ep ef = record {
+    known = known;
+    task = ap (λ o. unwrap_or o []) et ∙ ap (λ c. cond c [] (x ∷ [])) (sym other);
+    plans = ap (λ o. unwrap_or o []) ep ∙ ap (λ c. cond c (x ∷ y ∷ []) (y ∷ [])) (sym other);
+    flag = ef;
+  }
 
-pub plan_follows : Follows plan_shape (codes "plan") plan_machine IsPlan
-plan_follows = record {
-  harmless = (inr (inl refl), (inl refl, (inl refl, (inr (inr (refl, λ h e. cons≢nil _ _ (second _ _ e))), tt))));
-  begins = (refl, refl, refl);
-  places = plan_places;
-  flags = plan_flags;
-  takes = plan_takes;
-  takes_flag = plan_takes_flag;
-  ends = plan_ends;
-}
+  plan_ends : (s : Seen) → Ends plan_machine IsPlan (plan_shape name) name s
+  unfolding defaults_fault
+  plan_ends none = inr (cons≢nil _ _, nothing)
+  plan_ends w = inr (cons≢nil _ _, nothing)
+  plan_ends (t x) = inr (cons≢nil _ _, one x)
+  plan_ends (wt x) = inr (cons≢nil _ _, one x)
+  plan_ends (tw x) = inr (cons≢nil _ _, one x)
+  plan_ends (tp x y) = inl (λ few. refl, (x, y, refl), rows_here false x y _ refl refl (inl refl))
+  plan_ends (wtp x y) = inl (λ few. refl, (x, y, refl), rows_here true x y _ refl refl (inl refl))
+  plan_ends (twp x y) = inl (λ few. refl, (x, y, refl), rows_here true x y _ refl refl (inl refl))
+  plan_ends (tpw x y) = inl (λ few. refl, (x, y, refl), rows_here true x y _ refl refl (inl refl))
 
--- ---- `trace`
-
--- the files
-pub data Traced : Type 0 where
-  no_file : Traced
-  task : Text → Traced
-  both : Text → Text → Traced
-
-abbrev trace_held : Traced → List Row × Option (Text × List Text)
-trace_held no_file = ([], None)
-trace_held (task x) = ([], Some (codes "TASK", x ∷ []))
-trace_held (both x y) = (with_task x [], Some (codes "PLAN", y ∷ []))
-
-abbrev trace_files : Traced → List Text
-trace_files no_file = []
-trace_files (task x) = x ∷ []
-trace_files (both x y) = x ∷ y ∷ []
-
-abbrev trace_taken : Traced → Text → Option Traced
-trace_taken no_file v = Some (task v)
-trace_taken (task x) v = Some (both x v)
-trace_taken (both x y) v = None
-
-abbrev trace_position : Traced → ℕ
-trace_position no_file = 1
-trace_position (task x) = 2
-trace_position (both x y) = 3
-
-abbrev trace_machine : Machine Traced
-trace_machine = record {
-  start = no_file;
-  files = trace_files;
-  flag = λ s. false;
-  taken = trace_taken;
-  flagged = λ s. None;
-  held = trace_held;
-  more = λ s. false;
-  position = trace_position;
-}
-
-abbrev pub IsTrace : Bool → List Text → Type 0
-IsTrace why given = (why ≡ false) × AreTwo given
-
-abbrev pub trace_shape : Shape
-trace_shape = built_leaf (over_plan (over_task (new_app (codes "trace")))).top
-
-trace_takes : (s : Traced) (v : Text) → Takes trace_machine IsTrace s v (trace_taken s v)
-trace_takes no_file v = (refl, refl)
-trace_takes (task x) v = (refl, refl)
-trace_takes (both x y) v = λ b rest well. no_more x y v rest well.1
-
-trace_places : (s : Traced) (v : Text) (b : Bool) → Places trace_shape trace_machine s v b
-unfolding walked
-trace_places no_file v b = (refl, refl)
-trace_places (task x) v b = (refl, refl)
-trace_places (both x y) v b = cons≢nil _ _
-
-trace_flags : (s : Traced) → Flags trace_shape trace_machine s
-unfolding walked
-trace_flags no_file = cons≢nil _ _
-trace_flags (task x) = cons≢nil _ _
-trace_flags (both x y) = cons≢nil _ _
-
-trace_ends : (s : Traced) → Ends trace_machine IsTrace trace_shape (codes "trace") s
-unfolding defaults_fault
-trace_ends no_file = inr (cons≢nil _ _, λ well. nothing well.1)
-trace_ends (task x) = inr (cons≢nil _ _, λ well. one x well.1)
-trace_ends (both x y) = inl (λ few. refl, (refl, (x, y, refl)), record { known = inr (inr (inl refl)); task = refl; plans = refl; flag = inr (refl, refl) })
-
-pub trace_follows : Follows trace_shape (codes "trace") trace_machine IsTrace
-trace_follows = record {
-  harmless = (inl refl, (inl refl, (inr (inr (refl, λ h e. cons≢nil _ _ (second _ _ e))), tt)));
-  begins = (refl, refl, refl);
-  places = trace_places;
-  flags = trace_flags;
-  takes = trace_takes;
-  takes_flag = λ s. inr (λ given well. true≢false well.0);
-  ends = trace_ends;
-}
+  pub plan_follows : Follows (plan_shape name) name plan_machine IsPlan
+  plan_follows = record {
+    harmless = (inr (inl refl), (inl refl, (inl refl, (inr (inr (refl, λ h e. cons≢nil _ _ (second _ _ e))), tt))));
+    begins = (refl, refl, refl);
+    places = plan_places name;
+    flags = plan_flags name;
+    takes = plan_takes;
+    takes_flag = plan_takes_flag;
+    ends = plan_ends;
+  }

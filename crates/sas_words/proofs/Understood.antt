@@ -12,7 +12,7 @@ use Rattle.sas_words.proofs.Options.{HaveCharacters}
 use Rattle.sas_words.proofs.Machines.{Follows, Machine, complete, head, same_why, sound, tail}
 use Rattle.sas_words.proofs.Requests.{IsRequest, first_word, request_faults, request_rows}
 use Rattle.sas_words.proofs.OneFile.{task_follows, task_shape, plan_follows as steps_follows, plan_shape as steps_shape}
-use Rattle.sas_words.proofs.TwoFiles.{plan_follows, plan_shape, trace_follows, trace_shape}
+use Rattle.sas_words.proofs.TwoFiles.{plan_follows, plan_shape}
 use Rattle.sas_words.proofs.ManyFiles.{plans_follows, plans_shape}
 
 -- clap takes the words, and has found what they say
@@ -31,7 +31,7 @@ module _ {Seen : Type 0} (name : Text) (shape : Shape) (m : Machine Seen) (IsWel
       let s = sound shape name m IsWell follows vs has (sym (request_faults name shape is w0 vs) ∙ e) in
       (s.0, s.1, accepts s.0 (operands vs) s.2, subst (HasFound name s.0 (operands vs)) (sym (request_rows name shape is w0 vs)) (refl, s.3))
 
-plan_request : IsRequest (codes "plan") plan_shape
+plan_request : IsRequest (codes "plan") (plan_shape (codes "plan"))
 unfolding clap_on_literals
 plan_request = record { met = refl; turns = refl; found = refl; named = refl }
 
@@ -39,7 +39,7 @@ plans_request : IsRequest (codes "plans") plans_shape
 unfolding clap_on_literals
 plans_request = record { met = refl; turns = refl; found = refl; named = refl }
 
-trace_request : IsRequest (codes "trace") trace_shape
+trace_request : IsRequest (codes "trace") (plan_shape (codes "trace"))
 unfolding clap_on_literals
 trace_request = record { met = refl; turns = refl; found = refl; named = refl }
 
@@ -63,6 +63,12 @@ steps_request : IsRequest (codes "steps") steps_shape
 unfolding clap_on_literals
 steps_request = record { met = refl; turns = refl; found = refl; named = refl }
 
+plan_known : Among request_names (codes "plan")
+plan_known = inl refl
+
+trace_known : Among request_names (codes "trace")
+trace_known = inr (inr (inl refl))
+
 mutex_known : Among request_names (codes "mutex")
 mutex_known = inr (inr (inr (inl refl)))
 
@@ -78,9 +84,9 @@ print_known = inr (inr (inr (inr (inr (inr (inl refl))))))
 -- ---- calls that name a request
 
 sound_at : (w0 v : Text) (vs : List Text) → HaveCharacters vs → Among request_names v → Sound w0 v vs
-sound_at w0 v vs has (inl e) = subst (λ n. Sound w0 n vs) e (is_sound _ _ _ _ plan_request plan_follows (λ why files well. inl (refl, well)) w0 vs has)
+sound_at w0 v vs has (inl e) = subst (λ n. Sound w0 n vs) e (is_sound _ _ _ _ plan_request (plan_follows _ plan_known refl) (λ why files well. inl (refl, well)) w0 vs has)
 sound_at w0 v vs has (inr (inl e)) = subst (λ n. Sound w0 n vs) e (is_sound _ _ _ _ plans_request plans_follows (λ why files well. inr (inl (refl, well.0, well.1))) w0 vs has)
-sound_at w0 v vs has (inr (inr (inl e))) = subst (λ n. Sound w0 n vs) e (is_sound _ _ _ _ trace_request trace_follows (λ why files well. inr (inr (inl (refl, well.0, well.1)))) w0 vs has)
+sound_at w0 v vs has (inr (inr (inl e))) = subst (λ n. Sound w0 n vs) e (is_sound _ _ _ _ trace_request (plan_follows _ trace_known refl) (λ why files well. inr (inr (inl (refl, well)))) w0 vs has)
 sound_at w0 v vs has (inr (inr (inr (inl e)))) = subst (λ n. Sound w0 n vs) e
     (is_sound _ _ _ _ mutex_request (task_follows _ mutex_known refl) (λ why files well. inr (inr (inr (inl (refl, well))))) w0 vs has)
 sound_at w0 v vs has (inr (inr (inr (inr (inl e))))) = subst (λ n. Sound w0 n vs) e
@@ -97,9 +103,9 @@ abbrev Well : Text → List Text → Text → Type 0
 Well w0 vs v = fault_of sas_app (w0 ∷ v ∷ vs) ≡ []
 
 well_at : (w0 v : Text) (vs : List Text) → HaveCharacters vs → length vs ≤ usize_max → (why : Bool) → options vs ≡ options_of why → IsAccepted v why (operands vs) → Well w0 vs v
-well_at w0 v vs has few why eo (inl a) = subst (Well w0 vs) (sym a.0) (takes_well _ _ _ _ plan_request plan_follows w0 vs has few why eo a.1)
+well_at w0 v vs has few why eo (inl a) = subst (Well w0 vs) (sym a.0) (takes_well _ _ _ _ plan_request (plan_follows _ plan_known refl) w0 vs has few why eo a.1)
 well_at w0 v vs has few why eo (inr (inl a)) = subst (Well w0 vs) (sym a.0) (takes_well _ _ _ _ plans_request plans_follows w0 vs has few why eo (a.1, a.2))
-well_at w0 v vs has few why eo (inr (inr (inl a))) = subst (Well w0 vs) (sym a.0) (takes_well _ _ _ _ trace_request trace_follows w0 vs has few why eo (a.1, a.2))
+well_at w0 v vs has few why eo (inr (inr (inl a))) = subst (Well w0 vs) (sym a.0) (takes_well _ _ _ _ trace_request (plan_follows _ trace_known refl) w0 vs has few why eo a.1)
 well_at w0 v vs has few why eo (inr (inr (inr (inl a)))) = subst (Well w0 vs) (sym a.0) (takes_well _ _ _ _ mutex_request (task_follows _ mutex_known refl) w0 vs has few why eo a.1)
 well_at w0 v vs has few why eo (inr (inr (inr (inr (inl a))))) = subst (Well w0 vs) (sym a.0) (takes_well _ _ _ _ show_request (task_follows _ show_known refl) w0 vs has few why eo a.1)
 well_at w0 v vs has few why eo (inr (inr (inr (inr (inr (inl a)))))) = subst (Well w0 vs) (sym a.0) (takes_well _ _ _ _ check_request (task_follows _ check_known refl) w0 vs has few why eo a.1)

@@ -50,7 +50,7 @@ abbrev pub checks_app : App
 checks_app = with_request (with_request (with_request top_app
     (over_plan (over_task (explained (codes "plan")))))
     (over_plans (over_task (new_app (codes "plans")))))
-    (over_plan (over_task (new_app (codes "trace"))))
+    (over_plan (over_task (explained (codes "trace"))))
 
 abbrev pub sas_app : App
 sas_app = with_request (with_request (with_request (with_request (with_request checks_app

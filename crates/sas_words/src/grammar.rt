@@ -56,9 +56,9 @@ pub fn grammar<'a>(alloc: Global) -> Result<Command<'a>, AllocError>
 fn with_checks<'a>(alloc: Global) -> Result<Command<'a>, AllocError>
     ensures { IfOk result (IsCommand checks_app) }
 {
-    let plan = add(program(alloc), plan_request(alloc))?;
+    let plan = add(program(alloc), plan_request(alloc, "plan", ABOUT_PLAN))?;
     let plans = add(plan, plans_request(alloc))?;
-    add(plans, trace_request(alloc))
+    add(plans, plan_request(alloc, "trace", ABOUT_TRACE))
 }
 
 /// Adds a request to the program. Its grammar may have been refused memory: here alone the program is dropped then.
@@ -86,10 +86,11 @@ fn program<'a>(alloc: Global) -> Command<'a>
     command_named(alloc, "sas", ABOUT).version(VERSION)
 }
 
-fn plan_request<'a>(alloc: Global) -> Result<Command<'a>, AllocError>
-    ensures { IfOk result (IsCommand (over_plan (over_task (explained (codes "plan"))))) }
+/// Returns a request over a task and a plan, with the flag for reasons.
+fn plan_request<'a>(alloc: Global, name: &'a str, about: &'a str) -> Result<Command<'a>, AllocError>
+    ensures { IfOk result (IsCommand (over_plan (over_task (explained name.entry.now)))) }
 {
-    with_plan(alloc, task_request(alloc, "plan", ABOUT_PLAN)?)
+    with_plan(alloc, task_request(alloc, name, about)?)
 }
 
 fn plans_request<'a>(alloc: Global) -> Result<Command<'a>, AllocError>
@@ -98,15 +99,6 @@ fn plans_request<'a>(alloc: Global) -> Result<Command<'a>, AllocError>
     with_plans(
         alloc,
         with_task(alloc, command_named(alloc, "plans", ABOUT_PLANS))?,
-    )
-}
-
-fn trace_request<'a>(alloc: Global) -> Result<Command<'a>, AllocError>
-    ensures { IfOk result (IsCommand (over_plan (over_task (new_app (codes "trace"))))) }
-{
-    with_plan(
-        alloc,
-        with_task(alloc, command_named(alloc, "trace", ABOUT_TRACE))?,
     )
 }
 

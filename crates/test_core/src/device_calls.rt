@@ -56,7 +56,6 @@ fn take(rt: &HostRuntime, kind: &str, bytes: &[u8]) {
         "interrupted" => say_taken(rt, Breaks::new(bytes, true), bytes.len()),
         "file" => say_taken(rt, Input::File(device), bytes.len()),
         "standard" => say_taken(rt, Input::Standard(device), bytes.len()),
-        "nothing" => say_taken(rt, Input::Nothing, bytes.len()),
         _ => say_taken(rt, device, bytes.len()),
     }
 }

@@ -1,4 +1,4 @@
-//! Test program for `run`, `explain`, `trace` and `judge` over devices, and for the words of the command line. Standard input requests calls, as `test_words` describes.
+//! Test program for `run`, `answer` and `judge` over devices, and for the words of the command line. Standard input requests calls, as `test_words` describes.
 
 #![tactic(auto)]
 
@@ -8,7 +8,7 @@ mod tool_calls;
 
 use judge_calls::{judge_in_memory, judge_listed};
 use run_calls::{answer_question, say_messages};
-use sas_requests::{explain_laws, judge_laws, run_laws, trace_output_laws};
+use sas_requests::{answer_laws, judge_laws};
 use std::fmt::Debug;
 use test_words::{TestCall, answer, say, say_debug, say_line};
 use tool_calls::{say_endings, say_job};
@@ -42,10 +42,8 @@ fn say_answer<A: Debug + PartialEq>(rt: &HostRuntime, answer: &A, no_memory: &A,
 
 /// Calls the laws of outputs. Detects a law that can't be called.
 fn say_laws(rt: &HostRuntime) {
-    run_laws();
-    explain_laws();
+    answer_laws();
     judge_laws();
-    trace_output_laws();
     say(rt, "laws");
 }
 

@@ -1,7 +1,7 @@
-// Calls of `run`, `explain` and `trace` over devices.
+// Calls of `run` and `answer` over devices.
 use crate::{LONGEST_READ, say_answer};
 use sas_lines::Watched;
-use sas_requests::{Request, ToolFault, explain, run, trace};
+use sas_requests::{Detail, Question, Request, ToolFault, answer, run};
 use test_words::{ScriptedReader, cut, narrow_of};
 
 /// Returns the request with this name.
@@ -10,28 +10,40 @@ fn request_of(name: &str) -> Request {
         "print" => Request::Print,
         "show" => Request::Show,
         "check" => Request::Check,
-        "plan" => Request::Plan,
+        "plan" | "trace" => Request::Plan,
         "mutex" => Request::Mutex,
         _ => Request::Steps,
     }
 }
 
-/// Answers a question over readers that follow texts: `WRITER|PLAN|TASK`. The question is `trace` or a request, with `-why` after it for
-/// reasons. Detects a call that is always out of memory, or that writes before its answer is complete; a read that is repeated after it
-/// failed; and a read after the end, or into a larger buffer than documented.
+/// Returns the question with this name: `trace` or a request, with `-why` after it for reasons.
+fn question_of(name: &str) -> Question {
+    let (name, reasons) = match name.strip_suffix("-why") {
+        Some(name) => (name, true),
+        None => (name, false),
+    };
+    let trace = name == "trace";
+    Question {
+        request: request_of(name),
+        detail: Detail { reasons, trace },
+    }
+}
+
+/// Answers a question over readers that follow texts: `WRITER|PLAN|TASK`. Detects a call that is always out of memory, or that writes
+/// before its answer is complete; a read that is repeated after it failed; and a read after the end, or into a larger buffer than
+/// documented.
 pub fn answer_question(rt: &HostRuntime, question: &str, bytes: &[u8]) -> Option<()> {
+    let question = question_of(question);
     let (writer, inputs) = cut(bytes, b'|');
     let (plan, task) = cut(inputs, b'|');
     let mut plan = Watched::new(ScriptedReader::new(plan, LONGEST_READ));
     let mut task = Watched::new(ScriptedReader::new(task, LONGEST_READ));
     let mut out = Watched::new(narrow_of(rt.alloc(), writer)?);
     let alloc = rt.alloc();
-    let answer = if question == "trace" {
-        trace(alloc, &mut task, &mut plan, &mut out)
-    } else if let Some(request) = question.strip_suffix("-why") {
-        explain(alloc, request_of(request), &mut task, &mut plan, &mut out)
+    let answer = if question.detail == Detail::PLAIN {
+        run(alloc, question.request, &mut task, &mut plan, &mut out)
     } else {
-        run(alloc, request_of(question), &mut task, &mut plan, &mut out)
+        answer(alloc, question, &mut task, &mut plan, &mut out)
     };
     say_answer(
         rt,

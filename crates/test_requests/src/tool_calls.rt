@@ -1,5 +1,5 @@
 // Calls of `sas_tool`: what the words of a command line request, and how the program ends.
-use sas_requests::{Status, ToolFault};
+use sas_requests::{Question, Status, ToolFault};
 use sas_tool::{Job, Source, WordsFault, command, ending};
 use std::alloc::{AllocError, Global};
 use test_words::{say, text_of};
@@ -42,7 +42,7 @@ fn say_parts(rt: &HostRuntime, job: &Job) {
             task,
             plan,
         } => {
-            let _ = println!(rt; "{question:?}");
+            say_question(rt, *question);
             say_source(rt, "task", task);
             say_source(rt, "plan", plan);
         }
@@ -54,6 +54,14 @@ fn say_parts(rt: &HostRuntime, job: &Job) {
             }
         }
     }
+}
+
+/// Prints a request, and what its answer reports.
+fn say_question(rt: &HostRuntime, question: Question) {
+    let Question { request, detail } = question;
+    let reasons = if detail.reasons { " with reasons" } else { "" };
+    let trace = if detail.trace { " with a trace" } else { "" };
+    let _ = println!(rt; "{request:?}{reasons}{trace}");
 }
 
 /// Prints where an input comes from, if it is read.

@@ -15,8 +15,8 @@
             print(step.name, step.changes)
 
 Tasks and plans are bytes, or objects that have bytes, such as a bytearray, a memoryview or an mmap. Only read-only objects that aren't
-bytes are copied. `plan_files` and `Task.from_file` read files, also those of gzip, bzip2 and xz. Threads may call at the same time: a call
-releases the interpreter's lock, and a Task makes one call after another.
+bytes are copied. `plan_files` and `Task.from_file` read files, also those of gzip, bzip2, xz and, by a program, zstd. Threads may call at
+the same time: a call releases the interpreter's lock, and a Task makes one call after another.
 
 Each call raises MemoryError if it is out of memory, and InputTooLong if an input has more than 4,294,967,296 bytes. The reasons or the
 trace of a small task may have gigabytes. So calls whose answer may have more than one line take `max_answer_bytes`: if the text of the
@@ -61,13 +61,14 @@ from ._values import (
     Rule,
     SimilarOperator,
     Step,
+    UnknownStep,
 )
 
 __version__ = "1.1.0"
 __all__ = [
     "Answer", "AnswerTooLong", "BlockedOperator", "Cause", "Change", "Conflict", "CostFacts", "CouldAlsoBe", "Effect", "Fact", "File",
-    "GoalFact", "InputTooLong", "NamedStep", "NoTask", "Reasons", "Refused", "Rule", "SimilarOperator", "Step", "Task", "Verdict", "check",
-    "check_why", "mutex", "mutex_why", "plan", "plan_files", "plan_why", "print_task", "show", "steps", "trace", "version",
+    "GoalFact", "InputTooLong", "NamedStep", "NoTask", "Reasons", "Refused", "Rule", "SimilarOperator", "Step", "Task", "UnknownStep", "Verdict",
+    "check", "check_why", "mutex", "mutex_why", "plan", "plan_files", "plan_why", "print_task", "show", "steps", "trace", "version",
 ]  # fmt: skip
 # tracebacks and pickles name the module that users import
 for _name in __all__:
@@ -98,7 +99,7 @@ def plan(task: Data, plan: Data) -> Answer:
 
 
 def plan_files(task: Path, plan: Path, *, max_bytes: int = LIMIT) -> Answer:
-    """Checks whether a plan solves a task, both given by the paths of their files. Files of gzip, bzip2 and xz are decompressed.
+    """Checks whether a plan solves a task, both given by the paths of their files. Compressed ones are decompressed.
 
     Args:
         task: The path of a task file.
@@ -196,7 +197,7 @@ class Task:
 
     @classmethod
     def from_file(cls, path: Path, *, max_bytes: int = LIMIT) -> Task:
-        """Reads a task file. One of gzip, bzip2 or xz is decompressed.
+        """Reads a task file. A compressed one is decompressed.
 
         Args:
             path: The path of a task file.

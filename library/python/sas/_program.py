@@ -19,7 +19,7 @@ _OVER_ONE: Dict[str, Callable[[bytearray], Answer]] = {
 }
 _WHY_OVER_ONE: Dict[str, Callable[[bytearray], Answer]] = {"mutex": mutex_why, "check": check_why}
 _OVER_BOTH = ("plan", "trace")
-_USAGE = {"plan": "[--why] TASK PLAN", "plans": "TASK PLAN..", "trace": "TASK PLAN", "steps": "[--why] PLAN"}
+_USAGE = {"plan": "[--why] TASK PLAN", "plans": "TASK PLAN..", "trace": "[--why] TASK PLAN", "steps": "[--why] PLAN"}
 _USAGE.update({request: "[--why] TASK" for request in ("mutex", "show", "check", "print")})
 REQUESTS = tuple(_USAGE)
 _PIECE = 1 << 20
@@ -122,7 +122,16 @@ def _answer_over_both(request: str, task: _Input, plan: _Input, why: bool) -> An
         except Refused as refusal:
             return check_why(file) if why else refusal.answer
     with held, plan.judged() as file:
-        return held.plan_why(file) if why else held.plan(file) if request == "plan" else held.trace(file)
+        if request == "plan":
+            return held.plan_why(file) if why else held.plan(file)
+        return _with_reasons(held.trace(file), held.plan_why(file)) if why else held.trace(file)
+
+
+def _with_reasons(trace: Answer, plan: Answer) -> Answer:
+    """Returns a trace with the reasons behind its verdict, which is the first line of the answer about the plan."""
+    verdict, _, reasons = plan.text.partition(b"\n")
+    assert trace.text.endswith(verdict + b"\n")
+    return Answer(bool(trace), trace.text + reasons)
 
 
 def _plans(task: str, *labels: str) -> Answer:
@@ -148,11 +157,11 @@ def _plans(task: str, *labels: str) -> Answer:
 
 
 def _shown(name: str) -> str:
-    """Returns a name as reasons show it: its first 256 bytes, without control characters."""
+    """Returns a name as reasons show it: its first 256 bytes, those that aren't printable ASCII or are a backslash in digits."""
     held = os.fsencode(name)
-    shown = "".join(chr(it) if 32 <= it != 127 else f"\\x{it:02x}" for it in held[:256])
+    shown = "".join(chr(it) if 32 <= it < 127 and it != 92 else f"\\x{it:02x}" for it in held[:256])
     if held[256:]:
         shown += " .."
     elif shown.endswith(" "):
         shown = shown[:-1] + "\\x20"
-    return os.fsdecode(shown.encode("latin-1"))
+    return shown

@@ -18,14 +18,19 @@ class Stopped(Exception):
         self.status, self.line, self.about = status, line, about
 
 
+def write_all(file: int, text: bytes) -> None:
+    """Writes a text to an open file. Raises OSError if not all of it can be written."""
+    left = memoryview(text)
+    while left:
+        left = left[os.write(file, left) :]
+
+
 def write_out(text: bytes) -> None:
     """Writes a text on standard output."""
-    left = memoryview(text)
     try:
-        if left and sys.stdout is None:
+        if text and sys.stdout is None:
             raise OSError("standard output was closed at the start")
-        while left:
-            left = left[os.write(1, left) :]
+        write_all(1, text)
     except OSError:
         raise Stopped(FAULT, "sas: write failed") from None
 

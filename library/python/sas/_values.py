@@ -147,6 +147,14 @@ class CostFacts(NamedTuple):
     cost_lines: int
 
 
+class UnknownStep(NamedTuple):
+    """A step whose name no operator has, and an operator that may be meant."""
+
+    number: int
+    name: bytes
+    similar_operator: Optional[SimilarOperator]
+
+
 class CouldAlsoBe(NamedTuple):
     """The first step for which a later operator of its name was applicable, too, and the first such operator."""
 
@@ -161,6 +169,7 @@ class Reasons(NamedTuple):
     Attributes:
         step: The step that fails.
         similar_operator: An operator that may be meant, if no operator has the step's name.
+        further_steps: Up to four of the other steps that name no operator, in their order.
         operators: The operators of the step's name, if none is applicable.
         goal_facts: The goal facts that fail.
         failing, total: How many steps name no operator, or how many goal facts fail; and of how many.
@@ -173,6 +182,7 @@ class Reasons(NamedTuple):
 
     step: Optional[NamedStep] = None
     similar_operator: Optional[SimilarOperator] = None
+    further_steps: Tuple[UnknownStep, ...] = ()
     operators: Tuple[BlockedOperator, ...] = ()
     goal_facts: Tuple[GoalFact, ...] = ()
     failing: Optional[int] = None
@@ -191,7 +201,7 @@ _INITIAL = re.compile(rb"initial (\d+) (\d+) (.*)\n")
 _STEP = re.compile(rb"^step \d+ (\d+) (\d+) (.*)\n((?:change .*\n)*)", re.MULTILINE)
 _CHANGE = re.compile(rb"^change (\d+) (\d+) (\d+) (.*)$", re.MULTILINE)
 _FAILING_STEP = re.compile(rb"  step (\d+) (.*)\n")
-_SIMILAR = re.compile(rb"^  similar operator (\d+) line (\d+) (.*)$", re.MULTILINE)
+_UNKNOWN = re.compile(rb"  step (\d+) (.*)\n(?:  similar operator (\d+) line (\d+) (.*)\n)?")
 _COUNTS = re.compile(rb"^  (\d+) of (\d+) ", re.MULTILINE)
 _OPERATOR = re.compile(rb"^  operator (\d+) line (\d+)\n((?:    .*\n)*)", re.MULTILINE)
 _GOAL_FACT = re.compile(rb"^  goal fact (\d+)\n((?:    .*\n)*)", re.MULTILINE)
@@ -232,14 +242,16 @@ def reasons_of(text: bytes) -> Optional[Reasons]:
     if not verdict.startswith(b"plan invalid: "):
         return Reasons(hint=hint, text=rest)
     step = _FAILING_STEP.match(rest) if verdict.startswith(b"plan invalid: step ") else None
-    similar, counts, cost = (it.search(rest) for it in (_SIMILAR, _COUNTS, _COST))
-    # the name of the failing step may look like this line
-    other = _COULD_ALSO_BE.search(rest, step.end() if step else 0)
+    unknown = list(_unknown_steps(rest)) if verdict.endswith(b": no operator of that name") else []
+    counts, cost = (it.search(rest) for it in (_COUNTS, _COST))
+    # the name of a step may look like this line
+    other = _COULD_ALSO_BE.search(rest, counts.end() if unknown and counts else step.end() if step else 0)
     operators = _OPERATOR.findall(rest)
     conflicts = verdict.endswith(b": conflicting effects")
     return Reasons(
         step=NamedStep(int(step[1]), step[2]) if step else None,
-        similar_operator=SimilarOperator(int(similar[1]), int(similar[2]), similar[3]) if similar else None,
+        similar_operator=unknown[0].similar_operator if unknown else None,
+        further_steps=tuple(unknown[1:]),
         operators=() if conflicts else tuple(BlockedOperator(int(it), int(line), _causes(block)) for it, line, block in operators),
         goal_facts=tuple(GoalFact(int(index), cause) for index, block in _GOAL_FACT.findall(rest) for cause in _causes(block)),
         failing=int(counts[1]) if counts else None,
@@ -250,6 +262,15 @@ def reasons_of(text: bytes) -> Optional[Reasons]:
         hint=hint,
         text=rest,
     )
+
+
+def _unknown_steps(lines: bytes) -> Iterator[UnknownStep]:
+    """Yields the steps at the front of the reasons that name no operator."""
+    found = _UNKNOWN.match(lines)
+    while found:
+        similar = SimilarOperator(int(found[3]), int(found[4]), found[5]) if found[3] else None
+        yield UnknownStep(int(found[1]), found[2], similar)
+        found = _UNKNOWN.match(lines, found.end())
 
 
 def _causes(block: bytes) -> Tuple[Cause, ...]:

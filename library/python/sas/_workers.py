@@ -4,14 +4,19 @@ from __future__ import annotations
 import contextlib
 import multiprocessing
 import os
+import pickle
 import selectors
 import signal
-from typing import Any, Callable, Dict, Generator, Generic, Iterable, Iterator, List, NoReturn, Sequence, TypeVar
+from typing import Any, Callable, Dict, Generator, Generic, Iterable, Iterator, List, NoReturn, Optional, Tuple, TypeVar
 
 from ._streams import FAULT, YES, said, write_error
 
 W = TypeVar("W")
 R = TypeVar("R")
+# how many works may be begun for each process, counted from the one whose results are taken
+_AHEAD = 4
+# what a process sends behind the results of a work; no result is sent so
+_END = b""
 
 
 @contextlib.contextmanager
@@ -91,84 +96,105 @@ def _close(ends: Iterable[Any]) -> None:
 
 
 def _do_next(do: Callable[[Any], Iterable[Any]], end: Any) -> None:
-    """Does the next work that is sent, and sends its results one by one, and then None."""
+    """Does the next work that is sent, and sends its results one by one, and then that this was all."""
     for result in do(end.recv()):
-        end.send(result)
-    end.send(None)
+        # `send` pickles for several forms of processes, which takes as long as all else of a plan
+        end.send_bytes(pickle.dumps(result, pickle.HIGHEST_PROTOCOL))
+    end.send_bytes(_END)
 
 
 class Team(Generic[W, R]):
     """Processes that do works.
 
     Attributes:
-        works: The works.
+        works: The works. They are asked for one by one, and few before the results of earlier ones were taken.
         do: What is done with each, and gives its results one by one.
-        lost: Gives the results that a work lacks because its process ended, by how many have come, and by the exit status of the process,
-            or the number of a signal with a sign in front.
+        lost: Says what becomes of a work whose process ended, by how many results have come, and by the exit status of the process, or the
+            number of a signal with a sign in front: results in place of some that it lacks, and a work for the others, if there are any.
     """
 
-    def __init__(self, works: Sequence[W], do: Callable[[W], Iterable[R]], lost: Callable[[W, int, int], Iterable[R]]) -> None:
-        self.works, self.do, self.lost = works, do, lost
-        self._next = 0
-        self._left = set(range(len(works)))
+    def __init__(
+        self,
+        works: Iterable[W],
+        do: Callable[[W], Iterable[R]],
+        lost: Callable[[W, int, int], Tuple[Iterable[R], Optional[W]]],
+    ) -> None:
+        self.works, self.do, self.lost = iter(works), do, lost
+        # the number of the work whose results are taken, and that of the next one
+        self._first = self._next = 0
+        self._has_more = True
+        self._again: List[Tuple[int, W]] = []
         self._come: Dict[int, List[R]] = {}
+        self._begun: Dict[int, W] = {}
         self._busy = selectors.DefaultSelector()
+        self._idle: List[_Process] = []
 
     def results(self, count: int) -> Generator[R, None, None]:
         """Yields the results of each work, in order, each as soon as it comes. So many processes work meanwhile."""
         # where this signal is ignored, nothing tells how a process ended
         signal.signal(signal.SIGCHLD, signal.SIG_DFL)
         try:
-            for _ in range(min(count, len(self.works))):
-                self._begin()
-            for number in range(len(self.works)):
-                yield from self._results_of(number)
+            self._begin(count)
+            while self._first < self._next:
+                yield from self._results_of(self._first, count)
+                self._first += 1
+                self._begin(count)
         finally:
             for process in self._processes():
                 process.kill()
             self._busy.close()
 
-    def _results_of(self, number: int) -> Iterator[R]:
+    def _results_of(self, number: int, count: int) -> Iterator[R]:
         """Yields the results of a work as they come."""
-        while number in self._left:
+        while number in self._begun:
             yield from self._come.pop(number, ())
             for key, _ in self._busy.select():
                 self._collect(key.data)
+                self._begin(count)
         yield from self._come.pop(number, ())
 
     def _processes(self) -> List[_Process]:
-        """Returns the processes that work."""
-        return [key.data for key in self._busy.get_map().values()]
+        """Returns all processes."""
+        return [key.data for key in self._busy.get_map().values()] + self._idle
 
-    def _begin(self) -> None:
-        """Begins a process if there is work for it."""
-        if self._next < len(self.works):
-            self._give_work(_Process(self.do, [process.end for process in self._processes()]))
+    def _begin(self, count: int) -> None:
+        """Gives works to so many processes, if there are works. Where there are no more, the others are ended."""
+        while len(self._busy.get_map()) < count and self._has_work(count):
+            number, work = self._again.pop()
+            self._begun[number] = work
+            process = self._idle.pop() if self._idle else _Process(self.do, [it.end for it in self._processes()])
+            self._busy.register(process.end, selectors.EVENT_READ, process)
+            process.give(number, work)
+        while self._idle and not self._has_more:
+            self._idle.pop().kill()
 
-    def _give_work(self, process: _Process) -> None:
-        """Sends a process its next work, or ends it."""
-        if self._next == len(self.works):
-            process.kill()
-            return
-        self._busy.register(process.end, selectors.EVENT_READ, process)
-        process.give(self._next, self.works[self._next])
-        self._next += 1
+    def _has_work(self, count: int) -> bool:
+        """Whether there is a work that may be begun. It is noted then."""
+        if not self._again and self._has_more and self._next - self._first < _AHEAD * count:
+            for work in self.works:
+                self._again.append((self._next, work))
+                self._next += 1
+                return True
+            self._has_more = False
+        return bool(self._again)
 
     def _collect(self, process: _Process) -> None:
-        """Takes a result of a process. One that has done its work gets another. One that has ended is replaced."""
+        """Takes a result of a process. One that has done its work is idle. One that has ended leaves what it lacks to another."""
         come = self._come.setdefault(process.work, [])
         try:
-            result = process.end.recv()
+            message = process.end.recv_bytes()
         except (EOFError, OSError):
             self._busy.unregister(process.end)
-            come.extend(self.lost(self.works[process.work], process.count, process.ended()))
-            self._left.remove(process.work)
-            self._begin()
+            results, left = self.lost(self._begun.pop(process.work), process.count, process.ended())
+            come.extend(results)
+            if left is not None:
+                self._begun[process.work] = left
+                self._again.append((process.work, left))
             return
-        if result is not None:
-            come.append(result)
+        if message != _END:
+            come.append(pickle.loads(message))
             process.count += 1
             return
         self._busy.unregister(process.end)
-        self._left.remove(process.work)
-        self._give_work(process)
+        del self._begun[process.work]
+        self._idle.append(process)

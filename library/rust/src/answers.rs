@@ -132,15 +132,19 @@ impl<'a> Reasons<'a> {
         }
         let mut line = Line::after("  ", line)?;
         match line.word()? {
-            // a step may have any name, so the first line about one is never the one about what it could also be
+            // a step may have any name, so before the line that counts them none is about what a step could also be
             b"step" if self.step.is_none() && verdict.starts_with(b"plan invalid: step ") => self.step = Some(line.step()?),
+            b"step" if self.total.is_none() && verdict.ends_with(b": no operator of that name") => {
+                self.further_steps.push(UnknownStep { step: line.step()?, similar_operator: None });
+            }
             b"step" => {
                 let step = line.number(" could also be operator ")?;
                 self.could_also_be = Some(CouldAlsoBe { step, operator: line.last()? });
             }
             b"similar" => {
                 let (operator, line, name) = (line.words("operator ")?.number(" line ")?, line.number(" ")?, line.name());
-                self.similar_operator = Some(SimilarOperator { operator, line, name });
+                let to = self.further_steps.last_mut().map_or(&mut self.similar_operator, |it| &mut it.similar_operator);
+                *to = Some(SimilarOperator { operator, line, name });
             }
             b"operator" => {
                 let (operator, line) = (line.number(" line ")?, line.last()?);

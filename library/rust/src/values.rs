@@ -166,6 +166,14 @@ pub struct CostFacts {
     pub cost_lines: u64,
 }
 
+/// A step whose name no operator has, and an operator that may be meant.
+#[derive(Clone, Copy, Debug, Default, PartialEq, Eq, Hash)]
+#[allow(missing_docs)]
+pub struct UnknownStep<'a> {
+    pub step: NamedStep<'a>,
+    pub similar_operator: Option<SimilarOperator<'a>>,
+}
+
 /// The first step for which a later operator of its name was applicable, too, and the first such operator.
 #[derive(Clone, Copy, Debug, Default, PartialEq, Eq, Hash)]
 #[allow(missing_docs)]
@@ -181,6 +189,8 @@ pub struct Reasons<'a> {
     pub step: Option<NamedStep<'a>>,
     /// An operator that may be meant, if no operator has the step's name.
     pub similar_operator: Option<SimilarOperator<'a>>,
+    /// Up to four of the other steps that name no operator, in their order.
+    pub further_steps: Vec<UnknownStep<'a>>,
     /// The operators of the step's name, if none is applicable.
     pub operators: Vec<BlockedOperator<'a>>,
     /// The effects that disagree.

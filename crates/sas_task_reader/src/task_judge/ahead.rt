@@ -2,6 +2,7 @@
 // effect. A list of these may be too long to be read at once. All other lines, and all faults, are left to `take`.
 ghost use Rattle.std.specs.Prelude.{◌≡◌, IfSome, IfNone};
 ghost use Rattle.sas_task_file.specs.declared.marks.Due.TheVariants as due;
+ghost use Rattle.sas_task_file.specs.declared.marks.What.TheVariants as what;
 ghost use Rattle.sas_task_file.specs.declared.places.Event.TheVariants as adds;
 ghost use Rattle.sas_task_file.specs.declared.places.Move.TheVariants as moves;
 ghost use Rattle.sas_task_file.specs.Tracker.{value_due};
@@ -17,7 +18,7 @@ impl TaskJudge {
     /// Accepts the name of a value.
     #[inline(always)]
     fn name_ahead<'a, E: LineEnd>(&mut self, bytes: &'a [u8]) -> Option<(Event, &'a [u8])>
-        requires { HasRow self.old.tracker due.Name adds.Value moves.Item }
+        requires { HasRow self.old.tracker (due.Name what.Value) adds.Value moves.Item }
         ensures some { IfSome result (λ a. MovesAhead self.old bytes.now self.new a.0 a.1.now) }
         ensures none { IfNone result (self.new ≡ self.old) }
     {

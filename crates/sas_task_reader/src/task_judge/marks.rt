@@ -28,7 +28,8 @@ impl TaskJudge {
     pub fn count(&self) -> Option<ListCount>
         ensures { result ≡ count_of self.now }
     {
-        self.counts.at(self.tracker.place)
+        self.counts
+            .at(self.tracker.place, self.tracker.ranges.len())
     }
 
     /// Returns the line after which all lines have been read, or `None` if no next line is the last one.

@@ -5,6 +5,6 @@ use Rattle.sas_answers.proofs.shown.show_each.Given as goal
 abbrev pub invariant-loop-byte : goal.invariant-loop-byte
 invariant-loop-byte l = record {
   length : length l.room ≡ length l.fn.room;
-  places : Places l.fn.room l.room 0 (flat_map (shown_byte l.plain) (take l.byte-index l.bytes)) l.end;
+  places : Places l.fn.room l.room 0 (flat_map shown_byte (take l.byte-index l.bytes)) l.end;
   short : l.end ≤ 4 * l.byte-index;
 }

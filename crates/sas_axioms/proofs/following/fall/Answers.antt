@@ -3,6 +3,7 @@ use Rattle.sas_axioms.proofs.Imports.{◌≡◌, ◌⊎◌, ℕ, ◌<◌, true, 
 use Rattle.sas_axioms.proofs.RulesOf.{rules_on, rule_under}
 use Rattle.sas_axioms.proofs.FallingSteps.{falling_passed, falling_fell, risen_from_fallen, fallen_is, less_in_the_end}
 use Rattle.sas_axioms.proofs.Tracking.{awaited_on, holding_when_zero, off_step}
+use Rattle.sas_axioms.proofs.SetVariables.{adds_none, adds_one}
 use Rattle.sas_axioms.proofs.following.fall.Goals as goal
 use Rattle.sas_axioms.proofs.following.fall.Given.{Over}
 use Rattle.sas_axioms.proofs.following.fall.Goals.{In-Some}
@@ -77,6 +78,8 @@ loop-rule-preserved-in-Continue-branch-2 g c =
       off = off_step p c.args.work.now.layer work.layer c.args.state.now s (set s (rule_at p rule).var (default_of p (rule_at p rule).var)) (rule_at p rule).var (default_of p (rule_at p rule).var) inv.same.layer inv.off is.on refl;
       falling = λ s0 falling. falling_fell p s0 s rule work _ c.make_ready.new.agenda c.set_to.new.work c.get.result.now (rw c.indexed.view_is at c.indexed.invariant).layered (inv.falling s0 falling) c.in-Some.ensures.some
           (omega (arith, within g i, b.track.state.one_each)) state c.in_ok-make_ready.ensures c.set_to.ensures.same moves all each;
+      changed = rw (c.in_ok-set_to.ensures.changed, var_is)
+          (adds_one p c.args.state.now s c.args.changed.now.items c.loop-rule.changed.items (rule_at p rule).var (default_of p (rule_at p rule).var) (within g i) inv.changed);
       left = inl (less work.agenda c.args.work.now.agenda c.set_to.new.work.agenda inv.left (let a = c.in-Some.ensures.left in let d = moves.left in let e = c.in_ok-make_ready.ensures.left in omega arith));
     }
 
@@ -95,6 +98,7 @@ loop-rule-preserved g c =
       state = inv.state;
       off = inv.off;
       falling = λ s0 falling. falling_passed p s0 s rule work _ _ (inv.falling s0 falling) c.in-Some.ensures.some holds c.in_ok-make_ready-2.ensures;
+      changed = inv.changed;
       left = inl (less work.agenda c.args.work.now.agenda c.make_ready-else-has_lost.new.self inv.left
           (let a = c.in-Some.ensures.left in let made = c.in_ok-make_ready-2.ensures in
           let r = ap length made.ready in let l = length-append c.take.new.self.ready.items (rule ∷ []) in let n = ap (λ h. length (heap_items h)) made.noted in let m = made.left in omega arith));
@@ -116,4 +120,4 @@ pub loop-rule-smaller : goal.loop-rule-smaller
 loop-rule-smaller g c = search (arith, length, length-append, heap_items)
 
 pub loop-rule-init : goal.loop-rule-init
-loop-rule-init g c = record { same = record { layer = refl; stack = refl; one_each = refl; sources = refl }; state = c.requires.falling.1.track.state; off = λ v off. refl; falling = λ s falling. falling; left = inr refl }
+loop-rule-init g c = record { same = record { layer = refl; stack = refl; one_each = refl; sources = refl }; state = c.requires.falling.1.track.state; off = λ v off. refl; falling = λ s falling. falling; changed = adds_none _ _ _; left = inr refl }

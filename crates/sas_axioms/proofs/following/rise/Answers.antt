@@ -2,6 +2,7 @@
 use Rattle.sas_axioms.proofs.Imports.{◌≡◌, ℕ, ◌<◌, true, List, length, get_or, set, refl, sym, ap, subst, ◌∙◌, arith, Change, rule_at, IsOnLayer, on_layer_within, length-set, get_or-set_other, differs, differs_true, IsRising, IsRuleOn, IsHolding}
 use Rattle.sas_axioms.proofs.RisingSteps.{rising_passed, rising_set, fires}
 use Rattle.sas_axioms.proofs.Tracking.{awaited_on, holding_when_zero, zero_when_holding, off_step, room_more}
+use Rattle.sas_axioms.proofs.SetVariables.{adds_one}
 use Rattle.sas_axioms.proofs.following.rise.Goals as goal
 use Rattle.sas_axioms.proofs.following.rise.Given.{Over}
 use Rattle.sas_axioms.proofs.following.rise.Goals.{In-Some}
@@ -70,6 +71,8 @@ loop-rule-preserved-then-has_to_set g c =
       off = off_step p c.args.work.now.layer work.layer c.args.state.now s (set s (rule_at p rule).var (rule_at p rule).new) (rule_at p rule).var (rule_at p rule).new inv.room.layer inv.off is.on refl;
       rising = λ s0 r. rising_set p s0 s rule work _ (rw c.indexed.view_is at c.indexed.invariant).ranged (rw c.indexed.view_is at c.indexed.invariant).layered (inv.rising s0 r) takes hold ne c.set_to.new.work
           (omega (arith, within g i, b.track.state.one_each)) (omega (arith, within g i, b.track.places)) same moves;
+      changed = rw (c.in_ok-set_to.ensures.changed, ap (λ (x : Change). x.var) e)
+          (adds_one p c.args.state.now s c.args.changed.now.items c.loop-rule.changed.items (rule_at p rule).var (rule_at p rule).new (within g i) inv.changed);
       left = let a = inv.left in let d = takes.left in let f = moves.left in omega arith;
     }
 
@@ -90,6 +93,7 @@ loop-rule-preserved g c =
       state = inv.state;
       off = inv.off;
       rising = λ s0 r. rising_passed p s0 s rule work _ (inv.rising s0 r) c.in-Some.ensures.some done;
+      changed = inv.changed;
       left = let a = inv.left in let d = c.in-Some.ensures.some.left in omega arith;
     }
 

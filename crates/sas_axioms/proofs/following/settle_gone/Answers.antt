@@ -1,6 +1,7 @@
 -- The layers are settled one by one.
-use Rattle.sas_axioms.proofs.Imports.{arith, ◌+◌, ◌≤◌, length, get_or, refl, sym, ap, subst, ◌∙◌, heap_items, IsOnLayer, SameOff, basic_off, entry_for, IsFalling}
+use Rattle.sas_axioms.proofs.Imports.{arith, ◌+◌, ◌≤◌, [], length, get_or, refl, sym, ap, subst, ◌∙◌, heap_items, IsOnLayer, SameOff, basic_off, entry_for, IsFalling}
 use Rattle.sas_axioms.proofs.RisingSteps.{falling_begins, between_again, followed_when_none}
+use Rattle.sas_axioms.proofs.SetVariables.{adds_none, adds_both, lists_derived}
 use Rattle.sas_axioms.proofs.following.settle_gone.Goals as goal
 use Rattle.sas_axioms.proofs.following.settle_gone.Given.{Over}
 use Rattle.sas_axioms.proofs.following.settle_gone.Goals.{In-Some}
@@ -28,6 +29,9 @@ returns-clause-followed g c =
     let b = c.loop-layer.invariant.between in
     followed_when_none c.args.indexed.now b.0 c.loop-layer.state b.1 c.loop-layer.work b.2 c.in_default.ensures.none
 
+pub returns-clause-changed : goal.returns-clause-changed
+returns-clause-changed g c = lists_derived c.args.indexed.now c.args.state.now c.loop-layer.state c.loop-layer.changed.items c.loop-layer.invariant.changed
+
 pub loop-layer-preserved : goal.loop-layer-preserved
 loop-layer-preserved g c =
     let p = c.args.indexed.now in
@@ -44,6 +48,8 @@ loop-layer-preserved g c =
       sources = c.rise.ensures.stands.sources ∙ (ap length c.fall.ensures.same.sources ∙ inv.sources);
       state = c.rise.ensures.state;
       basic = λ v basic. inv.basic v basic ∙ basic_off p layer c.loop-layer.state c.rise.new.state b.layered off v basic;
+      changed = adds_both p c.args.state.now c.loop-layer.state c.rise.new.state [] c.loop-layer.changed.items c.rise.new.changed.items inv.changed
+          (adds_both p c.loop-layer.state c.fall.new.state c.rise.new.state c.loop-layer.changed.items c.fall.new.changed.items c.rise.new.changed.items c.in_ok-fall.ensures.changed c.in_ok-rise.ensures.changed);
       between = (
         s0,
         layer + 1,
@@ -65,4 +71,4 @@ returns-in_err-rise-clause-basic g c v basic =
     ∙ basic_off c.args.indexed.now c.fall.new.work.layer c.fall.new.state c.rise.new.state layered c.rise.ensures.off v basic)
 
 pub loop-layer-init : goal.loop-layer-init
-loop-layer-init g c = record { stack = c.count_gone.ensures.same.stack; one_each = c.count_gone.ensures.same.one_each; sources = ap length c.count_gone.ensures.same.sources; state = c.requires.state; basic = λ v basic. refl; between = (c.in_ok-count_gone.ensures.between.0, 0, c.in_ok-count_gone.ensures.between.1) }
+loop-layer-init g c = record { stack = c.count_gone.ensures.same.stack; one_each = c.count_gone.ensures.same.one_each; sources = ap length c.count_gone.ensures.same.sources; state = c.requires.state; basic = λ v basic. refl; changed = rw c.clear.ensures.items (adds_none _ _ _); between = (c.in_ok-count_gone.ensures.between.0, 0, c.in_ok-count_gone.ensures.between.1) }

@@ -1,5 +1,5 @@
 -- The layers so far are settled.
-use Rattle.sas_axioms.proofs.Imports.{◌≡◌, ℕ, List, length, IsState, SameBasic, work_left, IsBetween}
+use Rattle.sas_axioms.proofs.Imports.{◌≡◌, ℕ, List, [], length, IsState, SameBasic, work_left, AddsChanged, IsBetween}
 use Rattle.sas_axioms.proofs.following.settle_gone.Given as goal
 
 abbrev pub invariant-loop-layer : goal.invariant-loop-layer
@@ -9,6 +9,7 @@ invariant-loop-layer g l = record {
   sources : length l.work.sources ≡ length l.fn.work.sources;
   state : IsState l.indexed.variables l.state;
   basic : SameBasic l.indexed l.fn.state l.state;
+  changed : AddsChanged l.indexed l.fn.state l.state [] l.changed.items;
   between : (s : List ℕ) × (from : ℕ) × IsBetween l.indexed s from l.state l.work;
 }
 

@@ -1,6 +1,6 @@
-use Rattle.sas_c.proofs.Imports.{[]}
-use Rattle.sas_c.proofs.Returned.{invariants_why_reported}
+use Rattle.sas_c.proofs.Imports.{[], explained}
+use Rattle.sas_c.proofs.Returned.{invariants_reported}
 use Rattle.sas_c.proofs.requests.sas_mutex_why.Goals as goal
 
 pub returns-clause-invariants : goal.returns-clause-invariants
-returns-clause-invariants c = invariants_why_reported c.args.task.now [] _ _ _ _ c.answer_call.ensures
+returns-clause-invariants c = invariants_reported explained c.args.task.now [] _ _ _ _ c.answer_call.ensures

@@ -1,6 +1,6 @@
 -- All bytes were fed to the reader.
-use Rattle.sas_plan_file.proofs.Imports.{[], Ok, Err, sym, ap, subst, ◌∙◌, Fault, ConcernsText, ReadsAs, most_bytes, IsRefused, end_fault, reported_by, explains, plan_format, PlanLineFits, plan_node, plan_start, plan_behavior, fault_of, found_of, TellsLineEnd}
-use Rattle.sas_plan_file.proofs.PlanEnds.{tells_line_end}
+use Rattle.sas_plan_file.proofs.Imports.{[], Ok, Err, sym, ap, subst, ◌∙◌, Fault, ConcernsText, ReadsAs, most_bytes, IsRefused, end_fault, reported_by, explains, plan_format, PlanLineFits, plan_node, plan_start, plan_behavior, fault_of, found_of, TellsLacks}
+use Rattle.sas_plan_file.proofs.PlanEnds.{tells_lacks}
 use Rattle.sas_plan_file.proofs.PlanGrammar.{plan_grammar}
 use Rattle.sas_plan_file.proofs.PlanStanding.{plan_follows, read_plan_parts}
 use Rattle.sas_plan_file.proofs.plan.flat_plan_of.Goals as goal
@@ -33,6 +33,6 @@ returns-in-Err-clause-explained c =
     let same = c.of.ensures.fault in
     λ is_reported.
     let reported = subst (λ (f : Fault). ConcernsText f.kind) same is_reported in
-    explains plan_format PlanLineFits plan_node plan_start plan_grammar plan_behavior plan_follows fault_of found_of TellsLineEnd r _ same c.of.ensures.found (λ a t s f. tells_line_end plan_behavior plan_follows r.fault.kind r.machine c.of.result (ap (λ (f : Fault). f.kind) same) a t (c.of.ensures.lacks t f) s) bytes
+    explains plan_format PlanLineFits plan_node plan_start plan_grammar plan_behavior plan_follows fault_of found_of TellsLacks r _ same c.of.ensures.found (λ a t s f. tells_lacks plan_behavior plan_follows r.fault.kind r.machine c.of.result (ap (λ (f : Fault). f.kind) same) a t (c.of.ensures.line_end t f) (c.of.ensures.cost_line t f) s) bytes
     (reported_by plan_format PlanLineFits plan_node plan_start plan_grammar plan_behavior plan_follows most_bytes bytes r reported
     (subst (λ n. IsRefused plan_behavior n bytes r) limit (c.in-Err.ensures.refused.fault reported.2 bytes stands)))

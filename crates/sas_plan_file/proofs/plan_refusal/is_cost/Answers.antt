@@ -1,13 +1,13 @@
-use Rattle.sas_plan_file.proofs.Imports.{◌≡◌, true, false, ap, subst, ◌∙◌, arith, IsTrue, ◌↔◌, without_return, IsCostLine}
-use Rattle.sas_plan_file.proofs.PlanEnds.{whole_text, long_text}
+use Rattle.sas_plan_file.proofs.Imports.{ap, subst, sym, ◌∙◌, ℕ, List, IsTrue, ◌↔◌, without_return, IsCostLine, Kept}
+use Rattle.sas_plan_file.proofs.PlanEnds.{kept_cost, cost_kept}
 use Rattle.sas_plan_file.proofs.plan_refusal.is_cost.Goals as goal
 
-pub returns-then-not-has_more : goal.returns-then-not-has_more
-returns-then-not-has_more c = λ text is.
-    let whole : c.args.found.now.more ≡ false = grind (arith, c.has_more.ensures, c.if-not-has_more.true) in
-    subst (λ line. IsTrue c.is_cost_line.result ↔ IsCostLine line) (c.without_return.ensures ∙ ap without_return (c.bytes.ensures ∙ whole_text text c.args.found.now is whole)) c.is_cost_line.ensures
-
-pub returns-else-not-has_more : goal.returns-else-not-has_more
-returns-else-not-has_more c = λ text is.
-    let more : c.args.found.now.more ≡ true = grind (arith, c.has_more.ensures, c.if-not-has_more.false) in
-    (λ t. absurd (let apart : true ≡ false = grind (arith, c.if-not-has_more.false) in cc), λ cost. absurd (long_text text c.args.found.now is more cost))
+pub returns : goal.returns
+returns c = λ text found.
+    let front = ap (λ (k : Kept). k.front) found.kept in
+    let bytes = c.bytes.ensures ∙ front in
+    let line = c.without_return.ensures in
+    let told = subst (λ (l : List ℕ). IsTrue c.is_cost_line.result ↔ IsCostLine l) line c.is_cost_line.ensures in (
+      λ t. subst (λ (l : List ℕ). IsCostLine (without_return l)) (kept_cost text c.bytes.result.now bytes (told.0 t)) (told.0 t),
+      λ cost. told.1 (subst (λ (l : List ℕ). IsCostLine (without_return l)) (sym (cost_kept text c.bytes.result.now bytes cost)) cost),
+    )

@@ -24,8 +24,8 @@ conflicting-requires-clause-disagree g c = λ agree.
     conflict_clashes p plan run c.in-Conflict.step c.in-Conflict.operator c.task.ensures.layered r.through e.1 e.0
     (subst (λ (s : List ℕ). Agree s (operator_at p c.in-Conflict.operator).effects) r.last agree)
 
-pub unknown-requires-clause-nameless : goal.unknown-requires-clause-nameless
-unknown-requires-clause-nameless g c = c.requires.1.nameless
+pub unknown-requires : goal.unknown-requires
+unknown-requires g c = c.requires.1.nameless
 
 pub costs-requires : goal.costs-requires
 costs-requires g c = search (arith, operators_exist)

@@ -1,10 +1,10 @@
 -- The lines of the unknown step are all reasons.
-use Rattle.sas_plan_reasons.proofs.Imports.{refl, sym, subst, inr, arith, IsWhy, NoOperator, output_of, fault_words, invalid_line, worded}
+use Rattle.sas_plan_reasons.proofs.Imports.{refl, sym, subst, inr, IsWhy, NoOperator, output_of, fault_words, invalid_line, worded}
 use Rattle.sas_plan_reasons.proofs.Behind.{unknown_why}
 use Rattle.sas_plan_reasons.proofs.writing.explain_unknown.Goals as goal
 
-pub unknown-requires-clause-step : goal.unknown-requires-clause-step
-unknown-requires-clause-step c = (let comes = c.requires.run.1.ends.0.2 in omega (arith, comes.place))
+pub unknown-requires : goal.unknown-requires
+unknown-requires c = c.in_ok-nameless.ensures c.args.named.now.plan.now.steps c.requires.named.names.firsts
 
 pub returns : goal.returns
 returns c =

@@ -37,7 +37,7 @@ returns-clause-retraced g c =
       record {
         through = through;
         ends = ends;
-        nameless = c.nameless.ensures named.plan.now.steps c.requires.named.names.firsts;
+        nameless = c.in_ok-nameless.ensures named.plan.now.steps c.requires.named.names.firsts;
         operators = sym are;
         last = goes_one_way p c.requires.prepared.layered c.as_slice.result.now c.replay.new.state (last_state run) c.replay.ensures.through (subst (λ os. GoesThrough p os (last_state run)) same last);
         since = rw c.into_parts-since.ensures.since (seen.since run through same);

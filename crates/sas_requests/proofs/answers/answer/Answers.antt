@@ -1,31 +1,25 @@
-use Rattle.sas_requests.proofs.Imports.{refl, sym, ◌∙◌, Show, Print, Check, Mutex, detail_of, task_format, ShowAnswer, PrintAnswer, TaskBy, CheckBy, MutexBy}
-use Rattle.sas_requests.proofs.RequestEnds.{of_task, of_steps}
+use Rattle.sas_requests.proofs.Imports.{Out, OutBy, SendsLine, ends_by, exact_ends}
+use Rattle.sas_requests.proofs.RequestEnds.{headline_reported, invariants_reported}
+use Rattle.sas_requests.proofs.SaidOutputs.{headline_said, invariants_said}
+use Rattle.sas_requests.proofs.ShortOutputs.{short_output}
 use Rattle.sas_requests.proofs.answers.answer.Goals as goal
 
-pub returns-in-Show : goal.returns-in-Show
-returns-in-Show g c =
-    let detail = detail_of c.args.question in
-    rw (sym c.request.ensures ∙ c.in-Show.is) (of_task _ _ _ _ _ detail Show refl (TaskBy detail ShowAnswer) (λ b c o out. out) _ _ _ c.answer_show.result c.requires.plan (rw (c.detail-detail.ensures) at c.answer_show.ensures))
+pub returns-clause-answers : goal.returns-clause-answers
+returns-clause-answers g c = c.answer_request.ensures
 
-pub returns-in-Print : goal.returns-in-Print
-returns-in-Print g c =
-    let detail = detail_of c.args.question in
-    rw (sym c.request.ensures ∙ c.in-Print.is) (of_task _ _ _ _ _ detail Print refl (TaskBy detail (PrintAnswer task_format)) (λ b c o out. out) _ _ _ c.answer_print.result c.requires.plan (rw (c.detail-detail.ensures) at c.answer_print.ensures))
+pub returns-clause-plain : goal.returns-clause-plain
+returns-clause-plain g c = λ b c' inputs plain.
+    let asked = c.args.question in
+    exact_ends (Out asked.request b c') _ (short_output asked.request b c') _ (ends_by _ (OutBy asked.detail asked.request b c') (Out asked.request b c') _ plain (c.answer_request.ensures.ends.output b c' inputs))
 
-pub returns-in-Check : goal.returns-in-Check
-returns-in-Check g c =
-    let detail = detail_of c.args.question in
-    rw (sym c.request.ensures ∙ c.in-Check.is) (of_task _ _ _ _ _ detail Check refl (TaskBy detail (CheckBy detail)) (λ b c o out. out) _ _ _ c.answer_check.result c.requires.plan (rw (c.detail-detail.ensures) at c.answer_check.ensures))
+pub returns-clause-headline : goal.returns-clause-headline
+returns-clause-headline g c =
+    let asked = c.args.question in
+    let old = g.W.Write.contents c.args.out.now.device in
+    let new = g.W.Write.contents c.answer_request.new.out.device in
+    headline_reported (OutBy asked.detail) asked.request _ _ old new (SendsLine asked.detail.trace old new) (λ b c' o out. headline_said asked.detail b c' o out old new) c.answer_request.result c.answer_request.ensures.ends.output
 
-pub returns-in-Mutex : goal.returns-in-Mutex
-returns-in-Mutex g c =
-    let detail = detail_of c.args.question in
-    rw (sym c.request.ensures ∙ c.in-Mutex.is) (of_task _ _ _ _ _ detail Mutex refl (TaskBy detail (MutexBy detail)) (λ b c o out. out) _ _ _ c.answer_mutex.result c.requires.plan (rw (c.detail-detail.ensures) at c.answer_mutex.ensures))
-
-pub returns-in-Steps : goal.returns-in-Steps
-returns-in-Steps g c =
-    rw (sym c.request.ensures ∙ c.in-Steps.is) (of_steps _ _ _ _ _ (detail_of c.args.question) _ _ _ c.answer_steps.result c.requires.task (rw (c.detail-detail.ensures) at c.answer_steps.ensures))
-
-pub returns-in-Plan : goal.returns-in-Plan
-returns-in-Plan g c =
-    rw (sym c.request.ensures ∙ c.in-Plan.is) (rw c.detail-detail.ensures at c.answer_plan_files.ensures)
+pub returns-clause-invariants : goal.returns-clause-invariants
+returns-clause-invariants g c =
+    let asked = c.args.question in
+    invariants_reported (OutBy asked.detail) asked.request _ (g.P.Read.remaining c.args.plan.now.device) _ _ (invariants_said asked.detail) c.answer_request.result c.answer_request.ensures.ends.output

@@ -2,8 +2,5 @@ use Rattle.sas_requests.proofs.Imports.{arith}
 use Rattle.sas_requests.proofs.FileEnds.{writes_plainly}
 use Rattle.sas_requests.proofs.refusals.write_task_refusal.Goals as goal
 
-pub returns-in-Plain-clause-answers : goal.returns-in-Plain-clause-answers
-returns-in-Plain-clause-answers g c = search (arith, writes_plainly)
-
 pub returns-clause-answers : goal.returns-clause-answers
 returns-clause-answers g c = search (arith, writes_plainly)

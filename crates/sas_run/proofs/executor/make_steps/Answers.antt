@@ -1,7 +1,8 @@
 -- One more step succeeds or fails.
 use Rattle.sas_run.proofs.Imports.{[], ◌∷◌, ◌++◌, ◌<◌, length-append, arith}
+use Rattle.std.proofs.lemmas.Option.{IfSome_then}
 use Rattle.sas_run.proofs.GoingByNumbers.{makes_one_more}
-use Rattle.sas_run.proofs.Observing.{told_next}
+use Rattle.sas_run.proofs.Observing.{told_next, lists_last}
 use Rattle.sas_run.proofs.executor.make_steps.Goals as goal
 
 pub observe-requires : goal.observe-requires
@@ -14,6 +15,8 @@ observe-requires g c =
         c.args.observer.now,
         inv.operators,
         told_next p (g.C.Chooser.means c.args.chooser.now p) inv.at.prepared.layered _ _ _ _ _ _ _ _ c.requires.observer inv.makes inv.one_each within inv.sees (rw c.in-Ok.is at c.make_plan_step.ensures.makes),
+        IfSome_then c.changed_by-derived.result c.changed_by-derived.ensures (λ listed has. lists_last p inv.at.prepared.layered inv.operators c.loop-before.state c.make_plan_step.new.state listed.now
+            inv.makes.through ((rw c.in-Ok.is at c.make_plan_step.ensures.changed) listed.now has)),
       );
     }
 

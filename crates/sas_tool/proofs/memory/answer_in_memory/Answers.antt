@@ -21,6 +21,6 @@ pub returns : goal.returns
 returns g c = λ before not_input not_input' other call ew.
     let first = c.args.files.first.0.now in
     let second = c.args.files.second.0.now in
-    c.answer_words.ensures.headline first second c.args.files.first.1.now c.args.files.second.1.now before call
+    c.answer_words.ensures.headline false first second c.args.files.first.1.now c.args.files.second.1.now before call
     (rw (differs first (codes "-") not_input, same first) refl)
     (rw (differs second (codes "-") not_input', differs second first other, same second) refl) ew

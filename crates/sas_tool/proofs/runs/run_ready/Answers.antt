@@ -1,7 +1,7 @@
 use Rattle.std.proofs.Common.{inl, refl}
 use Rattle.std.proofs.lemmas.Result.{IfOk-weaker}
 use Rattle.sas_tool.specs.Files.{input_left, source_held}
-use Rattle.sas_tool.proofs.Running.{left_is, never, says_of}
+use Rattle.sas_tool.proofs.Running.{invariants_said, left_is, never, says_of}
 use Rattle.sas_tool.proofs.runs.run_ready.Goals as goal
 
 pub returns-clause-ran : goal.returns-clause-ran
@@ -22,4 +22,6 @@ returns-clause-ran g c =
       no_plan = λ b et e. absurd (never left plan_held c.in-Some-open.plan c.in-Some-open.ensures e);
       says = λ about b p before et ep ew. says_of b p _ result (IfOk-weaker result _ _ (λ status h. h b p before (left_is left task_held c.in-Some.task b c.in-Some.ensures et)
           (left_is left plan_held c.in-Some-open.plan p c.in-Some-open.ensures ep) ew) (c.answer_opened-result.ensures.headline about));
+      invariants = λ about b before et ew less. invariants_said _ result
+          (IfOk-weaker result _ _ (λ status h. h b before (left_is left task_held c.in-Some.task b c.in-Some.ensures et) ew) (c.answer_opened-result.ensures.invariants about)) less;
     }

@@ -13,4 +13,4 @@ pub returns : goal.returns
 returns c =
     let plan : IsCommand plan_app c.in_ok-plan.plan = c.in_ok-plan.ensures top_app _ c.program.ensures c.plan_request.ensures in
     let plans : IsCommand plans_app c.in_ok-plans.plans = c.in_ok-plans.ensures plan_app _ plan c.plans_request.ensures in
-    c.add-3.ensures plans_app _ plans c.trace_request.ensures
+    c.add-3.ensures plans_app _ plans c.plan_request-2.ensures

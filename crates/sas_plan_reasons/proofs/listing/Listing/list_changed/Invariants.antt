@@ -8,7 +8,6 @@ invariant-loop-start l = record {
   within : l.start ≤ l.variables;
   below : ListsBelow l.before l.after l.start l.self.vars.items;
   room : vec_capacity l.fn.self.vars ≤ vec_capacity l.self.vars;
-  basic : l.self.basic ≡ l.fn.self.basic;
   few : l.self.few ≡ l.fn.self.few;
 }
 

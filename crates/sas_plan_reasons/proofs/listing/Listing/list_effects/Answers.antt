@@ -14,7 +14,7 @@ loop-effect-preserved g c =
     let items = rw c.unwrap.ensures at c.push.ensures.items in
     let is : var ≡ (effect_at o effect).var = ap (λ (change : Change). change.var) (rw c.task-task.ensures.task at c.effect_change.ensures) in
     record {
-      list = record { basic = inv.list.basic; few = inv.list.few; room = omega (arith, inv.list.room, c.push.ensures.capacity) };
+      list = record { few = inv.list.few; room = omega (arith, inv.list.room, c.push.ensures.capacity) };
       many = ap length items ∙ (length-append old (var ∷ []) ∙ ap (λ n. n + 1) inv.many);
       exist = rw items (All-push (λ (v : ℕ). v < length p.variables) old var inv.exist (rw is (effect_within p c.task-task.ensures.well_ranged c.args.operator c.requires.operator effect within)));
       each = λ k lt. rw items (elim (cases_eq k effect) [

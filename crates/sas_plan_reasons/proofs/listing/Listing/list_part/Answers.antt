@@ -14,7 +14,6 @@ loop-var-preserved c =
       | then-before-var w ↦ rw w.self-is (record {
         below = rw (rw w.unwrap.ensures at w.push.ensures.items) (lists_next before after var c.loop-var.self.vars.items inv.below);
         room = omega (arith, inv.room, w.push.ensures.capacity);
-        basic = inv.basic;
         few = inv.few;
       })
       | else-before-var w ↦
@@ -22,7 +21,6 @@ loop-var-preserved c =
           rw w.self-is (record {
             below = lists_same before after var (var + 1) c.loop-var.self.vars.items (omega arith) inv.below (λ k le lt. (let is : k ≡ var = omega (arith, le, lt) in rw is same));
             room = inv.room;
-            basic = inv.basic;
             few = inv.few;
           })
     ]

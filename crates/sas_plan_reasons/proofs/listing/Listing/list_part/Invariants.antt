@@ -7,6 +7,5 @@ abbrev pub invariant-loop-var : goal.invariant-loop-var
 invariant-loop-var l = record {
   below : ListsBelow l.before l.after l.var l.self.vars.items;
   room : vec_capacity l.fn.self.vars ≤ vec_capacity l.self.vars;
-  basic : l.self.basic ≡ l.fn.self.basic;
   few : l.self.few ≡ l.fn.self.few;
 }

@@ -19,7 +19,7 @@ returns-in-Err-clause-advances g c =
     let fed = c.in_ok-fed.ensures in
     stops g.M.Machine.behavior _ _ _ _ refl refl (stopped_at g.M.Machine.behavior c.args.self.now _ c.args.piece.now c.line.result.now c.in_ok-fed.fed.taken c.in_ok-fed.fed.complete c.feed.new.self _ c.requires.some c.requires.going c.if-not-fed.false
     (record { taken = fed.taken; lines = fed.lines; rest = fed.pending }) c.line.ensures c.requires.room c.in-Err.ensures.kind c.in-Err.ensures.rejects c.in-Err.ensures.stopped
-    (subst (λ (x : List ℕ). IsFoundOf x c.of-self.result) (c.line-in-Err.ensures ∙ sym c.line.ensures) c.of-self.ensures) refl)
+    (subst (λ (x : List ℕ). IsFoundOf c.in-Err.kind x c.of-self.result) (c.line-in-Err.ensures ∙ sym c.line.ensures) c.of-self.ensures) refl)
 
 pub returns-in-Ok-clause-advances : goal.returns-in-Ok-clause-advances
 returns-in-Ok-clause-advances g c =

@@ -9,6 +9,6 @@ returns g c =
         so_far = so_far;
         leads = record { items = []; after = ap (λ (t : Tracker). let x : TaskState = record { tracker = t; so_far = so_far } in x) (sym c.new.ensures.tracker); spells = refl };
         kept = c.requires.1;
-        counts = record { section = ap (λ (d : Counts). d.section) c.new.ensures.counts; here = ap (count_at _) c.new.ensures.counts };
+        counts = record { section = ap (λ (d : Counts). d.section) c.new.ensures.counts; here = ap (count_at _ _) c.new.ensures.counts };
       };
     }
