@@ -64,6 +64,17 @@ class Browser:
     def picture(self):
         return base64.b64decode(self.command("TakeScreenshot", "GET", "screenshot", None))
 
+    def darken(self, is_dark):
+        """Sets whether a reader prefers the dark, and waits until the page has drawn itself so."""
+        self.prefer_dark(is_dark)
+        self.run("""const isDark = arguments[0], frame = () => new Promise(requestAnimationFrame);
+            const agrees = () => matchMedia("(prefers-color-scheme: dark)").matches === isDark;
+            return (async () => { do { await frame(); await frame(); } while (!agrees()); await frame(); return 1; })()""", is_dark)
+
+    def prefer_dark(self, is_dark):
+        """Sets whether a reader prefers the dark; the page may learn of it later."""
+        raise NotImplementedError
+
     def printed(self):
         """Returns a PDF file of the page."""
         options = {"orientation": "landscape", "background": True}
@@ -114,7 +125,7 @@ class Chromium(Browser):
     def command(self, _, method, path, body):
         return self.request(method, "/" + path, body)
 
-    def darken(self, is_dark):
+    def prefer_dark(self, is_dark):
         self.prefer("prefers-color-scheme", "dark" if is_dark else "light")
 
     def prefer(self, name, value):
@@ -186,7 +197,7 @@ class Firefox(Browser):
         finally:
             self.send("Marionette:SetContext", {"value": "content"})
 
-    def darken(self, is_dark):
+    def prefer_dark(self, is_dark):
         self.chrome(f"Services.prefs.setIntPref('layout.css.prefers-color-scheme.content-override', {0 if is_dark else 1})")
 
     def resize(self, width, height, zoom=1):
