@@ -14,11 +14,22 @@ import time
 import urllib.error
 import urllib.request
 
+from harness import differs
+
 KEYS = {"Enter": "\ue007", "Escape": "\ue00c", "PageUp": "\ue00e", "PageDown": "\ue00f", "End": "\ue010", "Home": "\ue011",
         "ArrowLeft": "\ue012", "ArrowUp": "\ue013", "ArrowRight": "\ue014", "ArrowDown": "\ue015", "Tab": "\ue004", "Control": "\ue009"}
-# how long a command and the start of a browser may take, in seconds
-SECONDS = 120
+# how long a command and the start of a browser may take, and what a page should do, in seconds: much, as the machine may have other work
+SECONDS, SOON = 600, 300
 WIDTH, HEIGHT = 1400, 1143
+
+
+def comes(what, find, expected, seconds=SOON):
+    """Waits until something is as expected, since a browser follows a key, an address, a wheel or a preference when it likes. Returns
+    what is wrong where it never is."""
+    end = time.monotonic() + seconds
+    while (found := find()) != expected and time.monotonic() < end:
+        time.sleep(0.02)
+    return differs(found, expected, what)
 
 
 class Browser:
@@ -148,7 +159,9 @@ class Firefox(Browser):
             file.write('user_pref("marionette.port", 0);\nuser_pref("datareporting.policy.dataSubmissionEnabled", false);\n'
                        'user_pref("app.update.enabled", false);\nuser_pref("browser.shell.checkDefaultBrowser", false);\n'
                        'user_pref("browser.download.folderList", 2);\nuser_pref("browser.download.alwaysOpenPanel", false);\n'
-                       f'user_pref("browser.download.dir", "{folder}");\n')
+                       f'user_pref("browser.download.dir", "{folder}");\n'
+                       # where a page answers late, the wheel would zoom it
+                       'user_pref("mousewheel.with_control.action", 0);\n')
         self.downloads = folder
         words = ["firefox", "--headless", "--marionette", "--no-remote", "--remote-allow-system-access", "--profile", folder]
         environment = {**os.environ, "HOME": folder, "MOZ_HEADLESS_WIDTH": str(WIDTH), "MOZ_HEADLESS_HEIGHT": str(HEIGHT)}
@@ -169,17 +182,25 @@ class Firefox(Browser):
     def receive(self):
         size = b""
         while not size.endswith(b":"):
-            size += self.socket.recv(1)
+            size += self.read(1)
         data = b""
         while len(data) < int(size[:-1]):
-            data += self.socket.recv(int(size[:-1]) - len(data))
+            data += self.read(int(size[:-1]) - len(data))
         return json.loads(data)
+
+    def read(self, most):
+        held = self.socket.recv(most)
+        if not held:
+            raise RuntimeError("Firefox has ended")
+        return held
 
     def send(self, name, parameters):
         self.count += 1
         packet = json.dumps([0, self.count, name, parameters]).encode()
         self.socket.sendall(b"%d:%s" % (len(packet), packet))
-        _, _, fault, result = self.receive()
+        answered = 0
+        while answered != self.count:  # or it answers a command that wasn't waited for
+            _, answered, fault, result = self.receive()
         if fault:
             raise RuntimeError(fault["message"])
         return result.get("value", result) if isinstance(result, dict) else result

@@ -310,11 +310,16 @@ def verdict_cases():
 
 
 def why_cases():
-    """Yields the plans of why.json, with reasons. They could show a text that isn't that of the program."""
+    """Yields the plans of why.json, with reasons, alone and as one of many. They could show a text that isn't that of the program."""
     for name, task, plan, lines in written_plans():
-        status = "Yes" if lines[0].startswith("plan valid") else "No"
+        valid = lines[0].startswith("plan valid")
+        status = "Yes" if valid else "No"
         answer = with_ends([f"Ok({status})", *lines, ""])
         yield case(REQUESTS, "run plan-why", ["|", plan, "|", task], answer, name)
+        best = f", best cost {lines[0].rpartition(' ')[2]}: p" if valid else ""
+        said = [f"Ok({status})", f"p: {lines[0]}", *lines[1:], f"1 plans, {int(valid)} valid{best}", ""]
+        yield case(REQUESTS, "judge why", ["|p:", plan, "|", task], with_ends(["open 0", *said]), name)
+        yield case(REQUESTS, "judge-slices why", ["p:", plan, "|", task], with_ends(said), name)
 
 
 def random_calls():

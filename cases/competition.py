@@ -580,9 +580,9 @@ def once_tests(_, sas, folder):
     counts, made = collections.Counter(), judging.Task
 
     class Counted(made):
-        def __init__(self, content):
+        def _read(self, content):
             counts["read"] += 1
-            super().__init__(content)
+            super()._read(content)
 
     judging.Task = Counted
     try:
@@ -614,7 +614,7 @@ def killing(call):
             os.kill(os.getpid(), 9)
         return call(*words)
     return called
-it.Task = type("Task", (sas.Task,), {{"__init__": killing(sas.Task.__init__), "plan": killing(sas.Task.plan)}})
+it.Task = type("Task", (sas.Task,), {{"_read": killing(sas.Task._read), "plan": killing(sas.Task.plan)}})
 """
 
 

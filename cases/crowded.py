@@ -147,6 +147,20 @@ def excluded(size):
     return facts_task(size + 2, groups=groups, operators=[("go", [(0, 0)], [setting(1)], 1)] * size), ["Exclusive"] * (size + 1)
 
 
+def one_variable(size):
+    """A group of the values of one variable, and an operator that sets each of them."""
+    group = [(0, value) for value in range(size)]
+    return task_with([size + 1], defaults=[size], groups=[group], operators=[("go", [], [setting(0, value) for _, value in group], 1)]), ["Exclusive"]
+
+
+def left(size):
+    """A large group, of which each operator sets one fact of its own. Each fact is in a group with the fact that all operators require as
+    an old value and remove, so that none of the others holds when one is applied."""
+    own = [(var, 0) for var in range(1, size + 1)]
+    operators = [("go", [], [([], 0, 0, 1), setting(var)], 1) for var, _ in own]
+    return facts_task(size + 1, groups=[own, *([(0, 0), fact] for fact in own)], operators=operators), ["Exclusive"] * (size + 1)
+
+
 def parted(size):
     """The same, and one operator more, the last, which sets two facts of the large group."""
     task, verdicts = excluded(size)

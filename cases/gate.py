@@ -41,6 +41,7 @@ CASES = [
         ["cases/library_calls.py", "sas", "library/out"],
         ["cases/library_wrappers.py", "sas", "library/out"],
         ["cases/library_tasks.py", "sas", "library/out"],
+        ["cases/library_costs.py", "library/out"],
         ["cases/operators.py", "library/out"],
         ["cases/values.py"],
         ["cases/python.py", "sas", "library/out"],

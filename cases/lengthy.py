@@ -34,6 +34,10 @@ def blocked(step, name):
     return [f"plan invalid: step {step}: not applicable", f"  step {step} {name}"]
 
 
+# what follows if the last step is made anyway, in a task without a goal
+LAST = ["  if made anyway 0 of 0 later steps fail", "  if made anyway 0 of 0 goal facts fail"]
+
+
 def at_operator(task, place):
     """The line of an operator, without its name."""
     return f"  operator {place} line {operator_line(task, place)}"
@@ -63,7 +67,18 @@ def long_blocked(size):
     names = ["set", *["turn"] * turns, "stay"]
     first = [*requires(0, 1, 0, f"step {turns + 1} turn"), *requires(1, 0, 1, "step 1 set"), *requires(2, 1, 0)]
     task = task_with([2] * 3, operators=operators)
-    return task, names, 0, [*blocked(turns + 2, "stay"), at_operator(task, 2), *first]
+    return task, names, 0, [*blocked(turns + 2, "stay"), at_operator(task, 2), *first, *LAST]
+
+
+def long_anyway(size):
+    """So many steps behind one that isn't applicable, every other of which isn't either."""
+    operators = [turning("turn", 0), ("stay", [(1, 1)], [], 1)]
+    task = task_with([2, 2], goal=[(0, 1)], operators=operators)
+    failing = range(2, size + 2, 2)
+    lines = [*blocked(1, "stay"), at_operator(task, 1), *requires(1, 1, 0), f"  if made anyway {len(failing)} of {size} later steps fail"]
+    lines += [f"    step {step} stay" for step in failing[:5]]
+    lines.append(f"  if made anyway {1 - size // 2 % 2} of 1 goal facts fail")
+    return task, ["stay", *(["stay", "turn"] * size)[:size]], 0, lines
 
 
 def long_missed(size):
@@ -92,7 +107,7 @@ def long_settled(size):
     names = [*["idle"] * size, "main", "dark", "idle", "main", "idle", "dark"]
     given = [derives(rule, rule + 2) for rule in range(depth)]
     cause = requires(depth + 1, 0, 1, f"step {size + 4} main")
-    return task, names, 0, [*blocked(size + 6, "dark"), at_operator(task, 2), *cause, *given]
+    return task, names, 0, [*blocked(size + 6, "dark"), at_operator(task, 2), *cause, *given, *LAST]
 
 
 def long_lit(size):
@@ -102,7 +117,7 @@ def long_lit(size):
     layers, rules = [0, *[None] * (size + 1)], [([(1, 1)], 0, -1, 1)]
     task = task_with([2] * (size + 2), layers=layers, rules=rules, operators=operators)
     cause = [*requires(0, 1, 0, f"step {turns} main"), held(0, 1, 1)]
-    return task, [*["main"] * turns, "lit"], 0, [*blocked(turns + 1, "lit"), at_operator(task, 1), *cause]
+    return task, [*["main"] * turns, "lit"], 0, [*blocked(turns + 1, "lit"), at_operator(task, 1), *cause, *LAST]
 
 
 def long_changed(size):
@@ -216,7 +231,7 @@ def many_blocked(size):
     operators = [("go", [(var, 1), (0, 1)], [], 1) for var in range(1, size + 1)]
     task = task_with([2] * (size + 1), operators=operators)
     named = [(said, *requires(place + 1, 1, 0), *requires(0, 1, 0)) for place, said in enumerate(at_operators(task, size, 8))]
-    return task, ["go"], 0, [*blocked(1, "go"), *(line for its in named for line in its)]
+    return task, ["go"], 0, [*blocked(1, "go"), *(line for its in named for line in its), *LAST]
 
 
 def many_blocked_derived(size):
@@ -227,7 +242,7 @@ def many_blocked_derived(size):
     lines = blocked(1, "go")
     for place, said in enumerate(at_operators(task, size, 7)):
         lines += [said, *requires(size - place, 0, 1), *(given if place == 0 else [])]
-    return task, ["go"], 0, lines
+    return task, ["go"], 0, [*lines, *LAST]
 
 
 def many_preconditions(size):
@@ -236,7 +251,7 @@ def many_preconditions(size):
     given = [derives(size - var, var) for var in range(1, size + 1)]
     again = [line for _ in range(size - 1) for line in requires(size, 0, 1)] + [line for _ in range(size) for line in requires(0, 1, 0)]
     task = derived_task(size, chain_rules(size), [], operators=operators)
-    return task, ["go"], 0, [*blocked(1, "go"), at_operator(task, 0), *requires(size, 0, 1), *given, *again]
+    return task, ["go"], 0, [*blocked(1, "go"), at_operator(task, 0), *requires(size, 0, 1), *given, *again, *LAST]
 
 
 def many_effects(size):
@@ -246,7 +261,7 @@ def many_effects(size):
     lines = ["plan invalid: step 1: conflicting effects", "  step 1 go", at_operator(task, 0)]
     pair = [(size, 1), (2 * size, 0)]
     lines += [f"    effect {effect} sets 1 {value} {value_name({}, 1, value)}" for effect, value in pair]
-    return task, ["go"], 0, lines
+    return task, ["go"], 0, [*lines, *LAST]
 
 
 def many_named(size):

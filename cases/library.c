@@ -96,6 +96,30 @@ static enum sas_number plan_operators(sas_task *held, const uint8_t *unused, siz
     return sas_task_plan_operators(held, operators, operator_count, cost, room, room_length, size);
 }
 
+static enum sas_number run_operators(sas_task *held, const uint8_t *unused, size_t length, uint8_t *room, size_t room_length,
+                                     size_t *size) {
+    const sas_run run = {operators, operator_count, cost, operators, 0};
+    (void)unused, (void)length;
+    return sas_task_run(held, &run, room, room_length, size);
+}
+
+static enum sas_number trace_operators(sas_task *held, const uint8_t *unused, size_t length, uint8_t *room, size_t room_length,
+                                       size_t *size) {
+    const sas_run run = {operators, operator_count, cost, operators, 0};
+    (void)unused, (void)length;
+    return sas_task_run_trace(held, &run, room, room_length, size);
+}
+
+/* Returns the bytes of the values in place of a text. */
+static enum sas_number state_behind(sas_task *held, const uint8_t *unused, size_t length, uint8_t *room, size_t room_length,
+                                    size_t *size) {
+    const sas_run run = {operators, operator_count, cost, operators, 0};
+    (void)unused, (void)length;
+    enum sas_number number = sas_task_run_state(held, &run, (uint32_t *)(void *)room, room_length / sizeof(uint32_t), size);
+    *size *= sizeof(uint32_t);
+    return number;
+}
+
 /* the calls about a plan of a task that is held, and which request each answers; there is none for operators */
 static const struct held_request {
     const char *name;
@@ -106,6 +130,9 @@ static const struct held_request {
     {"sas_task_plan_why", sas_task_plan_why, &requests[1]},
     {"sas_task_trace", sas_task_trace, &requests[2]},
     {"sas_task_plan_operators", plan_operators, NULL},
+    {"sas_task_run", run_operators, NULL},
+    {"sas_task_run_trace", trace_operators, NULL},
+    {"sas_task_run_state", state_behind, NULL},
 };
 
 enum { HELD = sizeof held_requests / sizeof *held_requests };

@@ -18,12 +18,23 @@ static std::string read_file(const char *name) {
     return {std::istreambuf_iterator<char>(file), {}};
 }
 
+static void write(const sas::Answer &answer) {
+    std::cout << (answer.status == sas::Status::yes ? 0 : 1) << ' ' << answer.steps().value_or(0) << ' ';
+    std::cout << answer.cost().value_or(0) << '\n' << answer.text;
+}
+
+static void write(const sas::State &state) {
+    std::cout << (state.status == sas::Status::yes ? 0 : 1);
+    for (const std::uint32_t value : state.values) {
+        std::cout << ' ' << value;
+    }
+    std::cout << '\n';
+}
+
 template <class Call> static void tell(const char *name, Call call) {
     std::cout << name << ' ';
     try {
-        sas::Answer answer = call();
-        std::cout << (answer.status == sas::Status::yes ? 0 : 1) << ' ' << answer.steps().value_or(0) << ' ';
-        std::cout << answer.cost().value_or(0) << '\n' << answer.text;
+        write(call());
     } catch (const std::bad_alloc &) {
         std::cout << "out of memory\n";
     } catch (const sas::InputTooLong &) {
@@ -65,6 +76,12 @@ static void tell_held(const char *name, sas::Task &task, const std::string &plan
     tell_limited("held trace", [&](sas::Limit limit) { return task.trace(plan, limit); });
     const std::vector<std::uint32_t> numbers = {0};
     tell("held operators", [&] { return task.plan_operators(numbers, 1); });
+    const std::vector<std::uint32_t> none, wrong = {1000000};
+    for (const auto &start : {none, wrong, task.is_held() ? task.run_state({}).values : none}) {
+        tell("held run", [&] { return task.run(numbers, 1, start); });
+        tell_limited("held run_trace", [&](sas::Limit limit) { return task.run_trace(numbers, 1, start, limit); });
+        tell("held run_state", [&] { return task.run_state(numbers, start); });
+    }
 }
 
 int main(int, char **words) {

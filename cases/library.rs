@@ -18,6 +18,13 @@ fn tell(name: &str, answer: Result<sas::Answer, sas::Error>) {
     }
 }
 
+fn tell_state(name: &str, state: Result<sas::State, sas::Error>) {
+    match state {
+        Ok(it) => println!("{name} {}{}", u32::from(!it.is_yes), it.values.iter().map(|it| format!(" {it}")).collect::<String>()),
+        Err(error) => println!("{name} {}", error.to_string().replace("sas: ", "")),
+    }
+}
+
 /// Makes a call without a limit, and with limits.
 fn tell_limited(name: &str, answer: Result<sas::Answer, sas::Error>, mut call: impl FnMut(usize) -> Result<sas::Answer, sas::Error>) {
     if let Ok(size) = answer.as_ref().map(|it| it.text.len()) {
@@ -51,6 +58,12 @@ fn main() {
             tell_limited("held plan_why", held.plan_why(plan), |it| held.max_answer_bytes(it).plan_why(plan));
             tell_limited("held trace", held.trace(plan), |it| held.max_answer_bytes(it).trace(plan));
             tell("held operators", held.plan_operators(&[0], 1));
+            let first = held.run_state(&[], None).map_or(Vec::new(), |it| it.values);
+            for start in [None, Some(&[1000000][..]), Some(&first[..])] {
+                tell("held run", held.run(&[0], 1, start));
+                tell_limited("held run_trace", held.run_trace(&[0], 1, start), |it| held.max_answer_bytes(it).run_trace(&[0], 1, start));
+                tell_state("held run_state", held.run_state(&[0], start));
+            }
             tell("elsewhere", std::thread::scope(|it| it.spawn(|| held.plan(plan)).join().unwrap()));
         }
         Err(sas::ReadError::Refused(answer)) => tell("read", Ok(answer)),

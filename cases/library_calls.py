@@ -33,8 +33,8 @@ from texts import TOP, as_bytes, changed_lines, put, table, text_of
 LIMITED = ("memory", "stack", "file", "open", "closed", "output_to", "streamed", "front", "input_ends")
 UNDEFINED = {"malloc", "realloc", "free", "memcpy", "memmove", "memset"}
 SOURCES = {
-    "c": ("library/examples/held.c", "library/sas_memory.c", "library/sas_version.c", "cases/library_stub.c"),
-    "cpp": ("library/examples/held.cpp", "cases/library.cpp", "cases/planner.cpp", "cases/ranges.cpp"),
+    "c": ("library/examples/held.c", "library/examples/arena.c", "library/examples/monitor.c", "library/sas_memory.c", "library/sas_version.c", "cases/library_stub.c"),
+    "cpp": ("library/examples/held.cpp", "cases/library.cpp", "cases/planner.cpp", "cases/ranges.cpp", "cases/values.cpp"),
 }
 LANGUAGES_OF_C = (("c", "-std=c99", ("gcc", "clang")), ("cpp", "-std=c++17", ("g++", "clang++")))
 
@@ -226,6 +226,9 @@ KINDS = {
     "&mut usize": "size_t *",
     "&mut SasTask": "sas_task *",
     "&[u32]": "const uint32_t *, size_t",
+    "&'r [u32]": "const uint32_t *, size_t",
+    "&mut [u32]": "uint32_t *, size_t",
+    "&SasRun<'_>": "const sas_run *",
     "u64": "uint64_t",
 }
 
@@ -251,11 +254,25 @@ def declared(path):
     return set(re.findall(r"\b(sas_\w+)\(", without_comments))
 
 
+def fields_of_crate(name):
+    """Returns the types of the fields of a struct that a program in C makes, in order, as its crate has them."""
+    code = "".join(map(text_of, glob.glob(os.path.join(TOP, "crates/sas_c/src/*.rt"))))
+    fields = re.search(rf"#\[repr\(C\)\]\n(?:#.*\n)*pub struct {name}<'r> {{(.*?)\n}}", code, re.DOTALL)[1]
+    return ", ".join(KINDS[kind] for kind in re.findall(r"pub \w+: (.*),\n?", fields))
+
+
+def fields_of_header(header, name):
+    """Returns the same as the header has them."""
+    fields = re.search(rf"typedef struct {name} {{\n(.*?)\n}}", text_of(header), re.DOTALL)[1]
+    return ", ".join(re.sub(r"\b\w+;$", "", line).strip() for line in fields.split("\n"))
+
+
 def header_tests(_, library, folder):
     """Yields the header, by each compiler and against each call of the crate. They could show a call that the header lacks, or declares
     otherwise than it is."""
     found, header = exports(), os.path.join(library.folder, "sas.h")
     names = sorted(found)
+    yield "the header has the fields of a run", differs(fields_of_header(header, "sas_run"), fields_of_crate("SasRun"))
     yield "the header has the calls of the crate", [] if declared(header) == set(names) and names else [f"{declared(header)}, {names}"]
     listed = ", ".join(f"(call){name}" for name in names)
     code = ["#include <sas.h>", *found.values(), "typedef void (*call)(void);", f"call calls[] = {{{listed}}};"]
@@ -275,7 +292,8 @@ def warning_tests(_, library, __):
     for language, standard, made in LANGUAGES_OF_C:
         for compiler in filter(is_there, made):
             for source in SOURCES[language]:
-                command = [compiler, standard, *C_WARNINGS, "-I", library.folder, "-fsyntax-only", os.path.join(TOP, source)]
+                more = ("-Weffc++",) if compiler == "g++" else ()
+                command = [compiler, standard, *C_WARNINGS, *more, "-I", library.folder, "-fsyntax-only", os.path.join(TOP, source)]
                 yield f"{source}, by {compiler}", failed(*command)
 
 

@@ -48,6 +48,16 @@ enum sas_number sas_task_plan_operators(sas_task *held, const uint32_t *operator
     return number(room_length, size);
 }
 
+#define OVER_RUN(NAME, ROOM) \
+    enum sas_number NAME(sas_task *held, const sas_run *run, ROOM *room, size_t room_length, size_t *size) { \
+        (void)held, (void)run, (void)room; \
+        return number(room_length, size); \
+    }
+
+OVER_RUN(sas_task_run, uint8_t)
+OVER_RUN(sas_task_run_trace, uint8_t)
+OVER_RUN(sas_task_run_state, uint32_t)
+
 const char *sas_version(void) {
     return SAS_VERSION;
 }

@@ -267,7 +267,7 @@ def driver_tests(_, library, folder):
         ran = ended(driver, "refused", *files)
         lines = dict(line.split(": ") for line in ran.stdout.decode().splitlines())
         wrong = [f"status {ran.returncode}"] * (ran.returncode != 0)
-        for name in (*REQUESTS, "task_read", *OVER_HELD, "task_plan_operators"):
+        for name in (*REQUESTS, "task_read", *OVER_HELD, "task_plan_operators", "task_run", "task_run_trace", "task_run_state"):
             well = re.fullmatch(r"[1-9]\d* refused, 0 wrong", lines.get(f"sas_{name}", ""))
             yield f"sas_{name}, memory refused, {os.path.basename(files[1])}", wrong if well else [*wrong, f"{lines}"]
     for files, count in ((examples[0], MANY), ((task, plans[0]), MANY // 100)):

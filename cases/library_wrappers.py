@@ -13,6 +13,7 @@ line that begins with `without`.
 import copy
 import ctypes
 import functools
+import glob
 import os
 import pickle
 import re
@@ -28,6 +29,7 @@ from library import package_in, read, stub_library, tests_by
 from oracles.tasks import text_of
 from shown import section_of, transcripts
 from texts import CASES, TOP, put, table
+from texts import text_of as text_of_file
 
 # a task that a program whose room is fixed would cut off
 LARGE = 2 << 20
@@ -139,10 +141,56 @@ def example_tests(program, library, folder):
             yield "valgrind held.c", [] if ran.returncode == 1 and not ran.stderr else [f"{ran}"]
 
 
+def lines_of_runs(sas, task):
+    """Returns the calls of a run that library.cpp and library.rs make, over a task or over none, with their answers."""
+    held, names = sas.Task(task) if task else None, ("run", "run_trace")
+    starts = [None, [1000000], held.run_state([]).values if held else None]
+    answers = ([*(getattr(held, it)([0], 1, start) for it in names), held.run_state([0], start)] if held else [None] * 3 for start in starts)
+    return [(f"held {name}", answer) for each in answers for name, answer in zip((*names, "run_state"), each)]
+
+
+# what is sensed before each step of the plan of the example, the exit status, and the last line that is printed
+SENSED = (
+    ("\n\n3=1\n", 1, "2 steps to go: step 4 will fail, put f2 feed: not applicable"),
+    ("\n\n\n\n\n", 0, "0 steps to go: valid"),
+    ("", 0, ""),
+    ("\n0=0 1=0 7=1\n", 0, "3 steps to go: valid"),
+    ("\n\n\n\n5=3\n", 1, "0 steps to go: goal fact 0 not reached"),
+    ("\n\n\n4=0 2=3\n", 1, "1 steps to go: goal fact 0 not reached"),
+    ("0=2\n", 1, "4 steps to go: variable 0"),
+    ("99=1\n", 3, ""),
+)
+
+
+def monitor_tests(_, library, folder):
+    """Yields the examples that watch a machine: in C and in Python they print the same. They could show a state that isn't carried on, a
+    value that was sensed and is lost, and the number of a step of the rest that is taken for one of the plan."""
+    env, files = {**os.environ, "PYTHONPATH": library.folder}, [os.path.join(TOP, f"{FUSES}.{it}") for it in ("sas", "plan")]
+    path, source = os.path.join(folder, "monitor"), os.path.join(TOP, "library/examples/monitor")
+    wrong = failed(*c_compiler(), "-std=c99", *C_WARNINGS, "-I", library.folder, f"{source}.c", f"{library.folder}/libsas.a", "-o", path)
+    yield "monitor.c", wrong
+    for command in ([path], [sys.executable, f"{source}.py"]):
+        for sensed, status, last in SENSED:
+            ran = ended(*command, *files, input=sensed.encode(), env=env)
+            lines = ran.stdout.decode().splitlines() or [""]
+            said = [it.partition(" ")[0] for it in lines if "steps to go" in it]
+            well = (ran.returncode, lines[-1], bool(ran.stderr)) == (status, last, status == 3)
+            yield f"{os.path.basename(command[-1])}, {sensed!r}", [] if well and said == list("43210")[: len(said)] else [f"{ran}"]
+        for words, front in (([files[0], f"{TOP}/examples/fuses-short.plan"], "initial "), ([f"{TOP}/{LAMPS}.sas", files[1]], "task refused: ")):
+            ran = ended(*command, *words, input=b"\n", env=env)
+            well = ran.returncode == 1 and ran.stdout.startswith(front.encode()) and not ran.stderr
+            yield f"{os.path.basename(command[-1])}, {words}", [] if well else [f"{ran}"]
+    if is_there("valgrind"):
+        ran = ended("valgrind", "-q", "--leak-check=full", "--error-exitcode=9", path, *files, input=SENSED[0][0].encode())
+        yield "valgrind monitor.c", [] if ran.returncode == 1 and not ran.stderr else [f"{ran}"]
+
+
 def answer_lines(name, answer):
-    """Returns what library.cpp and library.rs print of an answer, or of none."""
+    """Returns what library.cpp and library.rs print of an answer or a state, or of none."""
     if answer is None:
         return f"{name} no task\n".encode()
+    if not hasattr(answer, "text"):
+        return f"{name} {' '.join(map(str, (0 if answer else 1, *answer.values)))}\n".encode()
     return f"{name} {0 if answer else 1} {answer.steps or 0} {answer.cost or 0}\n".encode() + answer.text
 
 
@@ -157,12 +205,14 @@ def lines_of_wrappers(sas, task, plan):
     came, refused = sas.check(task), sas.check(plan)
     held = sas.plan(task, plan) if came else None
     by_numbers = sas.Task(task).plan_operators([0], 1) if came else None
+    runs = lines_of_runs(sas, task if came else None)
 
     def each(name, is_held):
         names = (name, "held plan_why", "held trace")
         answers = [(word, answer_of(sas, it, task, plan) if is_held else None) for word, it in zip(names, OVER_BOTH)]
-        return [*answers, ("held operators", by_numbers if is_held else None)]
+        return [*answers, ("held operators", by_numbers if is_held else None), *(runs if is_held else no_runs)]
 
+    no_runs = lines_of_runs(sas, None)
     moved = [("moved from", None), ("moved to", held)]
     first = [*each("none", False), ("read", came), *each("held" if came else "not held", bool(came))]
     first += [*each("moved from", False), *each("moved to", bool(came))]
@@ -256,6 +306,53 @@ def range_tests(_, library, folder):
             yield f"ranges.cpp, {compiler} {standard}", wrong or ([] if said == [valid] * count + [unknown, *[none] * 3] else [f"{said}"])
 
 
+# programs that trace a plan of a task three times
+TRACED = {
+    "cpp": """#include <sas.hpp>
+#include <fstream>
+#include <iterator>
+int main(int, char **words) {
+    std::ifstream file(words[1], std::ios::binary);
+    sas::Task task(std::string(std::istreambuf_iterator<char>(file), {})), other;
+    for (int round = 0; round < 3; ++round) {
+        const sas::Answer trace = task.trace("; cost = 0 (unit cost)\\n");
+        if (trace.text.size() < 65536) {
+            return 1;
+        }
+        std::swap(task, other);
+        std::swap(task, other);
+    }
+}
+""",
+    "rs": """fn main() {
+    let file = std::fs::read(std::env::args().nth(1).unwrap()).unwrap();
+    let mut task = sas::Task::read(&file).unwrap();
+    for _ in 0..3 {
+        assert!(task.trace(b"; cost = 0 (unit cost)\\n").unwrap().text.len() > 65536);
+    }
+}
+""",
+}
+
+
+def trace_tests(_, library, folder):
+    """Yields how often a trace of a held task is computed whose initial state is longer than the room of most answers. They could show one
+    that is computed twice."""
+    counted, task = os.path.join(folder, "counted.o"), put(os.path.join(folder, "wide.sas"), text_of(wide_task(5000)))
+    wrong = failed(*c_compiler(), "-c", "-I", library.folder, os.path.join(CASES, "counted.c"), "-o", counted)
+    assert not wrong, wrong
+    wrap = "-Wl,--wrap=sas_task_trace"
+    for language, compiler in (("cpp", ["g++", "-std=c++17", "-I", library.folder]), ("rs", ["rustc", "--edition", "2021"])):
+        if not is_there(compiler[0]):
+            continue
+        source, path = os.path.join(folder, f"traced.{language}"), os.path.join(folder, f"traced_{language}")
+        put(source, TRACED[language])
+        linked = [counted, wrap, os.path.join(library.folder, "libsas.a")]
+        linked = linked if language == "cpp" else [*crate(library.folder, folder), "-C", f"link-arg={counted}", "-C", f"link-arg={wrap}"]
+        wrong = failed(*compiler, source, *linked, "-o", path)
+        yield f"traces that are computed, {language}", wrong or differs((True, ended(path, task).stdout), (True, b"3\n"))
+
+
 def limit_tests(_, library, folder):
     """Yields the calls with a limit, over a library whose answers have 2^40 bytes. They could show a room over the limit, and one for an
     answer that nobody gets."""
@@ -263,8 +360,8 @@ def limit_tests(_, library, folder):
     said = f"sas: answer too long: {1 << 40} bytes\n"
     cpp = ["-std=c++17", *C_WARNINGS, "-I", library.folder, f"{CASES}/limited.cpp"]
     for compiler, words, expected in (
-        ("g++", [*cpp, f"{stub}/libsas.a"], said * 10),
-        ("g++", ["-fno-exceptions", *cpp, f"{stub}/libsas.a"], "5\n" * 10),
+        ("g++", [*cpp, f"{stub}/libsas.a"], said * 11),
+        ("g++", ["-fno-exceptions", *cpp, f"{stub}/libsas.a"], "5\n" * 11),
         ("rustc", ["--edition", "2021", "-D", "warnings", f"{CASES}/limited.rs"], said * 8),
     ):
         if is_there(compiler):
@@ -301,6 +398,16 @@ def refused_code_tests(_, library, folder):
         found = [code or said for code, said in re.findall(r"^error(?:\[(E\d+)\])?: (.*)$", ran.stderr.decode(), re.MULTILINE)]
         found = [it for it in found if not it.startswith("aborting")]
         yield f"Rust, {name}", [] if found == ([error] if error else []) else [f"{found}, {ran.stderr.decode()[:300]}"]
+
+
+def rust_doc_tests(_, __, ___):
+    """Yields the functions of the crate in Rust: what is said of those that can fail, and that a value isn't dropped unseen."""
+    for path in sorted(glob.glob(os.path.join(TOP, "library/rust/src/*.rs"))):
+        for doc, name, result in re.findall(r"((?:^ *(?:///|#\[).*\n)*)^ *pub (?:const )?fn (\w+)\(.*\)(?: -> (.*))? \{$", text_of_file(path), re.MULTILINE):
+            said = "# Errors" in doc if (result or "").startswith("Result<") else "#[must_use]" in doc or not result
+            # these types have the attribute themselves
+            said = said or result.startswith(("impl Iterator", "Limited"))
+            yield f"{os.path.basename(path)}, {name}", [] if said and "///" in doc else [doc]
 
 
 # the page of the library, and its sections about languages: how their programs are marked, the end of their files' names, and what
@@ -344,8 +451,8 @@ def wrong_large(sas, judge):
 
 
 TESTS = (
-    answer_tests, found_tests, wrapper_tests, number_tests, range_tests, limit_tests,
-    no_exception_tests, refused_code_tests, example_tests, page_tests,
+    answer_tests, found_tests, wrapper_tests, number_tests, range_tests, trace_tests, limit_tests,
+    no_exception_tests, refused_code_tests, rust_doc_tests, example_tests, monitor_tests, page_tests,
 )
 
 

@@ -15,4 +15,5 @@ int main() {
     TELL(sas::check_why("", limit)) TELL(sas::mutex("", limit)) TELL(sas::mutex_why("", limit))
     TELL(sas::show("", limit)) TELL(sas::print("", limit)) TELL(sas::steps("", limit))
     TELL(task.plan_why("", limit)) TELL(task.trace("", limit))
+    TELL(task.run_trace({}, 0, {}, limit))
 }

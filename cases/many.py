@@ -11,6 +11,7 @@ import os
 import random
 
 from following import cost_of_run, long_runs, names_of, run_over, turning_names, turning_task
+from oracles.layers import after_refusal
 from oracles.plans import judged, lines_of, status_of, summary
 from oracles.refusals import refusal
 from oracles.steps import holds, initial
@@ -39,6 +40,13 @@ def over_files(name, task, plans, lines, *words):
     words = words or ["t.sas"]
     files = {words[-1]: task, **dict(plans)}
     return case_of(name, [*words, *(label for label, _ in plans)], files, lines)
+
+
+def explained(name, task, plans, lines, place):
+    """Returns the case of plans of which each is a file, with the flag for reasons behind so many words."""
+    words = ["t.sas", *(label for label, _ in plans)]
+    words.insert(place, "--why")
+    return case_of(name, words, {"t.sas": task, **dict(plans)}, lines)
 
 
 def with_task_from_input(name, task, plans, lines):
@@ -81,6 +89,12 @@ def written_cases():
     for name, task, plans, lines in written_plans():
         yield over_files(name, task, plans, lines)
         yield with_task_from_input(name, task, plans, lines)
+        said = lines[-1]
+        if said.startswith("task refused: "):
+            yield explained(f"{name}, with reasons", task, plans, [said, *after_refusal(said, task)], 0)
+        else:
+            for place in range(len(plans) + 2):
+                yield explained(f"{name}, with reasons", task, plans, lines_of(task_of(task), plans, True), place)
         if not lines[-1].startswith("task refused: "):
             yield from each_alone(name, task_of(task), plans)
             for place in range(len(plans)):
@@ -196,6 +210,7 @@ def random_cases():
         task, texts = walked(chance) if number < WALKED else turned(chance)
         name, text, plans = f"many plans of task {number}", text_of(task), labelled(chance, texts)
         yield over_files(name, text, plans, lines_of(task, plans))
+        yield explained(f"{name}, with reasons", text, plans, lines_of(task, plans, True), chance.randint(0, len(plans) + 1))
         if number % EACH == 0:
             yield from each_alone(name, task, plans)
         elif number % EACH == 1:

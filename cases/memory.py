@@ -181,6 +181,8 @@ def refused_plans(sas, folder):
     for some in (*([plan] for plan in plans), plans, plans[::-1], plans[:1] * 2):
         lines = lines_of(task, some)
         yield case_of(sas, ["plans", path, *(label for label, _ in some)], status_of(lines), lines_text(lines))
+    lines = lines_of(task, plans, True)
+    yield case_of(sas, ["plans", "--why", path, *(label for label, _ in plans)], status_of(lines), lines_text(lines))
     for label, said in (("none", "cannot open the plan"), (".", "read failed")):
         yield case_of(sas, ["plans", path, plans[0][0], label], 3, b"", lines_text([f"sas: {said}: {label}"]))
     for words, said in refusals("none"):

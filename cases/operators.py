@@ -1,23 +1,29 @@
 #!/usr/bin/env python3
-"""Tests plans by operator numbers: the call sas_task_plan_operators of the library.
+"""Tests plans by operator numbers: the calls sas_task_plan_operators, and from any state sas_task_run, sas_task_run_trace and sas_task_run_state, of the
+library.
 
     python3 cases/operators.py LIBRARY
 
-LIBRARY is the folder that library/build.py made. What the call is to answer, the library says of a plan by names: each operator of the
-task is given a name of its own first, so that a name means one number. The proofs say what is answered. They know no pointer of a
-caller's, and no header.
+LIBRARY is the folder that library/build.py made. What the first call is to answer, the library says of a plan by names: each operator of
+the task is given a name of its own first, so that a name means one number. What the others are to answer, oracles/steps.py computes. The
+proofs say what is answered. They know no pointer of a caller's, and no header.
 """
 import ctypes
 import glob
 import os
 import random
 import re
+from types import SimpleNamespace
 
 import harness
+import walks
 from harness import differs
 from large import plan_text, wide_plans, wide_task
 from library import GUARD, NO, NO_TASK, ROOM_TOO_SHORT, YES, Held, Library
+from oracles.axioms import layer_fault
+from oracles.steps import cost_of, holds, preconditions, run_by_numbers, run_verdict, start_fault
 from oracles.tasks import text_of
+from oracles.traces import lines_of
 from texts import TOP, as_bytes, bytes_of, bytes_of_file, table
 
 # the room of a line
@@ -27,6 +33,23 @@ WALKS, STEPS, DRAWS = 20, 12, 12
 LARGEST, LARGEST_COST = (1 << 32) - 1, (1 << 64) - 1
 # an operator of the largest cost so often that the sum isn't a number of `double`
 OFTEN, LARGEST_LINE = (1 << 22) + 1, (1 << 31) - 1
+
+
+class Run(ctypes.Structure):
+    """What is called sas_run in sas.h."""
+
+    _fields_ = [
+        ("operators", ctypes.c_void_p),
+        ("count", ctypes.c_size_t),
+        ("cost", ctypes.c_uint64),
+        ("start", ctypes.c_void_p),
+        ("start_length", ctypes.c_size_t),
+    ]
+
+
+def words_of(numbers):
+    """Returns numbers as C has them, with one behind them that would be wrong."""
+    return (ctypes.c_uint32 * (len(numbers) + 1))(*numbers, LARGEST)
 
 
 class Calls(Library):
@@ -63,6 +86,31 @@ class Calls(Library):
         if not is_kept or room[size:] != GUARD * (ROOM - size):
             return number, b"more was written: " + room
         return number, room[:size]
+
+
+def run_given(start, operators, cost):
+    """Returns a run as C has it, and what it points to, which has to stay."""
+    given = words_of(operators), words_of(start)
+    at = [ctypes.addressof(it) for it in given]
+    return Run(at[0], len(operators), cost, at[1], len(start)), given
+
+
+def run_answer(calls, held, run, length=ROOM, name="sas_task_run"):
+    """Returns what `call` does of the call sas_task_run, or another one, in a room of so many bytes."""
+    (it, given), before = run_given(*run), [*map(list, run_given(*run)[1])]
+    *came, is_kept = calls.call(name, [held, (ctypes.byref(it),)], length)
+    return *came, is_kept and [*map(list, given)] == before
+
+
+def state_answer(calls, held, run, length):
+    """Returns the number of the call sas_task_run_state, in a room of so many values, its size, and what is in the room."""
+    it, _given = run_given(*run)
+    room, size = (ctypes.c_uint32 * (length + 2))(*[LARGEST] * (length + 2)), ctypes.c_size_t(LARGEST)
+    at = ctypes.byref(room, ctypes.sizeof(ctypes.c_uint32))
+    number = calls.calls.sas_task_run_state(ctypes.byref(held), ctypes.byref(it), at, ctypes.c_size_t(length), ctypes.byref(size))
+    held_by = [*room]
+    assert held_by[0] == held_by[-1] == LARGEST, "a value was written beside the room"
+    return number, size.value, held_by[1:-1]
 
 
 def with_own_names(task):
@@ -201,9 +249,119 @@ def held_tests(calls):
     yield "a task that was freed", differs((number, room, is_kept), (*none, True))
 
 
+# runs of each task, and the most steps of one
+RUNS, MOST = 12, 8
+
+
+def random_start(task, chance):
+    """Returns the values of a start, derived ones at random: none, those of a state, too many or too few, or one that is out of range."""
+    values, kind = [chance.randrange(size) for size in task["ranges"]], chance.random()
+    if kind < 0.2:
+        return []
+    if kind < 0.3:
+        return chance.choice((values[:-1] or [0, 0], [*values, 0], [*values, *values]))
+    if kind < 0.45:
+        var = chance.randrange(len(values))
+        values[var] = chance.choice((task["ranges"][var], LARGEST))
+    return values
+
+
+def random_run(task, chance):
+    """Returns a start, the numbers of operators of which most go through from there, and the sum of their costs or another cost."""
+    start, operators = random_start(task, chance), []
+    going = [] if start_fault(task, start) else start
+    for _ in range(chance.randrange(MOST)):
+        states, fault = run_by_numbers(task, going, operators)
+        able = [it for it, operator in enumerate(task["operators"]) if holds(states[-1], preconditions(operator))]
+        if fault or not able:
+            break
+        operators.append(chance.choice(able))
+    if chance.random() < 0.3:
+        number = chance.choice([len(task["operators"]), chance.randrange(len(task["operators"]) + 1), LARGEST])
+        operators.insert(chance.randrange(len(operators) + 1), number)
+    total = sum(cost_of(task, it) for it in operators if it < len(task["operators"]))
+    return start, operators, total if chance.random() < 0.8 else chance.randrange(4)
+
+
+def traced(task, start, operators):
+    """Returns the trace of a run, which is none where the start is refused."""
+    if start_fault(task, start):
+        return ""
+    states, _ = run_by_numbers(task, start, operators)
+    run = SimpleNamespace(task=task, operators=operators, states=states)
+    return "".join(f"{line}\n" for line in lines_of(run))
+
+
+def wrong_of_run(calls, held, task, run):
+    """Returns what is wrong with the answers about a run: its line, its trace and its state, each in rooms of some lengths."""
+    start, operators, cost = run
+    line = f"{run_verdict(task, start, operators, cost)}\n"
+    number, wrong = YES if line.startswith("plan valid") else NO, []
+    for name, text in (("sas_task_run", line.encode()), ("sas_task_run_trace", (traced(task, start, operators) + line).encode())):
+        for length in (0, len(text) - 1, len(text), len(text) + 9):
+            due = (ROOM_TOO_SHORT, b"") if length < len(text) else (number, text)
+            expected = due[0], len(text), due[1] + GUARD * (length - len(due[1])), True
+            wrong += differs(run_answer(calls, held, run, length, name), expected)
+    if start_fault(task, start):
+        return wrong + differs(state_answer(calls, held, run, len(start)), (NO, 0, [LARGEST] * len(start)))
+    states, fault = run_by_numbers(task, start, operators)
+    many = len(task["ranges"])
+    for length in (0, many - 1, many, many + 3):
+        values = [] if length < many else [*states[-1]]
+        due = ROOM_TOO_SHORT if length < many else NO if fault else YES
+        wrong += differs(state_answer(calls, held, run, length), (due, many, values + [LARGEST] * (length - len(values))))
+    return wrong
+
+
+def run_tests(calls):
+    """Yields runs from random starts through small random tasks, with axioms, conditional effects and effects that conflict. They could show
+    a start whose derived values are kept, another start, a state that isn't the one before the step that fails, and values that are
+    written where there is no room."""
+    for place, task in enumerate(random_tasks()):
+        held, chance = calls.read(text_of(task).encode()), random.Random(place)
+        for number in range(RUNS):
+            run = random_run(task, chance)
+            yield f"task {place}, run {number}: {run}", wrong_of_run(calls, held, task, run)
+        calls.free(held)
+
+
+def monitor_tests(calls):
+    """Yields plans of random tasks that are carried out, step by step: from each state on the way the rest is valid exactly if the whole is.
+    They could show a state behind some steps from which the rest isn't judged as it is in the whole."""
+    for place, task in enumerate(random_tasks()):
+        held, chance = calls.read(text_of(task).encode()), random.Random(-place)
+        for number in range(RUNS // 3):
+            _, operators, _ = random_run(task, chance)
+            total = sum(cost_of(task, it) for it in operators if it < len(task["operators"]))
+            whole = run_answer(calls, held, ([], operators, total))[0]
+            for made in range(len(run_by_numbers(task, [], operators)[0])):
+                reached, size, state = state_answer(calls, held, ([], operators[:made], 0), len(task["ranges"]))
+                left = sum(cost_of(task, it) for it in operators[made:] if it < len(task["operators"]))
+                rest = run_answer(calls, held, (state, operators[made:], left))[0]
+                yield f"task {place}, plan {number}, {made} steps made", differs((reached, size, rest), (YES, len(state), whole))
+        calls.free(held)
+
+
+def random_tasks():
+    """Yields small tasks at random, with operators."""
+    chance = random.Random(walks.SEED)
+    for _ in range(walks.TASKS):
+        task, _ = walks.walked_task(chance)
+        if layer_fault(task) is None:
+            yield task
+
+
+def no_task_tests(calls):
+    """Yields calls without a task. They could show a room that is written."""
+    run = ([], [0], 1)
+    yield "run, no task", differs(run_answer(calls, Held(), run)[::2], (NO_TASK, GUARD * ROOM))
+    number, _, values = state_answer(calls, Held(), run, 3)
+    yield "state, no task", differs((number, values), (NO_TASK, [LARGEST] * 3))
+
+
 def tests(folder):
     calls = Calls(folder)
-    for make in (line_tests, walk_tests, large_tests, room_tests, held_tests):
+    for make in (line_tests, walk_tests, large_tests, room_tests, held_tests, run_tests, monitor_tests, no_task_tests):
         yield from harness.named(make, calls)
 
 

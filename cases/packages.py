@@ -143,6 +143,36 @@ def cargo_tests(top, place):
         yield f"cargo build, SAS_LIB_DIR={folder} in {where}", [] if (status and line in found if tried else status == 0) else [said]
 
 
+def shared_tests(top, place):
+    """Yields programs that are linked with libsas.so alone. They could show one that can't be started, and nothing that says why."""
+    folder, held = os.path.join(place, "shared"), os.path.join(top, "library/examples/held")
+    os.makedirs(folder)
+    for name in (SHARED, "sas.h"):
+        shutil.copy(os.path.join(top, "library/out", name), folder)
+    os.symlink(SHARED, os.path.join(folder, "libsas.so"))
+    words = ["-I", folder, f"{held}.c", "-L", folder, "-lsas", "-o", f"{place}/alone"]
+    yield "libsas.so alone", wrong(*c_compiler(), *words)
+    status, said = printed(f"{place}/alone", env={**os.environ, "LD_LIBRARY_PATH": ""})
+    yield "libsas.so alone, what isn't found", [] if status and f"{SHARED}: cannot open shared object file" in said else [said]
+    yield "libsas.so alone, LD_LIBRARY_PATH", wrong_held(top, f"{place}/alone", env={**os.environ, "LD_LIBRARY_PATH": folder})
+    if not is_there("cargo"):
+        return
+    env = {**os.environ, "CARGO_TARGET_DIR": os.path.join(place, "shared target"), "SAS_LIB_DIR": folder}
+    at = ["--offline", "--manifest-path", os.path.join(top, "library/rust/Cargo.toml")]
+    status, said = printed("cargo", "build", *at, "--example", "held", env=env)
+    lines = [f"there is no libsas.a in {folder}, so programs are linked with libsas.so"]
+    lines.append("a program finds libsas.so.1 by LD_LIBRARY_PATH, by an rpath, or in the system's folders")
+    yield "cargo build, libsas.so alone", [] if status == 0 and all(it in said for it in lines) else [said]
+    program = os.path.join(env["CARGO_TARGET_DIR"], "debug/examples/held")
+    yield "cargo build, libsas.so alone, LD_LIBRARY_PATH", wrong_held(top, program, env={**env, "LD_LIBRARY_PATH": folder})
+    for name in (SHARED, "libsas.so"):
+        os.remove(os.path.join(folder, name))
+    put(os.path.join(folder, "libsas.so"), b"")
+    status, said = printed("cargo", "build", *at, env=env)
+    line = f"{folder} has libsas.so, but not libsas.so.1, which a program loads"
+    yield "cargo build, without libsas.so.1", [] if status and line in said else [said]
+
+
 def pip_tests(top, place):
     """Yields the wheel, and what pip installs in fresh environments. They could show a package that doesn't find its library, a wheel
     that is never the same twice or is refused by pip, and one that is installed without the library."""
@@ -231,6 +261,7 @@ def package_tests(place, top=TOP):
     yield from cmake_tests(top, os.path.join(top, "library/out"), place)
     yield from pkg_config_tests(top, place)
     yield from cargo_tests(top, place)
+    yield from shared_tests(top, place)
     yield from pip_tests(top, place)
 
 

@@ -10,6 +10,7 @@ line that begins with `without`.
 """
 import array
 import bz2
+import copy
 import csv
 import gzip
 import importlib
@@ -19,6 +20,7 @@ import json
 import lzma
 import os
 import pathlib
+import pickle
 import pydoc
 import random
 import re
@@ -35,9 +37,10 @@ from functools import partial
 import harness
 import run
 from harness import differs, ended, is_there
-from large import turning_files
+from large import turning_files, wide_task
 from library import FUSES, INPUT_TOO_LONG, LAMPS, OUT_OF_MEMORY, fault_of, package_in, read
 from library import stub_library, tests_by
+from oracles.tasks import text_of
 from shown import section_of, shown, transcripts
 from texts import TOP, as_bytes, put, table
 
@@ -61,8 +64,10 @@ TRUSTING = b"python -m sas table: warning: each task is the one beside its plans
 
 def value_cases():
     cases = (*run.verdict_cases(), *run.why_cases(), *run.trace_cases(), *run.layer_cases(), *run.refusal_cases())
+    cases += (*run.group_cases(), *map(run.with_why, run.group_cases()), *run.whole_cases())
     # of a trace the library has no call with reasons
-    cases = (case for case in cases if case["words"][0] in ("plan", "trace", "check") and not {"trace", "--why"} <= set(case["words"]))
+    requests = ("plan", "trace", "check", "mutex", "show")
+    cases = (case for case in cases if case["words"] and case["words"][0] in requests and not {"trace", "--why"} <= set(case["words"]))
     return (case for case in cases if case["status"] in (0, 1) and not case.get("front"))
 
 
@@ -71,7 +76,9 @@ def verdict_line(answer):
     if answer.verdict == "valid":
         return f"plan valid: {answer.steps} steps, cost {answer.cost}"
     if answer.verdict == "refused":
-        return f"{answer.refused_file} refused: {answer.reason}"
+        refusal = answer.refusal
+        place = f"line {refusal.line}" if answer.reason.startswith("line ") else refusal.place
+        return f"{answer.refused_file} refused: {place}: {refusal.word}"
     if answer.verdict == "yes":
         return "task layered"
     if answer.failing_step is not None:
@@ -81,8 +88,14 @@ def verdict_line(answer):
     return f"plan invalid: cost is {answer.sum}, not {answer.cost}"
 
 
+def named(value):
+    """Returns a value with a name, without whether that is shown otherwise than it is, once that is compared."""
+    assert value.shown == (b"\\" in value.name or len(value.name) > 256), value
+    return value._replace(shown=False)
+
+
 def fact_line(fact):
-    return b"%d %d %s" % fact
+    return b"%d %d %s" % fact[:3]
 
 
 def trace_lines(answer):
@@ -94,11 +107,11 @@ def trace_lines(answer):
 
 
 def cause_lines(cause):
-    yield b"requires " + fact_line(cause.required)
-    yield b"actual " + fact_line(cause.actual)
-    yield b"since step %d %s" % cause.since if cause.since else b"since the initial state"
+    yield b"requires " + fact_line(named(cause.required))
+    yield b"actual " + fact_line(named(cause.actual))
+    yield b"since step %d %s" % named(cause.since)[:2] if cause.since else b"since the initial state"
     for rule in cause.rules:
-        yield b"rule %d %s " % (rule.number, b"derives" if rule.is_firing else b"requires") + fact_line(rule.fact)
+        yield b"rule %d %s " % (rule.number, b"derives" if rule.is_firing else b"requires") + fact_line(named(rule.fact))
     if cause.no_rule:
         yield b"no rule derives it"
 
@@ -106,13 +119,13 @@ def cause_lines(cause):
 def reason_lines(reasons):
     """Yields the reasons why a plan isn't valid, made of values."""
     if reasons.step:
-        yield b"step %d %s" % reasons.step
+        yield b"step %d %s" % named(reasons.step)[:2]
     if reasons.similar_operator:
-        yield b"similar operator %d line %d %s" % reasons.similar_operator
+        yield b"similar operator %d line %d %s" % named(reasons.similar_operator)[:3]
     for step in reasons.further_steps:
-        yield b"step %d %s" % step[:2]
+        yield b"step %d %s" % named(step)[:2]
         if step.similar_operator:
-            yield b"similar operator %d line %d %s" % step.similar_operator
+            yield b"similar operator %d line %d %s" % named(step.similar_operator)[:3]
     if reasons.total is not None:
         what = "steps name no operator" if reasons.step else "goal facts fail"
         yield b"%d of %d %s" % (reasons.failing, reasons.total, what.encode())
@@ -121,7 +134,11 @@ def reason_lines(reasons):
         yield from (b"  " + line for cause in operator.causes for line in cause_lines(cause))
     if reasons.conflict:
         yield b"operator %d line %d" % reasons.conflict[:2]
-        yield from (b"  effect %d sets %s" % (effect.number, fact_line(effect.fact)) for effect in reasons.conflict.effects)
+        yield from (b"  effect %d sets %s" % (effect.number, fact_line(named(effect.fact))) for effect in reasons.conflict.effects)
+    if reasons.if_made:
+        yield b"if made anyway %d of %d later steps fail" % reasons.if_made[:2]
+        yield from (b"  step %d %s" % named(step)[:2] for step in reasons.if_made.first_failing)
+        yield b"if made anyway %d of %d goal facts fail" % reasons.if_made[3:]
     for goal_fact in reasons.goal_facts:
         yield b"goal fact %d" % goal_fact.index
         yield from (b"  " + line for line in cause_lines(goal_fact.cause))
@@ -133,13 +150,65 @@ def reason_lines(reasons):
         yield b"step %d could also be operator %d" % reasons.could_also_be
 
 
+def refusal_lines(refusal):
+    """Yields the reasons why a file is refused, made of values."""
+    if refusal.place:
+        yield f"at {refusal.place}"
+    if refusal.expected:
+        yield f"expected {refusal.expected}"
+    if refusal.wrong_number:
+        yield "number %d must be %d to %d" % refusal.wrong_number
+    if refusal.list_count:
+        yield "line %d counts %d" % refusal.list_count
+    if refusal.found:
+        yield f"{refusal.found} {refusal.text}" if refusal.text is not None else f"{refusal.found}"
+    if refusal.hint:
+        yield f"hint {refusal.hint}"
+
+
+def group_lines(answer):
+    """Yields the verdicts on groups, with their reasons, made of values."""
+    for group in answer.groups:
+        yield b"group %d %s%s" % (group.number, group.verdict.encode(), b"" if group.operator is None else b" %d" % group.operator)
+        if group.name is not None:
+            yield b"  operator %d line %d %s" % (group.operator, group.line, named(group).name)
+        yield from (b"  effect %d sets %s" % (effect.number, fact_line(named(effect.fact))) for effect in group.effects)
+        word = b"derived" if group.verdict is type(group.verdict).DERIVED else b"holds"
+        yield from (b"  %s %s" % (word, fact_line(named(fact))) for fact in group.facts)
+        if group.may_remain:
+            yield b"  may remain " + fact_line(named(group.may_remain))
+
+
+def summary_lines(summary):
+    words = ("metric", "variables", "derived", "groups", "operators", "rules")
+    yield from (b"%s %d" % (word.encode(), getattr(summary, word)) for word in words)
+    yield from (b"initial " + fact_line(fact) for fact in summary.initial)
+    yield from (b"goal " + fact_line(fact) for fact in summary.goal)
+
+
 def rebuilt(answer):
-    """Returns the text of an answer, made of its values alone, but for the reasons why a file is refused."""
-    lines = [*trace_lines(answer), verdict_line(answer).encode()]
-    reasons = answer.reasons
-    if reasons:
-        lines += [b"  " + line for line in reason_lines(reasons)] if answer.verdict == "invalid" else reasons.text.splitlines()
+    """Returns the text of an answer, made of its values alone, but for the reasons why a task isn't layered."""
+    if answer.summary:
+        lines = list(summary_lines(answer.summary))
+    elif answer.text.startswith(b"group ") or not answer.text:
+        lines = list(group_lines(answer))
+    else:
+        lines = [*trace_lines(answer), verdict_line(answer).encode(), *reasons_of(answer)]
     return b"".join(line + b"\n" for line in lines)
+
+
+def reasons_of(answer):
+    """Returns the lines of reasons in an answer about a plan, or about a file that is refused."""
+    if answer.verdict == "invalid" and answer.reasons:
+        return [b"  " + line for line in reason_lines(answer.reasons)]
+    if answer.verdict != "refused":
+        return []
+    if answer.reason.startswith("line "):
+        return [f"  {line}".encode() for line in refusal_lines(answer.refusal)]
+    held = answer.reasons.text.splitlines() if answer.reasons else []
+    at = [int(line.split(b" line ")[1].split()[0]) for line in held[:1]]
+    assert [answer.refusal.line] == (at or [None]), answer
+    return held
 
 
 def value_tests(_, sas, __):
@@ -149,7 +218,7 @@ def value_tests(_, sas, __):
         answer = sas.Answer(case["status"] == 0, as_bytes(case["output"]))
         yield f"values, {case['name']}", differs((True, rebuilt(answer)), (True, answer.text))
         hints = [line[7:] for line in answer.text.split(b"\n") if line.startswith(b"  hint ")]
-        hint = answer.reasons and answer.reasons.hint
+        hint = answer.reasons and answer.reasons.hint or answer.refusal and answer.refusal.hint
         yield f"hint, {case['name']}", [] if [hint] == ([it.decode() for it in hints] or [None]) else [f"{hint}, not {hints}"]
     name = b"could also be operator 4"
     text = b"plan invalid: step 1: no operator of that name\n  step 1 %s\n  1 of 1 steps name no operator\n" % name
@@ -188,8 +257,10 @@ def none_tests(_, sas, __):
         ("groups", sas.mutex_why(read("examples/doorway.sas"))),
         ("no reasons", sas.plan(task, b"; cost = 0 (unit cost)\n")),
     ):
-        got = answer.initial, list(answer.trace_steps), answer.reasons
-        yield f"no values, {name}", [] if got == ([], [], None) else [f"{got}"]
+        got = answer.initial, list(answer.trace_steps), answer.reasons, answer.refusal
+        yield f"no values, {name}", [] if got == ((), [], None, None) else [f"{got}"]
+        others = bool(answer.groups), bool(answer.summary)
+        yield f"no other values, {name}", [] if others == (name == "groups", name == "shown") else [f"{others}"]
 
 
 def number_tests(_, sas, __):
@@ -231,12 +302,91 @@ def number_tests(_, sas, __):
         yield "numbers, operators of one name", [] if answers == lines else [f"{answers}"]
     for path in ("examples/fuses.sas", "examples/elevator.sas", "cases/tasks/minimal.sas", "examples/blocks-4-0.sas"):
         counts = dict(re.findall(rb"^(variables|operators) (\d+)$", sas.show(read(path)).text, re.MULTILINE))
-        said = f"{int(counts[b'variables'])} variables, {int(counts[b'operators'])} operators>"
+        said = f"{int(counts[b'variables'])} variables, {int(counts[b'operators'])} operators, "
+        said += f"{sas.show(read(path)).text.count(b'%sgoal ' % bytes([10]))} goal facts>"
         with sas.Task(read(path)) as held:
             yield f"what a task says, {path}", [] if repr(held) == f"<sas.Task: {said}" else [repr(held)]
         yield f"what a closed task says, {path}", [] if repr(held) == "<sas.Task: closed>" else [repr(held)]
         of_file = repr(sas.Task.from_file(pathlib.Path(path)))
         yield f"what a task of a file says, {path}", [] if of_file == f"<sas.Task of '{path}': {said}" else [of_file]
+
+
+def run_tests(_, sas, __):
+    """Yields runs by numbers from states on. They could show a start that is lost, is read as other numbers or as the initial state, values of
+    another state, and reasons that are another step's. That a run from the state behind some steps is the rest of the plan, the proofs say."""
+    task, plan = read(f"{FUSES}.sas"), read(f"{FUSES}.plan")
+    numbers = [step.operator for step in sas.trace(task, plan).trace_steps]
+    with sas.Task(task) as held:
+        for given in (numbers, numbers[:2], [*numbers[:2], numbers[0]], [*numbers, 10], []):
+            yield f"a run of {given}", differs(held.run(given, 4), tuple(held.plan_operators(given, 4)))
+        states = [held.run_state(numbers[:count]) for count in range(len(numbers) + 1)]
+        facts = held.trace(b"; cost = 0 (unit cost)\n").initial
+        yield "the initial state", [] if list(states[0].values) == [fact.value for fact in facts] else [f"{states[0]}"]
+        for count, state in enumerate(states):
+            rest, cost = numbers[count:], len(numbers) - count
+            yield f"a state behind {count} steps", [] if state and len(state.values) == held.variables else [f"{state}"]
+            line = f"plan valid: {cost} steps, cost {cost}\n".encode()
+            for name, start in (("an array", state.values), ("a list", list(state.values)), *numpy_arrays(state.values).items()):
+                yield f"a run from behind {count} steps, {name}", differs(held.run(rest, cost, start), (True, line))
+            trace = held.run_trace(rest, cost, state.values)
+            yield f"a trace from behind {count} steps", [] if [it.value for it in trace.initial] == list(state.values) else [f"{trace}"]
+            yield f"a trace from behind {count} steps, its text", differs((True, rebuilt(trace)), (True, trace.text))
+            yield f"a trace from behind {count} steps, its sum", [] if (trace.sum, trace.steps) == (cost, cost) else [f"{trace.sum}"]
+            came = held.run_state(rest, state.values)
+            yield f"a state from behind {count} steps", [] if came == states[-1] else [f"{came}"]
+        stopped = held.run_state([numbers[0], numbers[0]])
+        yield "a state before a step that fails", [] if (stopped.is_yes, stopped.values) == (False, states[1].values) else [f"{stopped}"]
+        for name, start, reason in (("of another task", [0] * 3, "3 values, not 8"), ("of no value", [0] * 7 + [2], "variable 7")):
+            answers = held.run(numbers, 4, start), held.run_trace(numbers, 4, start)
+            expected = False, "refused", "state", None, reason
+            got = [(bool(it), it.verdict, it.failure, it.refused_file, it.reason) for it in answers]
+            yield f"a start {name}", [] if got == [expected] * 2 else [f"{got}"]
+            yield f"a start {name}, no state", [] if held.run_state(numbers, start) == (False, array.array("I")) else ["there is one"]
+        for name, call, kind in (
+            ("a negative value", lambda: held.run(numbers, 4, [-1] * 8), OverflowError),
+            ("text", lambda: held.run(numbers, 4, b"00000000"), TypeError),
+            ("a limit", lambda: held.run_trace(numbers, 4, max_answer_bytes=9), sas.AnswerTooLong),
+        ):
+            yield f"a run, {name}", [] if type(fault_of(call)) is kind else [f"{fault_of(call)!r}"]
+    calls = (lambda: held.run(numbers, 4), lambda: held.run_trace(numbers, 4), lambda: held.run_state(numbers))
+    faults = [type(fault_of(call)) for call in calls]
+    yield "runs of a closed task", [] if faults == [sas.NoTask] * 3 else [f"{faults}"]
+
+
+def cost_tests(_, sas, __):
+    """Yields how often the library is called, and what is read of a text once. They could show a trace that is computed twice, an attribute
+    that reads the whole text at each access, and a task that waits for another call before it says what it is."""
+    task, plan = text_of(wide_task(WIDE)).encode(), b"; cost = 0 (unit cost)\n"
+    held, calls, module = sas.Task(task), [], importlib.import_module("sas._library")
+    for name, call in (("TASK_TRACE", partial(held.trace, plan)), ("TRACE", partial(sas.trace, task, plan))):
+        real = getattr(module, name)
+        setattr(module, name, lambda *given, real=real: calls.append(0) or real(*given))
+        sizes = [len(call().text) for _ in range(2)]
+        setattr(module, name, real)
+        yield f"{name}, how often it is called", [] if len(calls) == 2 and sizes[0] == sizes[1] > LONG else [f"{len(calls)}, {sizes}"]
+        calls.clear()
+    summary = sas.show(task).summary
+    for word in ("metric", "variables", "derived", "groups", "operators", "rules"):
+        yield f"a task's {word}", [] if getattr(held, word) == getattr(summary, word) else [f"{getattr(held, word)}"]
+    yield "a task's goal_facts", [] if held.goal_facts == len(summary.goal) else [f"{held.goal_facts}"]
+    with held._one_call:
+        came = []
+        thread = threading.Thread(target=lambda: came.append(repr(held)), daemon=True)
+        thread.start()
+        thread.join(SECONDS)
+    yield "what a task says while it is in a call", [] if came and f"{summary.variables} variables" in came[0] else [f"{came}"]
+    of_both, plans = partial(sas.plan_why, read(f"{FUSES}.sas")), (b"(take f1)\n(take f2)\n; cost = 2 (unit cost)\n", b"junk\n")
+    answers = held.trace(plan), of_both(plans[0]), of_both(plans[1]), sas.mutex(read("examples/doorway.sas")), sas.show(task)
+    for answer, word in zip(answers, ("initial", "reasons", "refusal", "groups", "summary")):
+        first = getattr(answer, word)
+        yield f"{word}, read once", [] if first and getattr(answer, word) is first else [f"{first}"]
+        copies = pickle.loads(pickle.dumps(answer)), copy.copy(answer)
+        same = all((it, type(it), getattr(it, word)) == (answer, type(answer), first) for it in copies)
+        yield f"{word}, of a copy", [] if same and len(pickle.dumps(answer)) < len(answer.text) + 200 else [f"{copies}"]
+
+
+# variables of a task whose initial state is longer than the room of most answers, and that room
+WIDE, LONG = 5000, 65536
 
 
 def numpy_arrays(numbers):
@@ -422,7 +572,8 @@ def command_tests(_, sas, folder):
     made = [*run.line_cases(), *run.verdict_cases(), *run.why_cases(), *run.trace_cases(), *run.plans_cases()]
     made += [*run.refusal_cases(), *run.layer_cases(), *run.reason_cases()]
     for case in (*whole, *made[::EVERY], *with_folder(table("program.json"), tempfile.mkdtemp(dir=folder))):
-        if case["words"] and not any(word in case for word in (*OF_PROGRAM, *OF_STREAMS)):
+        inputs = [as_bytes(it) for it in (case.get("input", ""), *case.get("files", {}).values())]
+        if case["words"] and not any(word in case for word in (*OF_PROGRAM, *OF_STREAMS)) and not any(it.startswith(PACKED) for it in inputs):
             yield f"python -m sas, {case['name']}", wrong_command(main, case, place)
 
 
@@ -431,6 +582,42 @@ def with_folder(cases, empty):
     for case in cases:
         error = {"error": case["error"].replace("FOLDER", empty)} if case.get("error") else {}
         yield {**case, **error, "words": [word.replace("FOLDER", empty) for word in case["words"]]}
+
+
+# how a file begins that `python -m sas` decompresses, and the program refuses
+PACKED = (b"\x1f\x8b", b"BZh", b"\xfd7zXZ\0", b"\x28\xb5\x2f\xfd")
+
+
+def packed_tests(program, sas, folder):
+    """Yields `python -m sas` over files that are compressed, whole and damaged, and over words that it doesn't know. They could show a file
+    that is judged as it is compressed, a damaged one that has an answer, and a mistake of which nothing is said."""
+    for task, plan in compressed_files(folder):
+        for words in (["plan", task, plan], ["trace", "--why", task, plan], ["plans", task, plan], ["show", task], ["steps", plan]):
+            ran = ended(sys.executable, "-m", "sas", *words, env=environment(sas))
+            plain = [{task: FUSES_FILES[0], plan: FUSES_FILES[1]}.get(it, it) for it in words]
+            expected = ended(program, *plain)
+            output = expected.stdout.replace(plain[-1].encode(), words[-1].encode())
+            yield f"python -m sas {words}", [] if (ran.returncode, ran.stdout) == (0, output) else [f"{ran}"]
+    for suffix, compress in COMPRESS.items():
+        plan = put(os.path.join(folder, f"damaged{suffix}"), compress(read(FUSES_FILES[1]))[:-4])
+        ran = ended(sys.executable, "-m", "sas", "plan", "--why", FUSES_FILES[0], plan, env=environment(sas))
+        lines = ran.stderr.decode().splitlines()
+        well = ran.returncode == 3 and not ran.stdout and lines[0].startswith("sas: the compressed file is damaged: ") and lines[1:] == [f"  {plan}"]
+        yield f"python -m sas, a damaged file, {suffix}", [] if well else [f"{ran}"]
+    behind = put(os.path.join(folder, "behind"), b"a line\n" + gzip.compress(read(FUSES_FILES[1])))
+    command = f"{{ dd bs=1 count=7 status=none >/dev/null; '{sys.executable}' -m sas plan {FUSES_FILES[0]} -; }} < {behind}"
+    ran = ended("sh", "-c", command, env=environment(sas))
+    yield "python -m sas, what of standard input is left", [] if (ran.returncode, ran.stdout) == (0, VALID) else [f"{ran}"]
+    for words, said in (
+        (["bogus"], "python -m sas: there is no command bogus; these are there:"),
+        (["\x1b[31m", "x"], "python -m sas: there is no command \\x1b[31m; these are there:"),
+        ([], "python -m sas: what the library offers on the command line."),
+        (["--help"], "python -m sas: what the library offers on the command line."),
+    ):
+        ran = ended(sys.executable, "-m", "sas", *words, env=environment(sas))
+        lines = ran.stderr.decode().splitlines()
+        well = ran.returncode == 2 and not ran.stdout and lines[0] == said and any("python -m sas table FOLDER.." in it for it in lines)
+        yield f"python -m sas {words}, what is wrong", [] if well else [f"{ran}"]
 
 
 def table_cases(cases, name):
@@ -812,7 +999,8 @@ def trace_of(task: sas.Task, plan: bytes) -> sas.Answer:
 
 def main() -> None:
     with sas.Task.from_file(pathlib.Path("output.sas"), max_bytes=9) as task:
-        answer: sas.Answer = task.plan_operators(array.array("I", [1]), 1)
+        state: sas.State = task.run_state([1])
+        answer: sas.Answer = task.run(array.array("I", [1]), 1, state.values)
         costs: List[Optional[int]] = [it.cost for it in task.plans([b"", bytearray()])]
         names: List[bytes] = [change.name for step in trace_of(task, b"").trace_steps for change in step.changes]
         if answer.verdict is sas.Verdict.INVALID and answer.refused_file is not sas.File.TASK:
@@ -821,15 +1009,24 @@ def main() -> None:
 
 
 def help_tests(_, sas, __):
-    """Yields what `help(sas)` has of each public name. They could show a name without a description, or one that isn't shown."""
+    """Yields what `help` has of the package and of each public name. They could show a name without a description, one that isn't shown,
+    and a call that stands behind hundreds of lines."""
     text = pydoc.plain(pydoc.render_doc(sas))
+    front, lines = text.partition("PACKAGE CONTENTS")[0], text.count("\n")
+    yield "help, how long it is", [] if lines <= MOST_HELP else [f"{lines} lines"]
     for name in sas.__all__:
+        yield f"help, {name}", [] if name == "version" or f"    sas.{name}(" in front or f"; sas.{name}(" in front else ["it isn't in front"]
+    for name in (it for it in dir(sas) if getattr(getattr(sas, it), "__module__", None) == "sas" and not it.startswith("_")):
         it = getattr(sas, name)
-        yield f"help, {name}", [] if re.search(rf"\b{name}\b", text) and it.__doc__ and it.__doc__.strip() else ["no description"]
+        yield f"help, {name}", [] if it.__doc__ and it.__doc__.strip() else ["no description"]
         members = vars(it).items() if isinstance(it, type) else ()
         bare = [its for its, value in members if not its.startswith("_") and not getattr(value, "__doc__", None)]
         yield f"help, what {name} has", [its for its in bare if not isinstance(getattr(it, its), it)]
     yield "help, types", re.findall("ForwardRef.*", text)
+
+
+# how many lines `help(sas)` may have
+MOST_HELP = 400
 
 
 def version_tests(program, sas, folder):
@@ -866,8 +1063,8 @@ def guide_tests(program, sas, folder):
 
 
 TESTS = (
-    value_tests, later_tests, none_tests, number_tests, file_tests, limit_tests, answer_tests,
-    stream_tests, command_tests, table_tests, fault_tests, crash_tests, interrupt_tests,
+    value_tests, later_tests, none_tests, number_tests, run_tests, cost_tests, file_tests, limit_tests, answer_tests,
+    stream_tests, command_tests, packed_tests, table_tests, fault_tests, crash_tests, interrupt_tests,
     report_tests, type_tests, help_tests, version_tests, guide_tests,
 )
 

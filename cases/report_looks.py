@@ -8,12 +8,12 @@ import os
 import re
 import shutil
 import subprocess
-import time
 import urllib.parse
 import xml.etree.ElementTree
 
-from browsers import Chromium
-from harness import differs, ended, is_there
+from browsers import Chromium, comes
+from harness import SECONDS, differs, ended, is_there
+from texts import put
 
 # widths and heights of windows, and zoom
 WINDOWS = ((390, 844, 1), (700, 900, 1), (768, 1024, 1), (1024, 768, 1), (1366, 768, 1), (1920, 1080, 1), (1366, 768, 2))
@@ -71,22 +71,29 @@ def geometry(browser, pages, shown_in):
         shown_in(browser, page)
         browser.resize(width, height, zoom)
         what = f"{name}, {width} pixels, {zoom}00 %"
-        end = time.monotonic() + 10
-        while abs((inner := browser.run("return innerWidth")) - width // zoom) > 4 and time.monotonic() < end:
-            time.sleep(0.05)
-        wrong += [] if abs(inner - width // zoom) < 5 else [f"{what}: the page has {inner} pixels"]
+        wrong += comes(f"{what}: its width", lambda near=width // zoom: abs(browser.run("return innerWidth") - near) < 5, True)
         for after in ("", "fit", "fact"):
             if after == "fit":
                 browser.run("document.getElementById('fit')?.click()")
             elif after == "fact":
-                browser.run("document.querySelector('#state .row a')?.click()")
-                time.sleep(0.1)
-            count, meeting, sideways = browser.run(MEETING)
-            wrong += [f"{what}, {after}: {meeting[:3]}"] if meeting else []
-            wrong += [f"{what}, {after}: {sideways} pixels too wide"] if sideways > 0 else []
-            wrong += [f"{what}: only {count} texts"] if count < 20 else []
+                wrong += fact_shown(browser)
+            # a page that is laid out anew may be seen halfway
+            wrong += comes(f"{what}, {after}: what meets, and pixels too wide", lambda: crowding(browser), [True, [], True])
     browser.resize(1400, 1058)
     return wrong
+
+
+def crowding(browser):
+    """Returns whether there are texts, those that meet, and whether the page is as wide as its window."""
+    count, meeting, sideways = browser.run(MEETING)
+    return [count >= 20, meeting[:3], sideways <= 0]
+
+
+def fact_shown(browser):
+    """Shows the first fact of the state, if there is one."""
+    if not browser.run("const it = document.querySelector('#state .row a'); it?.click(); return it?.checkVisibility() ?? false"):
+        return []
+    return comes("a fact", lambda: browser.run("return document.getElementById('fact').checkVisibility()"), True)
 
 
 # What a reader of the page with other senses gets: elements without a name, with an unknown role, out of place, or too small
@@ -152,9 +159,7 @@ def senses(browser, pages, shown_in):
     for (name, page), is_dark in itertools.product(pages, (False, True)):
         browser.darken(is_dark)
         shown_in(browser, page)
-        browser.run("document.querySelector('#state .row a')?.click()")
-        time.sleep(0.1)
-        wrong += [f"{name}: {it}" for it in browser.run(NAMED)]
+        wrong += fact_shown(browser) + [f"{name}: {it}" for it in browser.run(NAMED)]
         count, faint = browser.run(FAINT)
         wrong += [f"{name}, dark {is_dark}: {it}" for it in faint] + ([] if count > 20 else [f"{name}: {count} texts"])
     browser.darken(False)
@@ -225,20 +230,19 @@ def looks_of(browser, page, shown_in):
 def patterns(browser, page, shown_in):
     """Values of one row that follow each other have another colour, or another pattern."""
     looks = looks_of(browser, page, shown_in)
-    rows = browser.run("""const found = [];
-        for (const it of document.querySelectorAll("#state .row .var")) {
-          it.click();
-          found.push(it.hash);
+    found = browser.run("""return (async () => {
+        const found = [];
+        for (const {hash} of document.querySelectorAll("#state .row .var")) {
+          const changed = new Promise(resolve => addEventListener("hashchange", resolve, {once: true}));
+          location.hash = hash;
+          await changed;
+          for (const li of document.querySelectorAll("#fact .changes li")) {
+            found.push([hash, ...[...li.querySelectorAll("a.name")].map(it => it.firstChild.className)]);
+          }
         }
-        return found""")
-    wrong = []
-    for address in rows:
-        browser.run("location.hash = arguments[0]", address)
-        time.sleep(0.03)
-        pairs = browser.run("""return [...document.querySelectorAll("#fact .changes li")].map(
-            li => [...li.querySelectorAll("a.name")].map(it => it.firstChild.className))""")
-        wrong += [f"{address}: {a}" for a, b in pairs if a == b]
-    return wrong + ([] if len(looks) > 2 else [f"only {len(looks)} values"])
+        return found; })()""")
+    wrong = [f"{address}: {a}" for address, a, b in found if a == b]
+    return wrong + ([] if len(looks) > 2 and found else [f"only {len(looks)} values, {len(found)} changes"])
 
 
 # Paper
@@ -269,13 +273,25 @@ def printed_well(path, labels, what):
     return wrong + ([f"{what}: {len(missing)} rows are missing: {missing[:3]}"] if missing else [])
 
 
+def printed_file(browser, page):
+    """Prints the page that is open into a PDF file beside its own, and returns the path."""
+    return put(os.path.join(os.path.dirname(page), f"{type(browser).__name__}.pdf"), browser.printed())
+
+
 def paper_pages(browser, page, labels, shown_in):
     """A plan over many variables is printed with all its rows, on pages that aren't empty, and no row is cut."""
     shown_in(browser, page)
-    path = os.path.join(os.path.dirname(page), f"{type(browser).__name__}.pdf")
-    with open(path, "wb") as file:
-        file.write(browser.printed())
-    return printed_well(path, labels, "printed")
+    return printed_well(printed_file(browser, page), labels, "printed")
+
+
+def light_paper(browser, page):
+    """A page that is dark on the screen is printed on light paper."""
+    if not is_there("pdftoppm"):
+        return []
+    picture = ended("pdftoppm", "-r", "20", "-f", "1", "-l", "1", "-gray", printed_file(browser, page)).stdout
+    pixels = picture[re.match(rb"P5\s+\d+\s+\d+\s+\d+\s", picture).end():]
+    light = sum(pixels) / len(pixels) / 255
+    return [] if light > 0.85 else [f"paper is light to {light:.0%}"]
 
 
 def printed_at_once(page, labels):
@@ -286,7 +302,7 @@ def printed_at_once(page, labels):
     for i in range(3):
         path = f"{page}.{i}.pdf"
         subprocess.run(["chromium", "--headless=new", "--no-sandbox", "--disable-gpu", "--no-pdf-header-footer",
-                        f"--user-data-dir={page}.profile", f"--print-to-pdf={path}", f"file://{urllib.parse.quote(page)}"], check=False, capture_output=True, timeout=120)
+                        f"--user-data-dir={page}.profile", f"--print-to-pdf={path}", f"file://{urllib.parse.quote(page)}"], check=False, capture_output=True, timeout=SECONDS)
         wrong += printed_well(path, labels, f"run {i}") if os.path.exists(path) else [f"run {i}: nothing is printed"]
     return wrong
 
@@ -300,11 +316,9 @@ def saved(browser, page, shown_in):
     labels = browser.run("return [...document.querySelectorAll('#grid svg text')].map(it => it.textContent)")
     legend = browser.run("return [...document.querySelectorAll('#legend bdi')].map(it => it.textContent)")
     browser.run("document.getElementById('save').click()")
-    end = time.monotonic() + 20
-    while not (os.path.exists(path) and os.path.getsize(path)) and time.monotonic() < end:
-        time.sleep(0.05)
-    if not os.path.exists(path):
-        return ["no picture was saved"]
+    missing = comes("a picture is saved", lambda: os.path.exists(path) and os.path.getsize(path) > 0, True)
+    if missing:
+        return missing
     browser.open(f"file://{urllib.parse.quote(path)}")
     found = browser.run("return [document.documentElement.tagName, ...[...document.querySelectorAll('text')].map(it => it.textContent)]")
     title = browser.run("return document.querySelector('title').textContent")

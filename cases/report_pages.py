@@ -36,7 +36,7 @@ import urllib.parse
 import harness
 import report_looks as looks
 import why
-from browsers import Browser, Chromium, Firefox
+from browsers import Browser, Chromium, Firefox, comes
 from harness import differs, ended, is_there
 from large import turning_files
 from oracles.links import links_of, unneeded_steps
@@ -53,7 +53,7 @@ from sas_text import plan_pieces, task_pieces
 SEED = 7
 # random tasks with axioms whose plans have at least so many steps, and the most variables that the page shows at once
 TASKS, STEPS, VARIABLES = 8, 3, 12
-# bounds for 100,000 steps over 5,000 variables, and what was measured beside other work: 3 s, 89 MB, 848 kB, 4 s and 0.3 s. The seconds
+# bounds for 100,000 steps over 5,000 variables, and what was measured beside other work: 3 s, 92 MB, 903 kB, 2 s and 0.2 s. The seconds
 # are those of processors, and times in a browser are the best of several, since other tests may run beside this one
 LARGE = {"seconds": 15, "megabytes": 200, "bytes": 1000000, "picture": 20, "key": 3}
 # how many bytes of memory a report of what is too long may have: a little more than a page is made of
@@ -128,14 +128,6 @@ class Reports:
         return ran.stdout.decode("latin-1").splitlines()
 
 
-def comes(what, find, expected):
-    """Waits until a page shows this, since a browser follows an address or a wheel when it likes. Returns what is wrong where it never does."""
-    end = time.monotonic() + LARGE["picture"]
-    while (found := find()) != expected and time.monotonic() < end:
-        time.sleep(0.02)
-    return differs(found, expected, what)
-
-
 # Without a browser
 
 
@@ -197,28 +189,19 @@ def names_of_plans(reports):
     return differs(found, ["./t.2/sas_plan", "t.9/sas_plan", "t.10/sas_plan"], "names")
 
 
-# sas of a later version, which tells reasons with the trace, so that one run is enough
-ONE_RUN = """#!/bin/sh
-echo "$1 $2" >> runs
-case $1 in --version) exec "$SAS" --version;; esac
-[ "$1 $2" = "trace --why" ] || exit 2
-shift 2
-"$SAS" trace "$@" || { "$SAS" plan --why "$@" | tail -n +2; exit 1; }
-"""
+COUNTED = '#!/bin/sh\necho "$1 $2" >> runs\nexec "$SAS" "$@"\n'
 
 
 def one_run(reports):
-    """Where sas knows `trace --why`, one run of it is enough, and the page is the same."""
+    """sas is run once for each plan, and once for its version."""
     paths = reports.files(*example("short"), example("valid")[1])
-    folder, wrong = os.path.dirname(paths[0]), []
-    put(os.path.join(folder, "later"), ONE_RUN)
-    os.chmod(os.path.join(folder, "later"), 0o755)
-    env = {**os.environ, "SAS": reports.sas}
-    pages = [reports.run(*paths, "-o", "-", "--sas", it, cwd=folder, env=env).stdout for it in (reports.sas, "./later")]
+    folder = os.path.dirname(paths[0])
+    counted = put(os.path.join(folder, "counted"), COUNTED)
+    os.chmod(counted, 0o755)
+    ran = reports.run(*paths, "-o", "-", "--sas", counted, cwd=folder, env={**os.environ, "SAS": reports.sas})
     runs = text_of(os.path.join(folder, "runs")).splitlines()
-    wrong += differs(pages[1], pages[0], "the page") if pages[0] else ["no page"]
-    # one more asks whether it knows that
-    return wrong + differs(runs.count("trace --why"), 3, "runs for two plans") + differs(len(runs), 4, "runs")
+    wrong = differs((ran.returncode, ran.stdout[:15]), (1, b"<!DOCTYPE html>"), "the page")
+    return wrong + differs(runs, ["--version ", "trace --why", "trace --why"], "runs")
 
 
 # lines that a later version of sas prints
@@ -300,7 +283,7 @@ def closed_streams(reports):
     return wrong
 
 
-WAITING = "#!/bin/sh\ncase $1 in --version) exec \"$SAS\" --version;; trace) exit 2;; esac\ncat \"$3\" \"$4\" > seen\nkill -$SIGNAL $PPID\n"
+WAITING = "#!/bin/sh\ncase $1 in --version) exec \"$SAS\" --version;; esac\ncat \"$3\" \"$4\" > seen\nkill -$SIGNAL $PPID\n"
 
 
 def signals(reports):
@@ -580,11 +563,39 @@ def heading(browser):
     return text(browser, "#step h3")
 
 
+def heads(browser, expected, what):
+    """Waits until the selected step has a heading that begins so."""
+    return comes(what, lambda: heading(browser)[:len(expected)], expected)
+
+
+def shows(browser, selector, expected, what):
+    """Waits until an element shows this text."""
+    return comes(what, lambda: text(browser, selector), expected)
+
+
+def has(browser, selector, words):
+    """Waits until an element shows a text with these words."""
+    return comes(f"{words} in {selector}", lambda: words in text(browser, selector), True)
+
+
 def focus(browser, name):
     browser.run("document.getElementById(arguments[0]).focus()", name)
 
 
 WIDE = "return parseFloat(document.querySelector('#grid > div').style.width)"
+
+
+def reached(browser, wanted):
+    """Goes on by the tabulator, and returns which of these elements it reaches."""
+    found = []
+    for _ in range(60):
+        if set(wanted) <= set(found):
+            break
+        browser.run("window.last = document.activeElement")
+        browser.press("Tab")
+        comes("another focus", lambda: browser.run("return document.activeElement !== window.last"), True, LARGE["picture"])
+        found.append(browser.run("return document.activeElement.id"))
+    return [name for name in wanted if name in found]
 
 
 def keys(browser, reports):
@@ -597,34 +608,30 @@ def keys(browser, reports):
     wrong += differs(heading(browser), "Step 1 up f0 f1", "keys of the window")
     focus(browser, "grid")
     for pressed, expected in (("ArrowRight", "Step 2"), ("End", "Step 6"), ("ArrowRight", "Step 6"), ("ArrowLeft", "Step 5"),
-                              ("PageUp", "Initial"), ("PageDown", "Step 6"), ("Home", "Initial")):
+                              ("PageUp", "initial"), ("PageDown", "Step 6"), ("Home", "initial")):
         browser.press(pressed)
-        wrong += [] if heading(browser).lower().startswith(expected.lower()) else [f"{pressed}: {heading(browser)}"]
-    wrong += differs(text(browser, "#spent"), "cost 0 of 7", "cost")
+        wrong += heads(browser, expected, pressed)
+    wrong += shows(browser, "#spent", "cost 0 of 7", "cost")
     before = browser.run(WIDE)
     browser.press(*"++++++++")
-    wrong += [] if browser.run(WIDE) > before else ["+ doesn't make steps wider"]
+    wrong += comes("+ makes steps wider", lambda: browser.run(WIDE) > before, True)
     browser.press("f")
-    wrong += differs(browser.run(WIDE), before, "f")
+    wrong += comes("f", lambda: browser.run(WIDE), before)
     browser.press("/", *"stop", "ArrowRight")
-    wrong += differs([text(browser, "#found"), heading(browser)], ["3 of 6", "initial state"], "a search")
+    wrong += shows(browser, "#found", "3 of 6", "a search") + heads(browser, "initial state", "an arrow in a search")
     focus(browser, "steps")
     for pressed, expected in (("ArrowDown", "Step 2"), ("ArrowDown", "Step 4"), ("End", "Step 6"), ("ArrowUp", "Step 4"), ("Home", "Step 2"),
                               ("PageDown", "Step 6"), ("PageUp", "Step 2")):
         browser.press(pressed)
-        wrong += differs(heading(browser)[:6], expected, f"{pressed} in what is found")
+        wrong += heads(browser, expected, f"{pressed} in what is found")
     focus(browser, "at")
     browser.press("ArrowRight")
-    said = browser.run("const it = document.getElementById('at'); return [it.type, it.max, it.getAttribute('aria-valuetext')]")
-    wrong += differs(said, ["range", "6", "Step 3 of 6: up f1 f2"], "the slider")
+    said = "const it = document.getElementById('at'); return [it.type, it.max, it.getAttribute('aria-valuetext')]"
+    wrong += comes("the slider", lambda: browser.run(said), ["range", "6", "Step 3 of 6: up f1 f2"])
     browser.run("document.activeElement.blur()")
-    reached = []
-    for _ in range(34):
-        browser.press("Tab")
-        reached.append(browser.run("return document.activeElement.id"))
     wanted = ["previous", "play", "next", "at", "narrower", "wider", "fit", "save", "theme", "rows", "which", "order", "only", "grid", "step",
               "find", "steps", "filter", "state"]
-    wrong += differs([name for name in wanted if name in reached], wanted, "by the tabulator")
+    wrong += differs(reached(browser, wanted), wanted, "by the tabulator")
     focus(browser, "state")
     browser.press("ArrowDown", "ArrowDown", "Enter")
     return wrong + comes("a fact by keys", lambda: browser.run("return location.hash.startsWith('#fact-')"), True)
@@ -636,13 +643,13 @@ def escape(browser, reports):
     shown_in(browser, page)
     wrong = []
     for field, count, some, all_of_them in (("filter", "matched", "1 of 5", "5"), ("find", "found", "1 of 6", "6"),
-                                            ("rows", "shown", "1 of 5 variables", "5 of 5 variables")):
+                                            ("rows", "shown", "1 of 5", "5")):
         focus(browser, field)
         browser.press(*("up f1" if field == "find" else "lift"))
-        wrong += differs(text(browser, f"#{count}"), some, f"{field}: words")
+        wrong += shows(browser, f"#{count}", some, f"{field}: words")
         browser.press("Escape")
-        found = browser.run("return document.getElementById(arguments[0]).value", field)
-        wrong += differs((found, text(browser, f"#{count}")), ("", all_of_them), f"{field}: Escape")
+        wrong += shows(browser, f"#{count}", all_of_them, f"{field}: Escape")
+        wrong += differs(browser.run("return document.getElementById(arguments[0]).value", field), "", f"{field}: after Escape")
     return wrong
 
 
@@ -652,7 +659,7 @@ def paged(browser, box, what):
     for key, is_there_then in (("PageDown", lambda top: top > 60), ("End", lambda top: top > 60), ("Home", lambda top: top < 5)):
         for _ in range(4):
             browser.press(key)
-            end = time.monotonic() + 3
+            end = time.monotonic() + LARGE["picture"] / 4
             while not (is_done := is_there_then(browser.run(down, box))) and time.monotonic() < end:
                 time.sleep(0.1)
             if is_done:
@@ -661,9 +668,14 @@ def paged(browser, box, what):
     return wrong
 
 
+# whether the selected row is in view
+IN_VIEW = """const [box, row] = ["#steps", "#steps .on"].map(it => document.querySelector(it)?.getBoundingClientRect());
+    return row !== undefined && row.top >= box.top - 1 && row.bottom <= box.bottom + 1;"""
+
+
 def paging(browser, reports):
     """Each list can be paged where the focus is, also one whose rows aren't all elements; the selected step stays. The order of rows is
-    that of the variables, but that those of the step come first."""
+    that of the variables, but that those of the step come first. A step that is selected comes into view."""
     wrong = []
     for page, name in ((reports.large, "5,000 variables"), (reports.wide, "300 variables")):
         shown_in(browser, page)
@@ -678,6 +690,11 @@ def paging(browser, reports):
         numbers = [(not is_here, 0 if is_here else int(re.search(r"fact-(\d+)", address)[1])) for is_here, address in order]
         wrong += [] if numbers == sorted(numbers) else [f"{name}: the order of the state"]
         wrong += [] if order[0][0] else [f"{name}: what the step changes isn't first"]
+        for key, address in (("ArrowRight", "#step-701"), ("ArrowLeft", "#step-699"), ("End", "#step-0")):
+            shown_in(browser, page, address)
+            focus(browser, "grid")
+            browser.press(key)
+            wrong += comes(f"{name}: the row of the step after {key}", lambda: browser.run(IN_VIEW), True)
     return wrong
 
 
@@ -700,26 +717,26 @@ def fields(browser, reports):
     wrong += differs(browser.run("return document.querySelectorAll('#step .reasons').length"), 0, "reasons are said twice")
     for which, expected in (("all", 8), ("derived", 3), ("goal", 1), ("changing", 2), ("main", 3)):
         choose(browser, "which", which)
-        wrong += differs(text(browser, "#shown"), f"{expected} of 8 variables", which)
+        wrong += differs(text(browser, "#shown"), f"{expected} of 8" if expected < 8 else "8", which)
     for order in ("number", "often", "first"):
         choose(browser, "order", order)
     choose(browser, "rows", "hand")
-    wrong += differs(text(browser, "#shown"), "1 of 8 variables", "rows")
+    wrong += differs(text(browser, "#shown"), "1 of 8", "rows")
     choose(browser, "rows", "")
     for words, expected in (("lit", "2 of 8"), ("LYING(F2)", "1 of 8"), ("nothing", "0 of 8"), ("", "8")):
         choose(browser, "filter", words)
         wrong += differs(text(browser, "#matched"), expected, f"filter {words}")
-    wrong += differs("requires true" in text(browser, "#state"), True, "what is required")
+    wrong += has(browser, "#state", "requires true")
     browser.run("document.querySelector('.reasons a[href=\"#step-1\"]').click()")
-    wrong += comes("a link", lambda: heading(browser), "Step 1 take f1")
+    wrong += heads(browser, "Step 1 take f1", "a link")
     choose(browser, "only", True)
-    wrong += differs([text(browser, "#matched"), text(browser, "#shown")], ["2 of 8", "2 of 8 variables"], "only this step's")
+    wrong += differs([text(browser, "#matched"), text(browser, "#shown")], ["2 of 8", "2 of 8"], "only this step's")
     for words, expected in (("holding(f1)", "1 of 3"), ("take", "2 of 3"), ("", "3")):
         choose(browser, "find", words)
         wrong += differs(text(browser, "#found"), expected, f"find {words}")
     focus(browser, "grid")
     browser.press("End")
-    wrong += differs("Not judged: step 2 fails before it." in text(browser, "#step"), True, "not judged")
+    wrong += has(browser, "#step", "Not judged: step 2 fails before it.")
     shown_in(browser, page, "#step-3")
     wrong += differs(heading(browser), "Step 3 put f2 feed", "an address")
     for address, first, marks in (("#fact-0-0", "rule 3", "✗✗"), ("#fact-7-1", "rule 9", "✓")):
@@ -745,7 +762,7 @@ def buttons(browser, reports):
     browser.run(press, "narrower")
     browser.run(press, "play")
     wrong += differs(browser.run("return document.getElementById('play').ariaLabel"), "Pause", "while it plays")
-    wrong += comes("played", lambda: heading(browser)[:6], "Step 6")
+    wrong += heads(browser, "Step 6", "played")
     wrong += comes("played to the end", lambda: browser.run("return document.getElementById('play').ariaLabel"), "Play")
     wrong += differs("Step 6 of 6" in text(browser, "#live"), True, "what is told")
     light = "return getComputedStyle(document.body).backgroundColor"
@@ -754,10 +771,10 @@ def buttons(browser, reports):
     wrong += [] if browser.run(light) != before else ["dark is as light"]
     if isinstance(browser, Chromium):
         browser.prefer("prefers-reduced-motion", "reduce")
-        wrong += differs(browser.run("return document.getElementById('play').checkVisibility()"), False, "play without motion")
+        wrong += comes("play without motion", lambda: browser.run("return document.getElementById('play').checkVisibility()"), False)
         browser.prefer("forced-colors", "active")
-        colours = browser.run("const it = getComputedStyle(document.documentElement); return ['card', 'ink'].map(name => it.getPropertyValue('--' + name))")
-        wrong += differs([it.strip() for it in colours], ["Canvas", "CanvasText"], "forced colours")
+        colours = "const it = getComputedStyle(document.documentElement); return ['card', 'ink'].map(name => it.getPropertyValue('--' + name).trim())"
+        wrong += comes("forced colours", lambda: browser.run(colours), ["Canvas", "CanvasText"])
         browser.chrome("Emulation.setEmulatedMedia", features=[])
     return wrong
 
@@ -767,23 +784,28 @@ def pointer(browser, reports):
     scale."""
     page, _ = reports.page(*example("elevator"))
     shown_in(browser, page)
-    wrong, places = [], {}
-    for name in ("grid", "cost"):
-        place = "const it = document.getElementById(arguments[0]).getBoundingClientRect(); return [it.left, it.top, it.width]"
-        places[name] = browser.run(place, name)
     bar = browser.run("const it = document.querySelector('#grid svg g path').getBoundingClientRect(); return [it.left, it.right]")
-    browser.click(bar[0] + 10, places["grid"][1] + 60)
-    wrong += differs(heading(browser), "initial state", "the first column")
-    browser.click(bar[1] - 10, places["cost"][1] + 30)
-    wrong += differs(heading(browser)[:6], "Step 6", "the end of the map")
+
+    def place(name, x, y):
+        """Returns where a place of an element is now."""
+        return browser.run("const {left, top} = document.getElementById(arguments[0]).getBoundingClientRect(); return [left + arguments[1], top + arguments[2]]",
+                           name, x, y)
+
+    browser.click(bar[0] + 10, place("grid", 0, 60)[1])
+    wrong = heads(browser, "initial state", "the first column")
+    browser.click(bar[1] - 10, place("cost", 0, 30)[1])
+    wrong += heads(browser, "Step 6", "the end of the map")
     before = browser.run(WIDE)
-    browser.wheel(places["grid"][0] + 400, places["grid"][1] + 60, -400)
+    browser.wheel(*place("grid", 400, 60), -400)
     wrong += comes("the wheel makes it wider", lambda: browser.run(WIDE) > before, True)
-    browser.point(places["grid"][0] + 300, places["grid"][1] + 60)
-    said = browser.run("return document.getElementById('grid').title")
-    wrong += [] if "var" in said else [f"below the pointer: {said}"]
-    browser.click(places["grid"][0] + 30, places["grid"][1] + 60)
-    return wrong + differs("Changes: 3" in text(browser, "#fact"), True, "a click on a label")
+    browser.point(*place("grid", 300, 60))
+    wrong += comes("below the pointer", lambda: browser.run("return document.getElementById('grid').title.includes('var')"), True)
+    browser.click(*place("grid", 30, 60))
+    wrong += has(browser, "#fact", "Changes: 3")
+    # the picture is drawn anew while the button is down
+    browser.run("const it = document.getElementById('grid'); it.addEventListener('pointerdown', () => it.dispatchEvent(new Event('scroll')))")
+    browser.point(*place("grid", 30, 82), *({"type": kind, "button": 0, "duration": 200} for kind in ("pointerDown", "pause", "pointerUp")))
+    return wrong + has(browser, "#fact", "variable 1:")
 
 
 def several(browser, reports):
@@ -799,19 +821,19 @@ def several(browser, reports):
         ["c.plan", "✕ plan invalid: step 4: not applicable", "4", "–"], ["a.plan", "! plan refused: line 1: keyword", "–", "–"],
     ], "the list")
     wrong += differs(text(browser, "#best"), "4 plans, 1 valid, best cost 4: d.plan", "the best")
-    wrong += differs(text(browser, "#parts"), "1 difference: 1 only in d.plan.", "what differs")
+    wrong += differs(text(browser, "#parts"), "1 only in d.plan", "what differs")
     compared = """return [...document.querySelectorAll("#compared .row")].map(
         row => [...row.children].map(cell => cell.innerText.replace(/\\s+/g, " ").trim()))"""
     steps = [["1 take f1", "1 take f1"], ["2 put f1 link", ""], ["3 take f2", "✕ 2 take f2"], ["4 put f2 feed", "3 put f2 feed"]]
-    wrong += differs(browser.run(compared), steps, "side by side")
+    wrong += comes("side by side", lambda: browser.run(compared), steps)
     browser.run("const it = document.getElementById('other'); it.selectedIndex = 2; it.dispatchEvent(new Event('change'))")
-    wrong += differs(text(browser, "#parts"), "2 differences: 1 only in d.plan, 1 only in c.plan.", "another pair")
+    wrong += differs(text(browser, "#parts"), "1 only in d.plan, 1 only in c.plan", "another pair")
     shown = "return document.querySelector('article:not([hidden]) h1')?.textContent"
     for address, verdict in (("#plan-2", rows[1][1][2:]), ("#plan-1", rows[3][1][2:]), ("#plan-4-step-3", rows[0][1][2:])):
         # the page is late, so that the note of the last selection is due before it follows
         browser.run("const end = performance.now() + 400; while (performance.now() < end); location.hash = arguments[0]", address)
         wrong += comes(address, lambda: browser.run(shown), verdict)
-    wrong += comes("its step", lambda: heading(browser), "Step 3 take f2")
+    wrong += heads(browser, "Step 3 take f2", "its step")
     browser.run("document.querySelector('#back a').click()")
     return wrong + comes("back", lambda: browser.run("return document.querySelector('main').hidden"), True)
 
@@ -919,11 +941,11 @@ def edges(browser, reports):
         wrong += [f"{name}: {word} isn't shown" for word in words if word not in seen]
         focus(browser, "grid")
         browser.press("ArrowRight", "f", "End", "f", "+", "Home")
-        wrong += differs(heading(browser), "initial state", f"{name}: after keys")
+        wrong += heads(browser, "initial state", f"{name}: after keys")
     if isinstance(browser, Chromium):  # its scripts see the classes of the page
         sums = """const task = {moves: [[0]], operators: new Map([[0, {cost: 2147483647}]]), variables: [], goal: []};
             const plan = {steps: Array(5e6).fill(0), rest: [], missing: [], clash: []};
-            return String(new Run(task, plan, []).cost[5e6])"""
+            return String(new Run(task, plan).cost[5e6])"""
         wrong += differs(browser.run(sums), str(5000000 * (2**31 - 1)), "a sum of costs")
     return wrong
 
@@ -933,19 +955,18 @@ def paper(browser, reports):
     page, _ = reports.page(*example("elevator"))
     shown_in(browser, page)
     light = "return getComputedStyle(document.body).backgroundColor"
-    wrong, before = [], browser.run(light)
+    before = browser.run(light)
     browser.darken(True)
+    wrong = comes("the dark isn't light", lambda: browser.run(light) != before, True)
     dark = browser.run(light)
-    wrong += [] if dark != before else ["the dark is as light"]
     browser.run("dispatchEvent(new Event('beforeprint'))")
     count = "return ['#steps .row', '#state .row', '#paper tbody tr'].map(it => document.querySelectorAll(it).length)"
-    card = "return getComputedStyle(document.documentElement).getPropertyValue('--card').trim()"
     lost = """return [...document.querySelectorAll("#paper path")].map(it => /url.#([^)]+)/.exec(it.getAttribute("fill"))?.[1])
-        .filter(id => id && !document.querySelector("#paper #" + id))"""
+        .filter(id => id && !document.querySelector("#tiles #" + id))"""
     wrong += differs(browser.run(lost), [], "patterns that paper lacks")
-    wrong += differs(browser.run(count), [7, 5, 5], "rows on paper") + differs(browser.run(card), "#ffffff", "the colour of paper")
+    wrong += differs(browser.run(count), [7, 5, 5], "rows on paper")
     browser.run("dispatchEvent(new Event('afterprint'))")
-    wrong += differs(browser.run(light), dark, "afterwards")
+    wrong += differs(browser.run(light), dark, "afterwards") + looks.light_paper(browser, page)
     browser.darken(False)
     labels = [f"var{i}" for i in range(300)]
     wrong += looks.paper_pages(browser, reports.wide, labels, shown_in)
@@ -953,9 +974,9 @@ def paper(browser, reports):
     shown_in(browser, reports.large)
     browser.run("dispatchEvent(new Event('beforeprint'))")
     said = browser.run("return [document.getElementById('paper').innerText, document.getElementById('steps').textContent].join()")
-    wrong += [] if re.search(r"99,\d{3} more", said) else ["what is left out on paper isn't said"]
+    wrong += [] if "95,001 more" in said else ["what is left out on paper isn't said"]
     browser.run("dispatchEvent(new Event('afterprint'))")
-    return wrong
+    return wrong + comes("the selected row after printing", lambda: browser.run(IN_VIEW), True)
 
 
 def appearance(browser, reports):
@@ -972,8 +993,7 @@ def appearance(browser, reports):
     wrong += differs({name: kinds[0] for name, kinds in some.items()}, {name: kinds[0] for name, kinds in other.items()}, "colours by names")
     browser.resize(1920, 1080)
     shown_in(browser, reports.wide)
-    high = browser.run("return document.getElementById('grid').clientHeight")
-    return wrong + ([] if high > 800 else [f"the picture has {high} of 1080 pixels"])
+    return wrong + comes("the picture is high", lambda: browser.run("return document.getElementById('grid').clientHeight > 800"), True)
 
 
 def long_names(reports):
@@ -1024,12 +1044,12 @@ def large_page(browser, reports):
     box = browser.run("""const it = document.getElementById("grid"), box = it.getBoundingClientRect();
         return [box.left, box.top, it.clientWidth, it.scrollWidth]""")
     browser.click(box[0] + box[2] - 170, box[1] + 60)
-    wrong += differs(heading(browser).split(" ")[1], "100,000", "the column at the right end")
+    wrong += heads(browser, "Step 100,000", "the column at the right end")
     browser.run("document.getElementById('grid').scrollLeft = arguments[0]", box[3] // 2)
     browser.run(FRAMES + "return frame().then(frame).then(() => 1)")
     browser.click(box[0] + box[2] // 2, box[1] + 60)
-    middle = int(heading(browser).split(" ")[1].replace(",", ""))
-    return wrong + ([] if 49900 < middle < 50100 else [f"the middle is step {middle}"])
+    middle = "return Math.abs(document.getElementById('at').value - 50000) < 100"
+    return wrong + comes("the middle", lambda: browser.run(middle), True)
 
 
 ALONE = (statuses, said, names_of_plans, one_run, later_lines, read_once, closed_streams, signals, limits, found_programs, with_library,

@@ -1,6 +1,6 @@
 // values: reads answers from standard input, for values.py. Each has a line with 0 for a yes or 1 for a no, and the length of its text, and
 // then the text. Of each it prints three parts, each after a line with its length: the verdict and its numbers; the text, put together
-// again of the steps of a trace or of the reasons of a plan; and how the answer and its values are printed.
+// again of its values; and how the answer and its values are printed.
 #include "sas_answers.hpp"
 #include <iostream>
 #include <sstream>
@@ -15,36 +15,98 @@ template <class Value> static std::string shown(const std::optional<Value> &it) 
     return out.str();
 }
 
+// how many names of the answer are shown otherwise than they are
+static int shown_names = 0;
+
 static std::string values_of(const sas::Answer &it) {
     std::ostringstream out;
     out << it.verdict() << ' ' << shown(it.refused_file()) << ' ' << shown(it.failing_step()) << ' ' << shown(it.goal_fact()) << ' ';
-    out << shown(it.sum()) << ' ' << shown(it.cost()) << ' ' << shown(it.steps()) << ' ' << it.reason();
+    out << shown(it.sum()) << ' ' << shown(it.cost()) << ' ' << shown(it.steps()) << ' ' << shown_names << ' ' << it.reason() << '\n';
+    out << shown(it.failure());
     return out.str();
 }
 
 // names are written in bytes here
+template <class Named> static std::string name_of(const Named &it) {
+    shown_names += it.shown;
+    return std::string(it.name);
+}
+
 static std::string raw(const sas::Fact &it) {
-    return std::to_string(it.variable) + ' ' + std::to_string(it.value) + ' ' + std::string(it.name);
+    return std::to_string(it.variable) + ' ' + std::to_string(it.value) + ' ' + name_of(it);
 }
 
 static void write_verdict(std::ostream &out, const sas::Answer &it) {
     if (it.steps()) {
         out << "plan valid: " << *it.steps() << " steps, cost " << it.cost().value() << '\n';
-    } else if (it.sum()) {
+    } else if (it.failure() == sas::Failure::cost && it.sum() && it.cost()) {
         out << "plan invalid: cost is " << *it.sum() << ", not " << it.cost().value() << '\n';
     } else if (it.goal_fact()) {
         out << "plan invalid: goal fact " << *it.goal_fact() << " not reached\n";
     } else if (it.failing_step()) {
         out << "plan invalid: step " << *it.failing_step() << it.reason().substr(it.reason().find(": ")) << '\n';
-    } else if (it.refused_file()) {
-        out << *it.refused_file() << " refused: " << it.reason() << '\n';
+    } else if (it.failure() == sas::Failure::state) {
+        out << "state refused: " << it.reason() << '\n';
+    }
+}
+
+static void write_refusal(std::ostream &out, sas::File file, const sas::Refusal &it) {
+    const bool is_layer = it.place && !it.expected;
+    out << file << " refused: " << (is_layer ? std::string(*it.place) : "line " + std::to_string(it.line.value())) << ": " << it.word << '\n';
+    if (is_layer && it.line) {
+        out << "  line " << *it.line << '\n';
+    } else if (it.place && !is_layer) {
+        out << "  at " << *it.place << '\n';
+    }
+    if (it.expected) {
+        out << "  expected " << *it.expected << '\n';
+    }
+    if (it.wrong_number) {
+        out << "  number " << it.wrong_number->number << " must be " << it.wrong_number->lowest << " to " << it.wrong_number->highest << '\n';
+    }
+    if (it.list_count) {
+        out << "  line " << it.list_count->line << " counts " << it.list_count->items << '\n';
+    }
+    if (it.found) {
+        out << "  " << *it.found << (it.text ? " " + std::string(*it.text) : "") << '\n';
+    }
+    if (it.hint) {
+        out << "  hint " << *it.hint << '\n';
+    }
+}
+
+static void write_summary(std::ostream &out, const sas::Summary &it) {
+    out << "metric " << it.metric << "\nvariables " << it.variables << "\nderived " << it.derived << "\ngroups " << it.groups;
+    out << "\noperators " << it.operators << "\nrules " << it.rules << '\n';
+    for (const sas::Fact &fact : it.initial) {
+        out << "initial " << raw(fact) << '\n';
+    }
+    for (const sas::Fact &fact : it.goal) {
+        out << "goal " << raw(fact) << '\n';
+    }
+}
+
+static void write_group(std::ostream &out, const sas::Group &it) {
+    out << "group " << it.number << ' ' << it.verdict << (it.op ? " " + std::to_string(*it.op) : "") << '\n';
+    if (it.line) {
+        out << "  operator " << it.op.value() << " line " << *it.line << ' ' << it.name.value() << '\n';
+        shown_names += it.shown;
+    }
+    for (const sas::Effect &effect : it.effects) {
+        out << "  effect " << effect.number << " sets " << raw(effect.fact) << '\n';
+    }
+    for (const sas::Fact &fact : it.facts) {
+        out << (it.verdict == sas::GroupVerdict::derived ? "  derived " : "  holds ") << raw(fact) << '\n';
+    }
+    if (it.may_remain) {
+        out << "  may remain " << raw(*it.may_remain) << '\n';
     }
 }
 
 static void write_cause(std::ostream &out, const sas::Cause &it) {
     out << "    requires " << raw(it.required) << "\n    actual " << raw(it.actual) << "\n    since ";
     if (it.since) {
-        out << "step " << it.since->number << ' ' << it.since->name << '\n';
+        out << "step " << it.since->number << ' ' << name_of(*it.since) << '\n';
     } else {
         out << "the initial state\n";
     }
@@ -71,21 +133,28 @@ static void write_operators(std::ostream &out, const sas::Reasons &it) {
 
 static void write_reasons(std::ostream &out, const sas::Reasons &it) {
     if (it.step) {
-        out << "  step " << it.step->number << ' ' << it.step->name << '\n';
+        out << "  step " << it.step->number << ' ' << name_of(*it.step) << '\n';
     }
     if (const auto &similar = it.similar_operator) {
-        out << "  similar operator " << similar->op << " line " << similar->line << ' ' << similar->name << '\n';
+        out << "  similar operator " << similar->op << " line " << similar->line << ' ' << name_of(*similar) << '\n';
     }
     for (const sas::UnknownStep &further : it.further_steps) {
-        out << "  step " << further.step.number << ' ' << further.step.name << '\n';
+        out << "  step " << further.step.number << ' ' << name_of(further.step) << '\n';
         if (const auto &similar = further.similar_operator) {
-            out << "  similar operator " << similar->op << " line " << similar->line << ' ' << similar->name << '\n';
+            out << "  similar operator " << similar->op << " line " << similar->line << ' ' << name_of(*similar) << '\n';
         }
     }
     if (it.failing && it.total) {
         out << "  " << *it.failing << " of " << *it.total << (it.step ? " steps name no operator\n" : " goal facts fail\n");
     }
     write_operators(out, it);
+    if (const auto &made = it.if_made) {
+        out << "  if made anyway " << made->failing_later << " of " << made->later << " later steps fail\n";
+        for (const sas::NamedStep &step : made->first_failing) {
+            out << "    step " << step.number << ' ' << name_of(step) << '\n';
+        }
+        out << "  if made anyway " << made->failing_goal << " of " << made->goal << " goal facts fail\n";
+    }
     for (const sas::GoalFact &goal : it.goal_facts) {
         out << "  goal fact " << goal.index << '\n';
         write_cause(out, goal.cause);
@@ -136,9 +205,20 @@ int main() {
         // memory of just this size, so that a sanitizer sees what is read behind it
         answer.text.shrink_to_fit();
         std::ostringstream again, printed;
+        shown_names = 0;
         write_trace(again, answer);
-        write_verdict(again, answer);
-        write_reasons(again, answer.reasons());
+        if (const auto refusal = answer.refusal()) {
+            write_refusal(again, answer.refused_file().value(), *refusal);
+        } else {
+            write_verdict(again, answer);
+            write_reasons(again, answer.reasons());
+        }
+        if (const auto summary = answer.summary()) {
+            write_summary(again, *summary);
+        }
+        for (const sas::Group &group : answer.groups()) {
+            write_group(again, group);
+        }
         print(printed, answer);
         tell(values_of(answer));
         tell(again.str());

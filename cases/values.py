@@ -1,5 +1,6 @@
 #!/usr/bin/env python3
-"""Tests the values of answers in C++ and Rust: the verdict and its numbers, the steps of a trace, and the reasons of a plan.
+"""Tests the values of answers in C++ and Rust: the verdict and its numbers, the steps of a trace, the reasons of a plan, why a file is
+refused, the summary of a task, and the verdicts on groups.
 
     python3 cases/values.py
 
@@ -37,8 +38,12 @@ SPOILED, AT_ONCE = 3000, 2000
 # lines that a later version may add to reasons
 LATER = ("  later", "  later 1 of 2", "    later 1 requires 0 0 x")
 LATER += ("  steps", "  step", "  operator 1", "    rule 1", "  hint", "    ", "  ")
-# reasons of which a program shows the hint alone
-REFUSED = ("plan refused: line 1: keyword\n  expected (NAME)\n  found hint x\n  hint comments aren't read\n", "hint comments aren't read")
+# a line of a reason that has a name, and words that say what failed by the end of the reason
+NAMED = re.compile(
+    rb"  (?:  )?(?:(?:since )?step \d+|similar operator \d+ line \d+|operator \d+ line \d+|(?:requires|actual|derived|holds|may remain) \d+ \d+"
+    rb"|(?:effect|rule) \d+ (?:sets|derives|requires) \d+ \d+) (.*)"
+)
+STEP_FAILURES = ("not applicable", "no operator of that name", "no operator of that number", "conflicting effects")
 
 
 def readable(text, is_utf8):
@@ -52,26 +57,46 @@ def verdict_line(text):
     return text.split(b"\n")[-2 if text.startswith(b"initial ") else 0]
 
 
+def failure_of(line):
+    """Returns what fails, by the line with the verdict."""
+    if line.startswith("state refused: "):
+        return "state"
+    found = re.fullmatch(r"plan invalid: (?:(goal) fact|(cost) is|step \d+:) (.*)", line)
+    return next((it for it in (found[1], found[2], found[3]) if it in ("goal", "cost", *STEP_FAILURES)), "-") if found else "-"
+
+
+def shown_names(text):
+    """Returns how many names of an answer aren't as they are in the file. Of a file that is refused no name is a value."""
+    names = [] if text.startswith((b"initial ", b"metric ")) or b" refused: " in verdict_line(text) else NAMED.findall(text)
+    return sum(b"\\" in name or len(name) > 256 for name in names)
+
+
 def values_of(number, text):
     line = verdict_line(text).decode("latin-1")
-    found = re.fullmatch(r"(plan|task) (valid|invalid|refused): (.*)", line)
+    found, shown = re.fullmatch(r"(plan|task|state) (valid|invalid|refused): (.*)", line), shown_names(text)
     if not found:
         groups = re.findall(r"^(?!group \d+ exclusive$)group .*$", text.decode("latin-1"), re.MULTILINE)
-        return f"no - - - - - - {groups[0]}" if number else "yes - - - - - - "
+        return f"no - - - - - - {shown} {groups[0]}\n-" if number else f"yes - - - - - - {shown} \n-"
     file, verdict, reason = found.groups()
-    patterns = (r"step (\d+): .*", r"goal fact (\d+) .*", r"cost is (\d+), .*", r".*(?:, cost|, not) (\d+)", r"(\d+) steps, .*")
+    patterns = (r"step (\d+): .*", r"goal fact (\d+) .*", r"(?:cost is|\d+ steps, cost) (\d+).*", r".*(?:, cost|, not) (\d+)", r"(\d+) steps, .*")
     fields = [re.fullmatch(pattern, reason) if verdict != "refused" else None for pattern in patterns]
-    numbers = " ".join(it[1] if it else "-" for it in fields)
-    return f"{verdict} {file if verdict == 'refused' else '-'} {numbers} {'' if verdict == 'valid' else reason}"
+    numbers = [it[1] if it else "-" for it in fields]
+    if text.startswith(b"initial "):
+        numbers[2] = str(sum(map(int, re.findall(rb"^step \d+ \d+ (\d+) ", text, re.MULTILINE))))
+    refused = file if verdict == "refused" and file != "state" else "-"
+    return f"{verdict} {refused} {' '.join(numbers)} {shown} {'' if verdict == 'valid' else reason}\n{failure_of(line)}"
 
 
 def put_together(text):
-    """Returns what is put together again of an answer: all of a trace and of an answer about a plan; of a file that is refused the
-    verdict and the hint."""
+    """Returns what is put together again of an answer: all of one about a plan, of a trace, a summary and groups. Of a task that isn't
+    layered it is the verdict, and the line at which the operator or the rule begins."""
     line, *rest = text.split(b"\n")
-    if b" refused: " in verdict_line(text):
-        return b"".join(b"%s\n" % it for it in [line, *rest] if it == line or it.startswith(b"  hint "))
-    return text if re.match(rb"plan |initial ", text) else b""
+    if re.match(rb"task refused: (?!line )", text):
+        at = re.match(rb"  (?:operator|rule) \d+ (line \d+) ", rest[0])
+        return b"".join(b"%s\n" % it for it in [line, *([b"  " + at[1]] if at else [])])
+    if re.match(rb"metric \d+\nvariables ", text):
+        return text
+    return text if re.match(rb"(?:plan|task|state) (?:in)?(?:valid|refused): |initial |group ", text) else b""
 
 
 def printed(text, is_utf8):
@@ -152,15 +177,12 @@ def written_tests(program, is_utf8):
     rows = table("values.json")
     given = [(row["status"], as_bytes(with_ends(row["lines"]))) for row in rows]
     for row, answer, came in zip(rows, given, came_of(program, given)):
-        is_so = differs(came[0], as_bytes(row["values"]))
+        is_so = differs(came[0].rpartition(b"\n")[0], as_bytes(row["values"]))
         yield row["shows"], wrong(*answer, came, is_utf8) + is_so
     reasons = [text for _, text in given if re.match(rb"plan invalid: .*\n.", text)]
     more = [(text, later) for text in reasons for later in with_later(text)]
     for (text, later), came in zip(more, came_of(program, [(1, later) for _, later in more])):
         yield f"a line of a later version, {later!r}", [] if came[1] == text else [f"{came[1]!r}"]
-    refused, hint = REFUSED
-    came = next(came_of(program, [(1, as_bytes(refused))]))[1].decode()
-    yield "the hint of a file that is refused", [] if came == f"{refused.splitlines()[0]}\n  {hint}\n" else [came]
 
 
 def built(library, folder):

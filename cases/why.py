@@ -150,7 +150,11 @@ def spoiled(chance, task, names, cost):
     name = chance.choice(task["operators"])[0]
     if kind < 0.55:
         name = alike(chance, name)
-    return [*names[:place], name, *names[place:]], cost
+    changed = [*names[:place], name, *names[place:]]
+    # steps that fail before and behind the one that was put in, some of them without an operator
+    for _ in range(chance.choice((0, 0, 1, 3))):
+        changed.insert(chance.randrange(len(changed) + 1), chance.choice((*task["operators"], ("nothing",)))[0])
+    return changed, cost
 
 
 def walked_again(chance):

@@ -13,7 +13,7 @@ _sas() {
     done
     case $request in
     plan | trace) flags="--why $flags" most=2 ;;
-    plans) most=1000000 ;;
+    plans) flags="--why $flags" most=1000000 ;;
     mutex | show | check | print | steps) flags="--why $flags" most=1 ;;
     esac
     if [[ $request == help ]]; then

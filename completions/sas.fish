@@ -16,5 +16,5 @@ complete -c sas -n __fish_use_subcommand -a help -d 'Print help'
 
 complete -c sas -n '__fish_seen_subcommand_from plan plans trace mutex show check print steps' -F
 complete -c sas -n '__fish_seen_subcommand_from plan plans trace mutex show check print steps' -s h -l help -d 'Print help'
-complete -c sas -n '__fish_seen_subcommand_from plan trace mutex show check print steps' -l why -d 'Add the reasons for a no'
+complete -c sas -n '__fish_seen_subcommand_from plan plans trace mutex show check print steps' -l why -d 'Add the reasons for a no'
 complete -c sas -n '__fish_seen_subcommand_from help' -a 'plan plans trace mutex show check print steps'

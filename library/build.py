@@ -29,7 +29,7 @@ NAME = "sas_c"
 SHARED = "libsas.so.1"
 # what is added to the heart
 ADDED = ("sas_memory", "sas_version")
-BESIDE = ("sas.h", "sas.hpp", "sas_answers.hpp", "sas.pc", "sasConfig.cmake", "sasConfigVersion.cmake")
+BESIDE = ("sas.h", "sas_memory.h", "sas.hpp", "sas_answers.hpp", "sas_values.hpp", "sas.pc", "sasConfig.cmake", "sasConfigVersion.cmake")
 
 
 def run(*command):

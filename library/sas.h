@@ -20,8 +20,8 @@
 /* The version of this header. `sas_version` returns that of the library. */
 #define SAS_VERSION "1.1.0"
 
-/* The size of a room that is enough for each answer of sas_plan, sas_check, sas_task_read, sas_task_plan and
-   sas_task_plan_operators. */
+/* The size of a room that is enough for each answer of sas_plan, sas_check, sas_task_read, sas_task_plan,
+   sas_task_plan_operators and sas_task_run. */
 #define SAS_LINE_ROOM 128
 
 #ifdef __cplusplus
@@ -110,6 +110,31 @@ enum sas_number sas_task_trace(sas_task *task, const uint8_t *plan, size_t plan_
    no operator of that number`. The task is still held in any case. If no task is held, the call returns SAS_NO_TASK. */
 enum sas_number sas_task_plan_operators(sas_task *task, const uint32_t *operators, size_t count, uint64_t cost,
                                         uint8_t *room, size_t room_length, size_t *size);
+
+/* A plan as the numbers of its operators, from 0 in the order of the task file, and its cost; and the state that it
+   starts in: `start_length` values, one for each variable, or none for the initial state. Derived variables are
+   computed anew, whatever their values. `start` isn't null either; with no values it may be `operators`. */
+typedef struct sas_run {
+    const uint32_t *operators;
+    size_t count;
+    uint64_t cost;
+    const uint32_t *start;
+    size_t start_length;
+} sas_run;
+
+/* Whether these operators, in this order, solve the task that is held from that state on, at this cost. The answer is a
+   line that fits in SAS_LINE_ROOM bytes: one of those of sas_task_plan_operators, `state refused: N values, not V`, or
+   `state refused: variable V`, the first whose value isn't below its range. The task is still held in any case. */
+enum sas_number sas_task_run(sas_task *task, const sas_run *run, uint8_t *room, size_t room_length, size_t *size);
+
+/* The same after a trace, as of sas_task_trace: the lines `initial VAR VALUE NAME` have the values of that state. A start that
+   is refused has no trace. */
+enum sas_number sas_task_run_trace(sas_task *task, const sas_run *run, uint8_t *room, size_t room_length, size_t *size);
+
+/* The values of the state behind these operators, one for each variable, derived ones too. `room_length` and `*size` count
+   values. SAS_YES: all steps go through. SAS_NO: one doesn't, and the values are those before it; or `*size` is 0, and
+   the start is refused. SAS_ROOM_TOO_SHORT: the state has `*size` values. The cost isn't looked at. */
+enum sas_number sas_task_run_state(sas_task *task, const sas_run *run, uint32_t *room, size_t room_length, size_t *size);
 
 /* Frees the task that is held, if there is one. After the call no task is held. */
 void sas_task_free(sas_task *task);

@@ -24,6 +24,7 @@
 #include <string_view>
 #include <type_traits>
 #include <utility>
+#include <vector>
 
 namespace sas {
 
@@ -101,7 +102,7 @@ private:
     std::size_t length_;
 };
 
-// Numbers of operators: any contiguous range of 32-bit integers, such as a container, a span or an array, or a list in braces. A negative
+// Numbers of operators, or a state, which is a value for each variable: any contiguous range of 32-bit integers, such as a container, a span or an array, or a list in braces. A negative
 // number is that of no operator. The caller keeps them.
 class Operators {
 public:
@@ -124,6 +125,22 @@ namespace detail {
 
 // the room that most answers fit in
 constexpr std::size_t usual_room = 65536;
+
+// How many variables a task has: its line 7.
+inline std::uint32_t variables_of(Bytes task) noexcept {
+    std::string_view rest(reinterpret_cast<const char *>(task.data()), task.size());
+    std::uint32_t variables = 0;
+    for (int line = 1; line < 7; ++line) {
+        next_line(rest);
+    }
+    return take(rest, variables) ? variables : 0;
+}
+
+// A guess of how many bytes the initial state of a task has in a trace: 64 for each variable.
+inline std::size_t initial_size_of(Bytes task) noexcept { return std::min(std::size_t(64) * variables_of(task), task.size()); }
+
+// The room that most traces fit in.
+inline std::size_t trace_room(std::size_t initial_size, Bytes plan) noexcept { return usual_room + initial_size + 10 * plan.size(); }
 
 // Returns the status of a number without an answer, or throws its exception. `size` is that of an answer over its limit.
 inline Status failure(sas_number number, [[maybe_unused]] std::size_t size) {
@@ -186,7 +203,7 @@ inline Answer plan_why(Bytes task, Bytes plan, Limit limit = {}) {
     return detail::of_both(sas_plan_why, task, plan, detail::usual_room, limit);
 }
 inline Answer trace(Bytes task, Bytes plan, Limit limit = {}) {
-    return detail::of_both(sas_trace, task, plan, detail::usual_room + 10 * plan.size() + task.size() / 8, limit);
+    return detail::of_both(sas_trace, task, plan, detail::trace_room(detail::initial_size_of(task), plan), limit);
 }
 inline Answer check(Bytes task) { return detail::of_one(sas_check, task, SAS_LINE_ROOM); }
 inline Answer check_why(Bytes task, Limit limit = {}) { return detail::of_one(sas_check_why, task, detail::usual_room, limit); }
@@ -197,6 +214,15 @@ inline Answer mutex_why(Bytes task, Limit limit = {}) {
 inline Answer show(Bytes task, Limit limit = {}) { return detail::of_one(sas_show, task, detail::usual_room + task.size(), limit); }
 inline Answer print(Bytes task, Limit limit = {}) { return detail::of_one(sas_print, task, SAS_LINE_ROOM + task.size(), limit); }
 inline Answer steps(Bytes plan, Limit limit = {}) { return detail::of_one(sas_steps, plan, SAS_LINE_ROOM + plan.size(), limit); }
+
+// The values behind the steps of a run that go through, one for each variable. It converts to `true` if all do. Else the values are those
+// before the step that doesn't; there are none if the start isn't a state of the task.
+struct [[nodiscard]] State {
+    Status status = Status::no;
+    std::vector<std::uint32_t> values = {};
+
+    explicit operator bool() const noexcept { return status == Status::yes; }
+};
 
 // A task that is read once, for many plans.
 class Task {
@@ -216,11 +242,16 @@ public:
 
     Task(const Task &) = delete;
     Task &operator=(const Task &) = delete;
-    Task(Task &&other) noexcept : held_(std::exchange(other.held_, none)) {}
+    Task(Task &&other) noexcept
+        : held_(std::exchange(other.held_, none)), variables_(other.variables_), initial_size_(other.initial_size_),
+          is_measured_(other.is_measured_) {}
     Task &operator=(Task &&other) noexcept {
         if (this != &other) {
             sas_task_free(&held_);
             held_ = std::exchange(other.held_, none);
+            variables_ = other.variables_;
+            initial_size_ = other.initial_size_;
+            is_measured_ = other.is_measured_;
         }
         return *this;
     }
@@ -231,6 +262,9 @@ public:
 
     // Reads a task in place of the one that was held, and answers as `sas::check`. If the answer is yes, the task is held, else none is.
     Answer read(Bytes task) {
+        initial_size_ = detail::initial_size_of(task);
+        variables_ = detail::variables_of(task);
+        is_measured_ = false;
         return detail::answer(SAS_LINE_ROOM, {}, [&](std::uint8_t *at, std::size_t length, std::size_t *size) {
             return sas_task_read(&held_, task.data(), task.size(), at, length, size);
         });
@@ -252,10 +286,48 @@ public:
 
     // The same after what each step changes: answers as `sas::trace`.
     Answer trace(Bytes plan, Limit limit = {}) {
-        return of_plan(sas_task_trace, plan, detail::usual_room + 10 * plan.size(), limit);
+        Answer it = of_plan(sas_task_trace, plan, detail::trace_room(initial_size_, plan), limit);
+        if (!is_measured_ && detail::starts(it.text, "initial ")) {
+            initial_size_ = std::min(it.text.find("\nstep "), it.text.size());
+            is_measured_ = true;
+        }
+        return it;
+    }
+
+    // Whether the steps that are these operators solve the task at this cost, from a state on: a value for each variable, or none for the
+    // initial state. Values of derived variables are computed anew. If the start isn't a state of the task, the answer refuses it.
+    Answer run(Operators operators, std::uint64_t cost, Operators start = {}) {
+        return of_run(sas_task_run, {operators.data(), operators.size(), cost, start.data(), start.size()}, SAS_LINE_ROOM);
+    }
+
+    // The same after what each step changes.
+    Answer run_trace(Operators operators, std::uint64_t cost, Operators start = {}, Limit limit = {}) {
+        const sas_run run = {operators.data(), operators.size(), cost, start.data(), start.size()};
+        return of_run(sas_task_run_trace, run, detail::usual_room + initial_size_ + 100 * operators.size(), limit);
+    }
+
+    // The state that these operators lead to.
+    State run_state(Operators operators, Operators start = {}) {
+        const sas_run run = {operators.data(), operators.size(), 0, start.data(), start.size()};
+        State it;
+        std::size_t size = std::max<std::size_t>(variables_, 1);
+        sas_number number = SAS_ROOM_TOO_SHORT;
+        while (number == SAS_ROOM_TOO_SHORT) {
+            it.values.assign(size, 0);
+            number = sas_task_run_state(&held_, &run, it.values.data(), it.values.size(), &size);
+        }
+        it.values.resize(number <= SAS_NO ? size : 0);
+        it.status = number == SAS_YES ? Status::yes : number == SAS_NO ? Status::no : detail::failure(number, 0);
+        return it;
     }
 
 private:
+    Answer of_run(decltype(sas_task_run) *request, const sas_run &run, std::size_t room, Limit limit = {}) {
+        return detail::answer(room, limit, [&](std::uint8_t *at, std::size_t length, std::size_t *size) {
+            return request(&held_, &run, at, length, size);
+        });
+    }
+
     Answer of_plan(decltype(sas_task_plan) *request, Bytes plan, std::size_t room, Limit limit = {}) {
         return detail::answer(room, limit, [&](std::uint8_t *at, std::size_t length, std::size_t *size) {
             return request(&held_, plan.data(), plan.size(), at, length, size);
@@ -264,6 +336,10 @@ private:
 
     static constexpr sas_task none = SAS_TASK_NONE;
     sas_task held_ = none;
+    std::uint32_t variables_ = 0;
+    // how many bytes the initial state has in each trace, which is a guess until the first one is there
+    std::size_t initial_size_ = 0;
+    bool is_measured_ = false;
 };
 
 #ifndef __cpp_exceptions

@@ -36,54 +36,62 @@ enum class Verdict { valid, invalid, refused, yes, no, none };
 // A file that is refused.
 enum class File { task, plan };
 
+// What fails: a step that isn't applicable, names no operator, has the number of none, or has effects that conflict; a fact of the goal; the
+// cost; or the state that a run starts in.
+enum class Failure { not_applicable, no_such_name, no_such_number, conflict, goal, cost, state };
+
 // The values below are views of an answer's text. The answer has to outlive them, and isn't changed or moved. Steps and lines count from
-// 1, all others from 0. Names may have any bytes; those in reasons are safe for a terminal.
+// 1, all others from 0. Names may have any bytes; those in reasons are safe for a terminal. `shown` tells whether a reason shows another name
+// than the file has: without control characters, or cut off after 256 bytes.
 
 // A value of a variable, and the name of the value.
 struct Fact {
     std::uint32_t variable = 0, value = 0;
-    std::string_view name;
+    std::string_view name = {};
+    bool shown = false;
 };
 
 // A variable that a step changed, and the name of its new value.
 struct Change {
     std::uint32_t variable = 0, old_value = 0, new_value = 0;
-    std::string_view name;
+    std::string_view name = {};
 };
 
 // A step of a trace: the operator that it means, the operator's cost and name, and what the step changed.
 struct Step {
     std::uint32_t op = 0;
     std::uint64_t cost = 0;
-    std::string_view name;
-    std::vector<Change> changes;
+    std::string_view name = {};
+    std::vector<Change> changes = {};
 };
 
 // A step of a plan.
 struct NamedStep {
     std::uint64_t number = 0;
-    std::string_view name;
+    std::string_view name = {};
+    bool shown = false;
 };
 
 // An operator whose name differs from that of a step only in capitals and spaces, and the line of the task file at which it begins.
 struct SimilarOperator {
     std::uint32_t op = 0;
     std::uint64_t line = 0;
-    std::string_view name;
+    std::string_view name = {};
+    bool shown = false;
 };
 
 // A rule that derives a fact, or, if it isn't firing, requires a fact that fails.
 struct Rule {
     std::uint32_t number = 0;
     bool is_firing = false;
-    Fact fact;
+    Fact fact = {};
 };
 
 // Why a required fact fails: what holds in its place, and since which step. That is none if the variable has its initial value.
 struct Cause {
-    Fact required, actual;
-    std::optional<NamedStep> since;
-    std::vector<Rule> rules;
+    Fact required = {}, actual = {};
+    std::optional<NamedStep> since = {};
+    std::vector<Rule> rules = {};
     bool no_rule = false; // no rule derives the required value
 };
 
@@ -91,26 +99,34 @@ struct Cause {
 struct BlockedOperator {
     std::uint32_t op = 0;
     std::uint64_t line = 0;
-    std::vector<Cause> causes;
+    std::vector<Cause> causes = {};
 };
 
 // An effect that fires, and the fact that it sets.
 struct Effect {
     std::uint32_t number = 0;
-    Fact fact;
+    Fact fact = {};
 };
 
 // An operator, two of whose effects set one variable to different values.
 struct Conflict {
     std::uint32_t op = 0;
     std::uint64_t line = 0;
-    std::vector<Effect> effects;
+    std::vector<Effect> effects = {};
 };
 
 // A fact of the goal that fails.
 struct GoalFact {
     std::uint64_t index = 0;
-    Cause cause;
+    Cause cause = {};
+};
+
+// What follows if the step that fails is made anyway, and the steps after it: how many of these fail, the first five of them, and how many
+// goal facts fail after the last.
+struct MadeAnyway {
+    std::uint64_t failing_later = 0, later = 0;
+    std::vector<NamedStep> first_failing = {};
+    std::uint64_t failing_goal = 0, goal = 0;
 };
 
 // What the cost of a plan is made of: the metric, the number of steps, and the sum of their operators' cost lines.
@@ -120,8 +136,8 @@ struct CostFacts {
 
 // A step whose name no operator has, and an operator that may be meant.
 struct UnknownStep {
-    NamedStep step;
-    std::optional<SimilarOperator> similar_operator;
+    NamedStep step = {};
+    std::optional<SimilarOperator> similar_operator = {};
 };
 
 // The first step that could also be a later operator of its name, and the first such operator.
@@ -132,17 +148,19 @@ struct CouldAlsoBe {
 
 // The reasons why a plan isn't valid. Which are there depends on the verdict. Of a file that is refused, it is only the hint.
 struct Reasons {
-    std::optional<NamedStep> step;
-    std::optional<SimilarOperator> similar_operator;
-    std::vector<UnknownStep> further_steps; // up to four of the other steps that name no operator
-    std::vector<BlockedOperator> operators;
-    std::optional<Conflict> conflict;
-    std::optional<std::uint64_t> failing, total; // of `K of N steps name no operator`, or of `K of N goal facts fail`
-    std::vector<GoalFact> goal_facts;
-    std::optional<CostFacts> cost;
-    std::optional<std::string_view> hint;
-    std::optional<CouldAlsoBe> could_also_be;
-    std::string_view text; // all lines of the reasons, also those that only a later version has
+    std::optional<NamedStep> step = {};
+    std::optional<SimilarOperator> similar_operator = {};
+    std::vector<UnknownStep> further_steps = {}; // up to four of the other steps that name no operator
+    std::vector<BlockedOperator> operators = {};
+    std::optional<Conflict> conflict = {};
+    std::optional<MadeAnyway> if_made = {};
+    std::optional<std::uint64_t> failing = {}, total = {}; // of `K of N steps name no operator`, or of `K of N goal facts fail`
+    std::vector<GoalFact> goal_facts = {};
+    std::optional<CostFacts> cost = {};
+    std::optional<std::uint64_t> unknown_number = {}; // of the step, if no operator has it
+    std::optional<std::string_view> hint = {};
+    std::optional<CouldAlsoBe> could_also_be = {};
+    std::string_view text = {}; // all lines of the reasons, also those that only a later version has
 };
 
 namespace detail {
@@ -160,14 +178,25 @@ inline std::string_view next_line(std::string_view &text) noexcept {
     return line;
 }
 
+// Takes the name of a reason, which is all that is left of a line. If it isn't as in the file, a byte of it is `\\xHH`, or it is cut off.
+template <class Named> bool take_shown(std::string_view &line, Named &it) noexcept {
+    it.name = std::exchange(line, {});
+    it.shown = it.name.find('\\') != it.name.npos || it.name.size() > 256;
+    return true;
+}
+
 // Takes a part off the front of a line: words, a number, a fact, or a name, which is all that is left.
 template <class Part> bool take(std::string_view &line, Part &part) noexcept {
-    if constexpr (std::is_unsigned_v<Part>) {
+    if constexpr (std::is_integral_v<Part>) {
         const auto [end, fault] = std::from_chars(line.data(), line.data() + line.size(), part);
         line.remove_prefix(static_cast<std::size_t>(end - line.data()));
         return fault == std::errc();
     } else if constexpr (std::is_same_v<Part, Fact>) {
-        return take(line, part.variable) && take(line, " ") && take(line, part.value) && take(line, " ") && take(line, part.name);
+        return take(line, part.variable) && take(line, " ") && take(line, part.value) && take(line, " ") && take_shown(line, part);
+    } else if constexpr (std::is_same_v<Part, NamedStep>) {
+        return take(line, part.number) && take(line, " ") && take_shown(line, part);
+    } else if constexpr (std::is_same_v<Part, SimilarOperator>) {
+        return take(line, part.op) && take(line, " line ") && take(line, part.line) && take(line, " ") && take_shown(line, part);
     } else if constexpr (std::is_same_v<Part, std::string_view>) {
         part = std::exchange(line, {});
         return true;
@@ -196,7 +225,7 @@ inline void add(Cause &to, std::string_view line) {
     Rule rule;
     if (matches(line, "    actual ", fact)) {
         to.actual = fact;
-    } else if (matches(line, "    since step ", step.number, " ", step.name)) {
+    } else if (matches(line, "    since step ", step)) {
         to.since = step;
     } else if ((rule.is_firing = matches(line, "    rule ", rule.number, " derives ", rule.fact)) ||
                matches(line, "    rule ", rule.number, " requires ", rule.fact)) {
@@ -234,13 +263,16 @@ inline void add(Reasons &to, std::string_view line, std::string_view verdict) {
     std::uint64_t number = 0, all = 0;
     // a step may have any name, so before the line that counts them none is about what a step could also be
     const bool is_unknown = !to.total && ends(verdict, ": no operator of that name");
-    if (!to.step && starts(verdict, "plan invalid: step ") && matches(line, "  step ", step.number, " ", step.name)) {
+    if (!to.step && ends(verdict, ": no operator of that number") && matches(line, "  step ", number, " number ", all)) {
+        to.step = NamedStep{number, {}, false};
+        to.unknown_number = all;
+    } else if (!to.step && starts(verdict, "plan invalid: step ") && matches(line, "  step ", step)) {
         to.step = step;
-    } else if (is_unknown && matches(line, "  step ", step.number, " ", step.name)) {
+    } else if (is_unknown && matches(line, "  step ", step)) {
         to.further_steps.push_back({step, {}});
     } else if (matches(line, "  step ", number, " could also be operator ", it.op)) {
         to.could_also_be = CouldAlsoBe{number, it.op};
-    } else if (matches(line, "  similar operator ", it.op, " line ", it.line, " ", it.name)) {
+    } else if (matches(line, "  similar operator ", it)) {
         (to.further_steps.empty() ? to.similar_operator : to.further_steps.back().similar_operator) = it;
     } else if (verdict.find("conflicting") != verdict.npos && matches(line, "  operator ", it.op, " line ", it.line)) {
         to.conflict = Conflict{it.op, it.line, {}};
@@ -251,6 +283,13 @@ inline void add(Reasons &to, std::string_view line, std::string_view verdict) {
     } else if (matches(line, "  ", number, " of ", all, " ", it.name)) {
         to.failing = number;
         to.total = all;
+    } else if (matches(line, "  if made anyway ", number, " of ", all, " later steps fail")) {
+        to.if_made = MadeAnyway{number, all, {}, 0, 0};
+    } else if (to.if_made && matches(line, "    step ", step)) {
+        to.if_made->first_failing.push_back(step);
+    } else if (to.if_made && matches(line, "  if made anyway ", number, " of ", all, " goal facts fail")) {
+        to.if_made->failing_goal = number;
+        to.if_made->goal = all;
     } else if (matches(line, "  goal fact ", number)) {
         to.goal_facts.push_back({number, {}});
     } else if (matches(line, "  metric ", cost.metric) || matches(line, "  steps ", cost.steps) ||
@@ -288,6 +327,11 @@ inline std::ostream &operator<<(std::ostream &out, Verdict it) {
     constexpr const char *words[] = {"valid", "invalid", "refused", "yes", "no", "none"};
     return out << words[static_cast<int>(it)];
 }
+inline std::ostream &operator<<(std::ostream &out, Failure it) {
+    constexpr const char *steps[] = {"not applicable", "no operator of that name", "no operator of that number", "conflicting effects"};
+    constexpr const char *others[] = {"goal", "cost", "state"};
+    return out << (it < Failure::goal ? steps[static_cast<int>(it)] : others[static_cast<int>(it) - static_cast<int>(Failure::goal)]);
+}
 inline std::ostream &operator<<(std::ostream &out, File it) { return out << (it == File::task ? "task" : "plan"); }
 inline std::ostream &operator<<(std::ostream &out, const Fact &it) {
     return detail::show(out << it.variable << ' ' << it.value << ' ', it.name);
@@ -300,49 +344,15 @@ inline std::ostream &operator<<(std::ostream &out, const Step &it) {
 }
 inline std::ostream &operator<<(std::ostream &out, const Reasons &it) { return detail::show_lines(out, it.text); }
 
-// The steps of a trace, each read from the text when it is asked for. A range, and its own iterator.
-class Steps {
-public:
-    using iterator_category = std::input_iterator_tag;
-    using value_type = Step;
-    using difference_type = std::ptrdiff_t;
-    using pointer = const Step *;
-    using reference = const Step &;
-
-    Steps() = default;
-    explicit Steps(std::string_view rest) : rest_(rest) { ++*this; }
-
-    [[nodiscard]] Steps begin() const { return *this; }
-    [[nodiscard]] Steps end() const { return {}; }
-    reference operator*() const noexcept { return step_; }
-    pointer operator->() const noexcept { return &step_; }
-    Steps &operator++() {
-        std::uint64_t number = 0;
-        Change change;
-        is_there_ = detail::matches(detail::next_line(rest_), "step ", number, " ", step_.op, " ", step_.cost, " ", step_.name);
-        step_.changes.clear();
-        for (std::string_view rest = rest_; detail::take_change(rest, change); rest_ = rest) {
-            step_.changes.push_back(change);
-        }
-        return *this;
-    }
-    Steps operator++(int) { return std::exchange(*this, ++Steps(*this)); }
-    friend bool operator==(const Steps &one, const Steps &other) noexcept {
-        return one.is_there_ == other.is_there_ && (!one.is_there_ || one.rest_.size() == other.rest_.size());
-    }
-    friend bool operator!=(const Steps &one, const Steps &other) noexcept { return !(one == other); }
-
-private:
-    // whether there is a step, and what comes after it
-    bool is_there_ = false;
-    Step step_;
-    std::string_view rest_;
-};
+class Steps;
+struct Summary;
+struct Group;
+struct Refusal;
 
 // What `sas` prints, and its exit status. All else is read from the text.
 struct [[nodiscard]] Answer {
     Status status = Status::no;
-    std::string text;
+    std::string text = {};
 
     explicit operator bool() const noexcept { return status == Status::yes; }
 
@@ -350,7 +360,7 @@ struct [[nodiscard]] Answer {
         const std::string_view line = headline();
         return detail::starts(line, "plan valid: ")     ? Verdict::valid
                : detail::starts(line, "plan invalid: ") ? Verdict::invalid
-               : refused_file()                         ? Verdict::refused
+               : refused_file() || failure()            ? Verdict::refused
                : status == Status::yes                  ? Verdict::yes
                : status == Status::no                   ? Verdict::no
                                                         : Verdict::none;
@@ -376,7 +386,23 @@ struct [[nodiscard]] Answer {
         } while (detail::matches(line, "group ", group, " exclusive"));
         return line;
     }
-    [[nodiscard]] std::string reason() const && { return std::string(reason()); }
+
+    [[nodiscard]] std::string_view reason() const && = delete;
+
+    // What fails, if the answer is `plan invalid: ..`, or a state is refused.
+    [[nodiscard]] std::optional<Failure> failure() const noexcept {
+        const std::string_view line = headline();
+        if (!detail::starts(line, "plan invalid: ")) {
+            return detail::starts(line, "state refused: ") ? std::optional(Failure::state) : std::nullopt;
+        }
+        return detail::starts(line, "plan invalid: goal fact ")       ? std::optional(Failure::goal)
+               : detail::starts(line, "plan invalid: cost is ")       ? std::optional(Failure::cost)
+               : detail::ends(line, ": not applicable")               ? std::optional(Failure::not_applicable)
+               : detail::ends(line, ": no operator of that name")     ? std::optional(Failure::no_such_name)
+               : detail::ends(line, ": no operator of that number")   ? std::optional(Failure::no_such_number)
+               : detail::ends(line, ": conflicting effects")          ? std::optional(Failure::conflict)
+                                                                      : std::nullopt;
+    }
 
     // The step that fails, if the reason is `step S: ..`.
     [[nodiscard]] std::optional<std::uint64_t> failing_step() const noexcept {
@@ -393,12 +419,8 @@ struct [[nodiscard]] Answer {
         return is_so ? std::optional(fact) : std::nullopt;
     }
 
-    // The sum of the steps' costs, if the reason is `cost is SUM, not COST`.
-    [[nodiscard]] std::optional<std::uint64_t> sum() const noexcept {
-        std::uint64_t sum = 0, cost = 0;
-        const bool is_so = detail::matches(headline(), "plan invalid: cost is ", sum, ", not ", cost);
-        return is_so ? std::optional(sum) : std::nullopt;
-    }
+    // The sum of the costs of the steps that go through: of a trace, of a valid plan, or if the reason is `cost is SUM, not COST`.
+    [[nodiscard]] std::optional<std::uint64_t> sum() const;
 
     // The number of steps, if the answer is `plan valid: S steps, cost C`.
     [[nodiscard]] std::optional<std::uint64_t> steps() const noexcept {
@@ -420,14 +442,12 @@ struct [[nodiscard]] Answer {
         std::vector<Fact> facts;
         std::string_view rest = text;
         for (Fact fact; is_trace() && detail::matches(detail::next_line(rest), "initial ", fact);) {
+            fact.shown = false;
             facts.push_back(fact);
         }
         return facts;
     }
-    [[nodiscard]] Steps trace_steps() const & {
-        const std::size_t at = is_trace() ? text.find("\nstep ") : text.npos;
-        return Steps(at == text.npos ? "" : std::string_view(text).substr(at + 1));
-    }
+    [[nodiscard]] Steps trace_steps() const &;
 
     // The reasons of `plan_why`. If the answer has none, nothing is in them. Keep them in a variable for a loop over a part of them.
     [[nodiscard]] Reasons reasons() const & {
@@ -443,7 +463,15 @@ struct [[nodiscard]] Answer {
         return it;
     }
 
+    // What a task is about, if the answer is that of `show`; the verdicts of `mutex` and `mutex_why`; and why a file is refused.
+    [[nodiscard]] std::optional<Summary> summary() const &;
+    [[nodiscard]] std::vector<Group> groups() const &;
+    [[nodiscard]] std::optional<Refusal> refusal() const &;
+
     // A view of a temporary would be of a text that is gone.
+    std::optional<Summary> summary() const && = delete;
+    std::vector<Group> groups() const && = delete;
+    std::optional<Refusal> refusal() const && = delete;
     std::vector<Fact> initial() const && = delete;
     Steps trace_steps() const && = delete;
     Reasons reasons() const && = delete;
@@ -467,6 +495,8 @@ inline std::ostream &operator<<(std::ostream &out, const Answer &it) { return de
 #endif
 
 } // namespace sas
+
+#include "sas_values.hpp"
 
 #endif
 #endif

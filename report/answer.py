@@ -2,7 +2,7 @@
 import array
 import re
 
-from .task import lines, text
+from .task import lines, text, unique
 
 # the lines of reasons; the first form that fits counts. A name comes last on its line
 FORMS = tuple(re.compile(" +" + form, re.DOTALL) for form in (
@@ -87,10 +87,10 @@ class Plan:
 
     def operators(self):
         """Returns the numbers of the operators of the step that fails."""
-        them = (it["number"] for it in self.reasons if it.get("kind") == "operator")
-        return list(dict.fromkeys(them))
+        return unique(it["number"] for it in self.reasons if it.get("kind") == "operator")
 
     def facts(self, word):
         """Returns the facts of the reasons with this word: what fails, or what effects set."""
         them = (it for it in self.reasons if "var" in it and it.get("kind") != "rule")
-        return [(it["var"], it["value"]) for it in them if it["label"].split(" ")[-1] == word]
+        named = (it for it in them if it["label"].split(" ")[-1] == word)
+        return unique((it["var"], it["value"]) for it in named)

@@ -19,8 +19,6 @@ STATUSES = ("Exit status: 0 if every plan is valid; 1 if one isn't, or a file is
             "report isn't written, or not in full.")
 # bytes of the longest input, of the longest answer about a plan, and of what is read at once
 LIMIT, SHOWN, PIECE = 4294967296, 1 << 28, 1 << 20
-# what is asked about a plan: in one run, or in two of a `sas` that doesn't know `trace --why`
-ONE_RUN, TWO_RUNS = (("trace", "--why"),), (("plan", "--why"), ("trace",))
 TOO_LARGE = "the plan is too large to show: %s: sas prints %d bytes about it"
 
 
@@ -32,11 +30,8 @@ class Program:
     """`sas`, run over copies of the files, so that all its answers are of the same bytes."""
 
     def __init__(self, path, task):
-        self.path, self.task, self.requests = path or program(), copy(task), TWO_RUNS
+        self.path, self.task = path or program(), copy(task)
         self.version = text(b" ".join(self.printed("sas", [0], ["--version"])))
-        with copy(b"") as empty, contextlib.suppress(NoAnswer):
-            list(self.printed("sas", [1], [*ONE_RUN[0]], empty, empty))
-            self.requests = ONE_RUN
 
     def printed(self, label, statuses, words, *files):
         """Yields the lines that `sas` prints about files."""
@@ -63,8 +58,7 @@ class Program:
 
     def answer(self, label, plan):
         with copy(plan) as file:
-            for words in self.requests:
-                yield from self.printed(label, [0, 1], words, self.task, file)
+            yield from self.printed(label, [0, 1], ["trace", "--why"], self.task, file)
 
 
 class Library:
@@ -75,8 +69,11 @@ class Library:
 
     def answer(self, label, plan):
         try:
-            for call in (self.module.plan_why, self.module.trace):
-                yield from lines(call(self.task, plan, max_answer_bytes=SHOWN).text)
+            trace = self.module.trace(self.task, plan, max_answer_bytes=SHOWN)
+            yield from lines(trace.text)
+            if not trace:  # no call has both, so here the verdict comes once more
+                why = self.module.plan_why(self.task, plan, max_answer_bytes=SHOWN)
+                yield from lines(why.text)
         except self.module.AnswerTooLong as fault:
             raise NoAnswer(TOO_LARGE % (label, fault.size)) from fault
 

@@ -34,11 +34,13 @@ def task_data(task, moves, plans):
     """Returns what the page needs of a task: of variables the values that occur, and the rest."""
     used = [{value} for value in moves.initial or [0] * len(task.variables)]
     facts = [(it["var"], it["value"]) for plan in plans for it in plan.reasons if "var" in it]
-    rows = [*task.rules, *(fact for _, prevail, _ in task.operators.values() for fact in prevail)]
-    for _, _, effects in task.operators.values():
-        rows += [(*effect[:-2], effect[-1]) for effect in effects]
-        rows += [effect[-3:-1] for effect in effects if effect[-2] >= 0]
-    facts += [fact for row in rows for fact in zip(row[::2], row[1::2])]
+    costs = moves.operators
+    operators = [{**it, "cost": costs.get(it["number"])} for it in task.operators.values()]
+    facts += [fact for it in operators for fact in it["requires"]]
+    effects = [effect for it in operators for effect in it["effects"]]
+    effects += [(rule["v"], rule["k"], rule["facts"]) for rule in task.rules]
+    for var, value, conditions in effects:
+        facts += [(var, value), *conditions]
     for packed in moves.found:
         changes = array.array("I", packed)[1:]
         facts += zip(changes[::2], changes[1::2])
@@ -46,7 +48,6 @@ def task_data(task, moves, plans):
         used[var].add(value)
     variables = [[text(name), layer, {it: text(names[it]) for it in sorted(values)}, default]
                  for (name, layer, names, default), values in zip(task.variables, used)]
-    operators = {it: [*known, moves.operators.get(it)] for it, known in task.operators.items()}
     return {"goal": task.goal, "rules": task.rules, "initial": moves.initial,
             "operators": operators, "variables": variables}
 
@@ -61,16 +62,28 @@ def summary(plans):
     return "%d plans, %d valid%s" % (len(plans), len(valid), named)
 
 
+def ranked(plans):
+    """Returns plans with their numbers: valid ones by their costs, then the others."""
+    def rank(numbered):
+        plan = numbered[1]
+        return list(SIGNS).index(plan.kind), plan.cost * (plan.kind == "valid")
+    return sorted(enumerate(plans, 1), key=rank)
+
+
 def listed(plans):
-    """Returns the rows of the table of plans: valid ones by their costs, then the others."""
-    kinds = list(SIGNS)
-    rank = [(kinds.index(it.kind), it.cost * (it.kind == "valid"), i) for i, it in enumerate(plans)]
+    """Returns the rows of the table of plans."""
     row = '<tr class=%s><td><a href="#plan-%d">%s</a><td>%s %s<td>%s<td>%s'
     return "".join(row % (
-        plan.kind, i + 1, bdi(plan.label), SIGNS[plan.kind], html.escape(plan.verdict),
+        plan.kind, number, bdi(plan.label), SIGNS[plan.kind], html.escape(plan.verdict),
         "–" if plan.kind == "refused" else format(len(plan.steps) + len(plan.rest), ","),
-        format(plan.cost, ",") if plan.kind == "valid" else "–")
-        for *_, i in sorted(rank) for plan in [plans[i]])
+        format(plan.cost, ",") if plan.kind == "valid" else "–") for number, plan in ranked(plans))
+
+
+def options(plans):
+    """Returns the plans that can be compared, as what a field offers."""
+    option = "<option value=%d>%s"
+    return "".join(option % (number, html.escape(plan.label)) for number, plan in ranked(plans)
+                   if plan.kind != "refused")
 
 
 def part(name):
@@ -83,7 +96,7 @@ def encoded(data):
 
 def page(version, task_name, task_bytes, plans, moves):
     """Returns the bytes of the page."""
-    names, first = {}, plans[0]
+    first = plans[0]
     wanted = {number for plan in plans for number in plan.operators()}
     is_read = not first.verdict.startswith("task refused: line ")
     task = Task(task_bytes, wanted | moves.operators.keys()) if is_read else None
@@ -91,8 +104,7 @@ def page(version, task_name, task_bytes, plans, moves):
         {"label": plan.label, "kind": plan.kind, "verdict": plan.verdict,
          "missing": plan.facts("requires"), "clash": plan.facts("sets"),
          "operators": plan.operators(), "steps": plan.steps.tolist(),
-         "rest": [names.setdefault(it, len(names)) for it in plan.rest]}
-        for plan in plans], "names": list(names)}, separators=(",", ":"))
+         "rest": plan.rest} for plan in plans]}, separators=(",", ":"))
     data = '{"moves":[%s],%s' % (",".join(unpacked(moves.found)), data[1:])
     is_plain = len(data) <= PLAIN
     articles = [article(i, plan, plans[1:], task_name, task_bytes, task.counts if task else {})
@@ -101,7 +113,7 @@ def page(version, task_name, task_bytes, plans, moves):
     title = "%d plans of %s" % several if plans[1:] else "%s %s" % single
     packed = data.replace("<", "\\u003c") if is_plain else encoded(zlib.compress(data.encode(), 9))
     parts = {"title": html.escape(title), "version": html.escape(version),
-             "articles": "".join(articles), "listed": listed(plans),
+             "articles": "".join(articles), "listed": listed(plans), "options": options(plans),
              "summary": html.escape(summary(plans)),
              "style": part("style.css"), "script": "".join(part(it + ".js") for it in SCRIPTS),
              "kind": "json" if is_plain else "deflate", "data": packed}

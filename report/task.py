@@ -26,6 +26,19 @@ def numbers(*rows):
     return tuple(map(int, b" ".join(rows).split()))
 
 
+def unique(them):
+    return list(dict.fromkeys(them))
+
+
+def operator(number, name, prevail, effects):
+    """Returns an operator as a record: the facts that it requires, and its effects."""
+    rows = [numbers(effect)[1:] for effect in effects]
+    olds = [row[-3:-1] for row in rows if row[-2] >= 0]
+    effects = [(row[-3], row[-1], list(zip(row[:-3:2], row[1:-3:2]))) for row in rows]
+    return {"number": number, "name": text(name), "effects": effects,
+            "requires": unique([*map(numbers, prevail), *olds])}
+
+
 class Task:
     """A task that `sas` has accepted as well formed. A fact is a variable and its value.
 
@@ -33,9 +46,10 @@ class Task:
         variables: Of each its name, its axiom layer, the names of its values in bytes, and its
             value in the state section: the default of a derived variable.
         goal: Its facts.
-        operators: Of each that is wanted its name, its prevail conditions, and its effects: the
-            facts of the conditions, then the variable, the old and the new value.
-        rules: Of each axiom rule its variable, the value that it derives, and its conditions.
+        operators: The record of each that is wanted. An effect is a variable, the value that it
+            gets, and the conditions.
+        rules: The axiom rules as records, which derive the value `k` of the variable `v`. One
+            whose value is the default never fires, so it isn't there.
         counts: The numbers that the page has of it.
     """
 
@@ -50,22 +64,22 @@ class Task:
         self.skip(1)
         self.variables = [(*variable, self.number()) for variable in variables]
         self.skip(2)
-        self.goal = list(map(numbers, self.listed(1)))
+        self.goal = unique(map(numbers, self.listed(1)))
         every, self.operators = self.number(), {}
         for number in range(every):
             name, prevail, effects = self.next(1), self.listed(), self.listed(2)
             if number in wanted:
-                effects = [numbers(effect)[1:] for effect in effects]
-                self.operators[number] = text(name), list(map(numbers, prevail)), effects
-        self.rules = []
-        for _ in range(self.number()):
+                self.operators[number] = operator(number, name, prevail, effects)
+        rules, self.rules = self.number(), []
+        for number in range(rules):
             self.skip(1)
-            conditions, (var, _, value) = self.listed(), numbers(self.next())
+            facts, (var, _, value) = list(map(numbers, self.listed())), numbers(self.next())
             self.skip(1)
-            self.rules.append((var, value, *numbers(*conditions)))
+            if value != self.variables[var][3]:
+                self.rules.append({"number": number, "v": var, "k": value, "facts": facts})
         derived = sum(layer >= 0 for _, layer, _, _ in self.variables)
         self.counts = {"variables": len(variables), "derived": derived, "operators": every,
-                       "axiom rules": len(self.rules), "mutex groups": groups}
+                       "axiom rules": rules, "mutex groups": groups}
 
     def skip(self, count):
         for _ in range(count):

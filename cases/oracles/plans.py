@@ -9,10 +9,13 @@ that `plan` prints of it, also where the plan file is refused. Last there is
 
 A plan that is refused counts among the N. The exit status is 0 if all are valid. No plan changes what is said of another. Where
 the task is refused, or isn't layered, all that is printed is the line that `plan` prints, and no plan is opened.
+
+With `--why`, the lines that `plan --why` prints behind that line follow it here, too. The last line and the exit status are the same.
 """
 import re
 
-from oracles.refusals import refusal
+from oracles.reasons import reasons
+from oracles.refusals import after_file, refusal
 from oracles.steps import verdict
 from oracles.tasks import plan_of
 
@@ -37,11 +40,22 @@ def summary(costs):
     return f"{line}, best cost {cost}: {label}"
 
 
-def lines_of(task, plans):
-    """Returns what is printed of plans of a layered task."""
-    verdicts = [(label, *judged(task, text)) for label, text in plans]
-    lines = [f"{label}: {said}" for label, said, _ in verdicts]
-    return [*lines, summary([(label, cost) for label, _, cost in verdicts])]
+def lines_of(task, plans, why=False):
+    """Returns what is printed of plans of a layered task, with reasons or without."""
+    verdicts = [(label, text, *judged(task, text)) for label, text in plans]
+    lines = []
+    for label, text, said, _ in verdicts:
+        lines.append(f"{label}: {said}")
+        if why:
+            lines += after(task, text, said)
+    return [*lines, summary([(label, cost) for label, _, _, cost in verdicts])]
+
+
+def after(task, text, said):
+    """Returns the lines of reasons for what is said of a plan file."""
+    if said.startswith("plan refused: "):
+        return after_file(said, text)
+    return reasons(task, *plan_of(text))[1]
 
 
 def status_of(lines):

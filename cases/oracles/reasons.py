@@ -16,6 +16,11 @@ the one after each of these steps. A fact fails that doesn't hold in the last of
     cost differs                metric M, steps S, sum of cost lines N, also where the metric doesn't count them; a hint where the
                                 plan's cost is the one of the other metric
 
+After the reasons of a step that fails, though it names an operator, comes what follows if it is made anyway, and the steps after it. Each
+takes place as the first operator of its name that is applicable, or else as the first of its name; of its effects that fire the last one
+counts that sets a variable. A step that names no operator is left out. There is said how many of the later steps fail, the first five of
+them, and how many goal facts fail in the end.
+
 L is the line of the file on which the operator begins. Names are shown as texts.py has it. The words of a name stand between spaces,
 tabs, and the marks `-`, `_`, `(`, `)` and `,`; capitals from A to Z are the same as small letters.
 
@@ -214,6 +219,24 @@ def conflict_reasons(run, operator):
     return said
 
 
+def made_anyway(run):
+    """Returns what follows if the step that fails is made anyway, and those after it."""
+    task, state, failing, first = run.task, run.last, [], len(run.states)
+    for step, name in enumerate(run.names[first - 1 :], first):
+        operator = meant(task, state, name)
+        if step > first and (isinstance(operator, str) or conflict(state, task["operators"][operator]) is not None):
+            failing.append(step)
+        if operator != "Unknown":
+            made = operators_named(task, name)[0] if operator == "Blocked" else operator
+            state = next_state(task, state, task["operators"][made])
+    missed = sum(not holds(state, [fact]) for fact in task["goal"])
+    return [
+        f"  if made anyway {len(failing)} of {len(run.names) - first} later steps fail",
+        *(f"    step {step} {shown_name(run.names[step - 1])}" for step in failing[:REPORTED]),
+        f"  if made anyway {missed} of {len(task['goal'])} goal facts fail",
+    ]
+
+
 def step_reasons(run):
     step = len(run.states)
     name = run.names[step - 1]
@@ -224,7 +247,7 @@ def step_reasons(run):
         said = [line for its in operators_named(run.task, name) for line in blocked_reasons(run, its)]
     else:
         said = conflict_reasons(run, operator)
-    return [f"  step {step} {shown_name(name)}", *said]
+    return [f"  step {step} {shown_name(name)}", *said, *made_anyway(run)]
 
 
 def goal_reasons(run):

@@ -85,6 +85,44 @@ def verdict(task, names, cost):
     return f"plan valid: {len(names)} steps, cost {cost}", f"{operators}\ncost {cost}"
 
 
+def start_fault(task, start):
+    """Returns why the values that are given for a start aren't those of a state; None where they are, or where none are given."""
+    if start and len(start) != len(task["ranges"]):
+        return f"state refused: {len(start)} values, not {len(task['ranges'])}"
+    wrong = [var for var, value in enumerate(start) if value >= task["ranges"][var]]
+    return f"state refused: variable {wrong[0]}" if wrong else None
+
+
+def run_by_numbers(task, start, numbers):
+    """Returns the states through which operators lead by their numbers, from a state or, with no values, from the initial one, up to the
+    first that fails; and what is said of that one, None where none does."""
+    states = [settled(task, start or task["defaults"])]
+    for number in numbers:
+        if number >= len(task["operators"]):
+            return states, "no operator of that number"
+        operator = task["operators"][number]
+        if not holds(states[-1], preconditions(operator)):
+            return states, "not applicable"
+        if conflict(states[-1], operator) is not None:
+            return states, "conflicting effects"
+        states.append(next_state(task, states[-1], operator))
+    return states, None
+
+
+def run_verdict(task, start, numbers, cost):
+    """Returns the line about operators, by their numbers, from a start at a cost."""
+    if start_fault(task, start):
+        return start_fault(task, start)
+    states, fault = run_by_numbers(task, start, numbers)
+    if fault:
+        return f"plan invalid: step {len(states)}: {fault}"
+    missed = [place for place, fact in enumerate(task["goal"]) if not holds(states[-1], [fact])]
+    if missed:
+        return f"plan invalid: goal fact {missed[0]} not reached"
+    total = sum(cost_of(task, number) for number in numbers)
+    return f"plan valid: {len(numbers)} steps, cost {cost}" if total == cost else f"plan invalid: cost is {total}, not {cost}"
+
+
 def step_answer(task, state, operator):
     """Returns what comes of the step of an operator in a state, and the state after it."""
     for var, value in preconditions(operator):

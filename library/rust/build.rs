@@ -43,6 +43,14 @@ fn main() {
     };
     let folder = folder.canonicalize().expect("the folder is there");
     let kind = if folder.join("libsas.a").exists() { "static" } else { "dylib" };
+    if kind == "dylib" {
+        if !folder.join("libsas.so.1").exists() {
+            eprintln!("{} has libsas.so, but not libsas.so.1, which a program loads", folder.display());
+            exit(1);
+        }
+        println!("cargo:warning=there is no libsas.a in {}, so programs are linked with libsas.so", folder.display());
+        println!("cargo:warning=a program finds libsas.so.1 by LD_LIBRARY_PATH, by an rpath, or in the system's folders");
+    }
     println!("cargo:rerun-if-changed={}", folder.display());
     println!("cargo:rustc-link-search=native={}", folder.display());
     println!("cargo:rustc-link-lib={kind}=sas");

@@ -1,23 +1,23 @@
 // Causes: what made true what a step or the goal requires.
 
-// How many conditions of rules are looked at for all states of a plan.
-const MOST_CONDITIONS = 2e7;
+// How many rules are looked at for all states of a plan.
+const MOST_RULES = 5e6;
 
 // What an operator requires in a state: its preconditions, and the conditions of effects that fire.
 function needs({ requires, effects }, value) {
-  const isFired = ({ facts }) => facts.length > 0 && facts.every(([v, k]) => value(v) === k);
-  const more = effects.filter(isFired).flatMap(it => it.facts);
-  return more.length ? unique([...requires, ...more]) : requires;
+  const isFired = ([, , facts]) => facts.every(([v, k]) => value(v) === k);
+  return [...requires, ...effects.filter(isFired).flatMap(([, , facts]) => facts)];
 }
 
 // The order of derived values in a state: again and again the lowest rule is added that can be. Its
 // conditions hold, its variable has no rule yet, and each derived variable that it requires at
 // another value than the default has one. Returns the rule of each derived variable that has one.
 function derivation(task, value) {
-  const { rules } = task, found = new Map(), waiting = new Map();
+  const { rules, variables } = task, found = new Map(), waiting = new Map();
+  const isMade = ([v, k]) => variables[v].layer >= 0 && k !== variables[v].base;
   const open = rules.map(({ facts }, i) => {
     if (!facts.every(([v, k]) => value(v) === k)) return -1;
-    const made = new Set(facts.filter(fact => task.isMade(fact)).map(([v]) => v));
+    const made = new Set(facts.filter(isMade).map(([v]) => v));
     for (const v of made) waiting.set(v, waiting.get(v) ?? []).get(v).push(i);
     return made.size;
   });
@@ -44,31 +44,25 @@ function supports({ rules, layer }, v, value, derived) {
 // a step after the last.
 class Causes {
   constructor(run) {
-    const { task, judged } = run, now = [...task.initial], since = new Int32Array(now.length);
-    const uses = count(judged + 1, () => []), value = v => now[v];
-    const size = task.rules.reduce((sum, rule) => sum + 1 + rule.facts.length, 0);
-    Object.assign(this, { run, size, work: 0, uses });
+    const { task, judged } = run, now = [...task.initial], uses = count(judged + 1, () => []);
+    Object.assign(this, { run, work: 0, uses });
     for (let t = 1; t <= judged + 1 && t !== run.failing; t++) {
-      const goal = ([v, k]) => now[v] === k;
-      const facts = t > judged ? task.goal.filter(goal) : needs(run.operator(t), value);
-      for (const v of this.grounds(facts, value)) this.uses[since[v]].push([t, v]);
-      const move = t > judged ? [] : run.move(t);
-      for (let i = 1; i < move.length; i += 2) {
-        now[move[i]] = move[i + 1];
-        since[move[i]] = t;
-      }
+      const isGoal = t > judged, value = v => now[v], goal = ([v, k]) => now[v] === k;
+      const facts = isGoal ? task.goal.filter(goal) : needs(run.operator(t), value);
+      for (const v of this.grounds(facts, value)) uses[run.since(v, t - 1)].push([t, v]);
+      for (const [v, k] of run.changes(t)) now[v] = k;
     }
   }
 
   // Whether the rules were followed in all states.
-  get isWhole() { return this.work <= MOST_CONDITIONS; }
+  get isWhole() { return this.work <= MOST_RULES; }
 
   // The variables on which facts rest in a state, each once.
   grounds(facts, value) {
     const { variables } = this.run.task, them = facts.map(([v]) => v), found = new Set(them);
     if (!this.isWhole || them.every(v => variables[v].layer < 0)) return found;
-    this.work += this.size;
-    const derived = derivation(this.run.task, value);
+    const { task } = this.run, derived = derivation(task, value);
+    this.work += task.rules.length;
     for (const v of found) {
       for (const other of supports(variables[v], v, value, derived)) found.add(other);
     }

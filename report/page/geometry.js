@@ -1,24 +1,17 @@
 // Geometry: where steps and rows are. Nothing here draws.
 
-const clamp = (x, low, high) => Math.max(low, Math.min(high, x));
 // Browsers limit how long an element can be, Firefox to some 17 million pixels.
 const LONGEST = 8e6;
+const ACROSS = { scroll: "scrollLeft", client: "clientWidth", style: "width" };
+const DOWN = { scroll: "scrollTop", client: "clientHeight", style: "height" };
 
 // One side of a box that scrolls over `count` things, each `size` pixels long, beside `fixed`
 // pixels that stay. If it is too long for an element, the element is shorter. `offset` is in real
-// pixels.
+// pixels, and `seen` where the box was last known to be.
 class Side {
-  constructor(box, spacer, scroll, client, style, size) {
-    Object.assign(this, { box, spacer, scroll, client, style, size });
+  constructor(box, spacer, axis, size) {
+    Object.assign(this, { box, spacer, axis, size });
     Object.assign(this, { count: 0, fixed: 0, room: 0, offset: 0, seen: 0 });
-  }
-
-  static across(box, spacer) {
-    return new Side(box, spacer, "scrollLeft", "clientWidth", "width", 0);
-  }
-
-  static down(box, spacer, size) {
-    return new Side(box, spacer, "scrollTop", "clientHeight", "height", size);
   }
 
   get length() { return this.count * this.size; }
@@ -27,25 +20,28 @@ class Side {
   get least() { return this.room / this.count; }
 
   measure(fixed, count) {
-    Object.assign(this, { fixed, count, room: Math.max(1, this.box[this.client] - fixed) });
+    Object.assign(this, { fixed, count, room: Math.max(1, this.box[this.axis.client] - fixed) });
+    this.read();
   }
 
   layout() {
-    this.spacer.style[this.style] = Math.min(this.length, LONGEST) + this.fixed + "px";
+    this.spacer.style[this.axis.style] = Math.min(this.length, LONGEST) + this.fixed + "px";
+    this.seen = this.box[this.axis.scroll];
     this.to(this.offset);
   }
 
   to(offset) {
     this.offset = clamp(offset, 0, this.most);
     const place = this.offset / this.scale;
-    // else the reader may be scrolling
-    if (Math.abs(this.box[this.scroll] - place) >= 1) this.box[this.scroll] = place;
-    this.seen = this.box[this.scroll];
+    // else the reader may be scrolling, and to ask where the box is takes time
+    if (Math.abs(this.seen - place) < 1) return;
+    this.box[this.axis.scroll] = place;
+    this.seen = this.box[this.axis.scroll];
   }
 
   // Takes over where the reader has scrolled to.
   read() {
-    const now = this.box[this.scroll];
+    const now = this.box[this.axis.scroll];
     if (now !== this.seen) this.offset = clamp(now * this.scale, 0, this.most);
     this.seen = now;
   }
@@ -62,10 +58,8 @@ class Side {
 const HEAD = 46, USUAL = 22, WIDEST = 150, MAP = 58;
 
 class Grid {
-  constructor(box) {
-    const spacer = box.firstElementChild;
-    Object.assign(this, { box, rows: [], labels: 0, tail: 0, across: Side.across(box, spacer) });
-    this.down = Side.down(box, spacer, USUAL);
+  constructor(box, across, down) {
+    Object.assign(this, { box, across, down, rows: [], labels: 0, tail: 0 });
   }
 
   get wide() { return this.across.size; }
@@ -97,8 +91,9 @@ class Grid {
     return [...this.rows.keys()].slice(first, end).filter(row => row === first || isApart(row));
   }
 
-  // What is at a place of the box: a step, or -1; a row; whether it is in the column of the goal.
-  place(x, y) {
+  // What is below a pointer: a step, or -1; a row; whether it is in the column of the goal.
+  place({ clientX, clientY }) {
+    const { left, top } = this.box.getBoundingClientRect(), x = clientX - left, y = clientY - top;
     const t = this.column(x), isStep = x >= this.labels && x < this.right && t < this.across.count;
     return { x, t: isStep ? t : -1, row: y > HEAD ? this.row(y) : -1, isGoal: x >= this.right };
   }

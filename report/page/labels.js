@@ -1,75 +1,68 @@
 // Labels: short names and colours of values, for reading alone.
 
-const COLOURS = 5;
+const COLOURS = 5, PATTERNS = 4;
 const QUIET = new Map([["false", 0], ["none", 0], ["true", 9]]);
+const isApart = them => new Set(them).size === them.length;
 const ATOM = /^(Negated)?Atom ([^\s()]+)\((.*)\)$/s;
 
 // What the values that occur have in common is said once, in the label of the variable. The key of
-// a value is the objects that it names besides: `at(ball1, rooma)` of ball1 and `at-robby(rooma)`
-// have one key, so one colour. Values that aren't atoms stay as they are.
+// a value is the objects that it names besides: `at rooma` of a ball and `rooma` of the robot have
+// one key, so one colour. Values that aren't atoms stay as they are.
 class Variable {
-  constructor([name, layer, values, base], number) {
-    Object.assign(this, { name, number, layer, base, label: name, quiet: "", search: "" });
-    Object.assign(this, { rules: [], values: {} });
-    const names = Object.values(values), atoms = names.map(it => ATOM.exec(it));
-    const positive = atoms.filter(it => it && !it[1]);
-    const others = names.filter((_, i) => !positive.includes(atoms[i]));
-    const shorts = this.shorts(names, atoms, positive, others);
+  constructor([name, layer, values, base]) {
+    Object.assign(this, { name, layer, base, label: name, search: "", rules: [], values: {} });
+    const names = Object.values(values), shorts = this.shorts(names) ?? names;
+    const keys = shorts.map(it => it.replace(/^[^\s,]+ /, "")), isKey = isApart(keys);
     Object.keys(values).forEach((k, i) => {
-      const [short, key] = shorts[i];
-      this.values[k] = { name: names[i], short, key, colour: tint(key), pattern: 0 };
+      const short = shorts[i], key = isKey ? keys[i] : short, colour = tint(key);
+      const lower = names[i].toLowerCase(), pattern = QUIET.has(key) ? 0 : -1;
+      this.values[k] = { name: names[i], lower, short, key, colour, pattern };
     });
     if (layer >= 0) this.label = "◇ " + this.label;
-    this.search = `${this.label}\n${this.quiet}\n${name}`.toLowerCase();
+    this.search = `${this.label}\n${name}`.toLowerCase();
   }
 
-  // Returns a short name and a key for each value.
-  shorts(names, atoms, positive, [other, ...others]) {
-    const isOpposite = positive.length < 2 && ATOM.test(other)
-      && (!positive.length || other === "Negated" + positive[0][0]);
-    const isOther = other === undefined || isOpposite || other === "<none of those>";
-    if (others.length || !isOther) return names.map(it => [it, it]);
-    if (positive.length > 1) {
-      return this.apart(names, atoms, positive.map(it => [it[2], it[3] ? it[3].split(", ") : []]));
-    }
-    const atom = positive[0] || atoms[0];
-    if (atom) this.label = `${atom[2]}(${atom[3]})`;
-    return names.map(it => Array(2).fill(atom ? String(it.startsWith("Atom")) : "none"));
+  // Returns short names of the values, if all are atoms but one that says that no other holds.
+  shorts(names) {
+    const atoms = names.map(it => ATOM.exec(it)), positive = atoms.filter(it => it && !it[1]);
+    const [other, ...others] = names.filter((_, i) => !positive.includes(atoms[i]));
+    const [atom = atoms[0]] = positive, isNone = other === undefined || other === "<none of those>";
+    const isOpposite = ATOM.test(other) && (!positive.length || other === "Negated" + atom[0]);
+    if (others.length || !isNone && (!isOpposite || positive.length > 1)) return null;
+    if (positive.length > 1) return this.apart(atoms, positive);
+    if (atom) this.label = atom[2] + (atom[3] && `(${atom[3]})`);
+    return names.map(it => atom ? String(it.startsWith("Atom")) : "none");
   }
 
   // Calls each atom by what isn't common to all, unless two would look the same, as do `link(a, b)`
   // and `link(b, a)`.
-  apart(names, atoms, parts) {
-    const heads = [...new Set(parts.map(([head]) => head))];
-    const common = parts[0][1].filter(it => parts.every(([, them]) => them.includes(it)));
-    const others = parts.map(([, them]) => them.filter(it => !common.includes(it)).join(", "));
-    const isOne = heads.length === 1;
-    const short = ([head], i) => isOne ? others[i] || head : `${head} ${others[i]}`.trim();
-    const shorts = parts.map(short);
-    if (new Set(shorts).size < shorts.length) return names.map(it => [it, it]);
-    const dotted = parts[0][1].map(it => common.includes(it) ? it : "·").join(", ");
-    if (isOne) this.label = `${heads[0]}(${dotted})`;
-    else if (common.length) [this.label, this.quiet] = [common.join(", "), heads.join(" / ")];
-    else this.label = heads.join(" / ");
-    const keys = parts.map(([head], i) => others[i] || head);
-    const isKey = new Set(keys).size === keys.length;
-    const named = shorts.map((it, i) => [it, isKey ? keys[i] : it]);
-    return atoms.map(it => it && !it[1] ? named.shift() : ["none", "none"]);
+  apart(atoms, positive) {
+    const parts = positive.map(it => it[3].split(", ")), heads = new Set(positive.map(it => it[2]));
+    const common = parts[0].filter(it => parts.every(them => them.includes(it)));
+    const own = parts.map(them => them.filter(it => !common.includes(it)).join(", "));
+    const isOne = heads.size === 1, [head] = heads;
+    const shorts = own.map((it, i) => isOne && it || `${positive[i][2]} ${it}`.trim());
+    if (!isApart(shorts)) return null;
+    const dotted = parts[0].map(it => common.includes(it) ? it : "·").join(", ");
+    const either = common.join(", ") || [...heads].join(" / ");
+    this.label = isOne ? `${head}(${dotted})` : either;
+    return atoms.map(it => it && !it[1] ? shorts.shift() : "none");
   }
 }
 
 // The colour of a key. It follows from the name alone, so it is the same on every page.
 function tint(key) {
   if (QUIET.has(key)) return QUIET.get(key);
-  let hash = 2166136261;
-  for (const letter of key) hash = Math.imul(hash ^ letter.codePointAt(0), 16777619);
+  const mixed = (hash, letter) => Math.imul(hash ^ letter.codePointAt(0), 16777619);
+  const hash = [...key].reduce(mixed, 2166136261);
   return 1 + ((hash ^ hash >>> 15) >>> 0) % COLOURS;
 }
 
-// Values that follow each other in a row and whose colours are alike differ by a pattern. Returns
-// the names of the keys with a value of each, the most common first.
+// Values that follow each other in a row and whose colours are alike differ by a pattern. So do
+// others, as far as patterns go. Returns the names of the keys with a value of each, common ones
+// first.
 function spread(variables, runs) {
-  const values = variables.flatMap(it => Object.values(it.values)), patterns = new Map();
+  const values = variables.flatMap(it => Object.values(it.values));
   const keys = Map.groupBy(values.filter(({ key }) => !QUIET.has(key)), ({ key }) => key);
   const beside = new Map([...keys.keys()].map(key => [key, new Set()]));
   for (const run of runs) {
@@ -82,12 +75,15 @@ function spread(variables, runs) {
     }));
   }
   const sorted = [...keys].sort(([, a], [, b]) => b.length - a.length);
-  for (const [key] of sorted) {
-    const near = Array(PATTERNS).fill(0), known = it => patterns.has(it) || QUIET.has(it);
-    for (const other of [...beside.get(key)].filter(known)) near[patterns.get(other) ?? 0]++;
-    patterns.set(key, near.indexOf(Math.min(...near)));
+  const used = count(COLOURS + 1, () => Array(PATTERNS).fill(0));
+  for (const [key, them] of sorted) {
+    const near = [...beside.get(key)].map(other => keys.get(other)?.[0].pattern ?? 0);
+    const { colour } = them[0], met = it => near.filter(pattern => pattern === it).length;
+    const often = pattern => met(pattern) * keys.size + used[colour][pattern];
+    const [best] = count(PATTERNS).sort((a, b) => often(a) - often(b));
+    for (const value of them) value.pattern = best;
+    used[colour][best]++;
   }
-  for (const value of values) value.pattern = patterns.get(value.key) ?? 0;
   const isOne = them => them.every(({ short }) => short === them[0].short);
   return sorted.map(([key, them]) => [isOne(them) ? them[0].short : key, them[0]]);
 }

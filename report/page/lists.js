@@ -2,9 +2,9 @@
 
 const get = id => document.getElementById(id);
 const { format: group } = new Intl.NumberFormat("en");
-// a longer list has only the rows in view as elements, and so many of them are printed; of other
-// lists so many rows are made at once
-const REAL = 5000, PRINTED = 1000, MOST = 200, SOME = 400, SHORT = 15, ROW = 26;
+// A longer list has only the rows in view as elements. Of others so many rows are made at once, and
+// the rest when the reader has been still for so many milliseconds, part by part.
+const REAL = 5000, MOST = 200, SOME = 200, REST = 200, SOON = 20, SHORT = 15, ROW = 26;
 
 // Makes an element with a class, or with properties. Children that are strings become text, so no
 // name is ever read as HTML.
@@ -15,104 +15,106 @@ function make(tag, given = "", ...children) {
   return it;
 }
 
-const swatch = ({ colour, pattern }) => make("span", `swatch c${colour} p${pattern}`);
-const held = isHeld => make("b", isHeld ? "good" : "bad", isHeld ? "✓ " : "✗ ");
-const linkTo = (address, ...children) => make("a", { href: "#" + address }, ...children);
-
-// Tells those who listen to the page.
-function tell(words) {
-  if (get("live").textContent !== words) get("live").textContent = words;
+// What is made of rows, as many as are shown, and in the end how many are left.
+function some(rows, most, render, more = left => make("li", "quiet", `${left} more`)) {
+  const left = rows.length - most;
+  return [...rows.slice(0, most).map(render), ...(left > 0 ? [more(group(left))] : [])];
 }
 
-// A list in a box that scrolls. `render` returns the row of an item, and `sign` what its row shows:
-// where that is as before, the row stays. Items are numbers.
+const swatch = ({ colour, pattern }) => make("span", `swatch c${colour} p${pattern}`);
+const held = isHeld => make("b", isHeld ? "good" : "bad", isHeld ? "✓ " : "✗ ");
+
+// Says how many are kept of all.
+function tally(id, kept, all) {
+  get(id).textContent = kept < all ? `${group(kept)} of ${group(all)}` : group(all);
+}
+
+// A list in a box that scrolls. `parts` returns what the row of an item shows, and `render` the row
+// of an item with these parts: where they are as before, the row stays.
 class List {
-  constructor(box, render, sign) {
-    const space = make("div", { role: "presentation" });
-    Object.assign(this, { box, render, sign, space, items: [], rows: new Map(), isPrinted: false });
-    this.filling = 0;
-    this.side = Side.down(box, space, ROW);
-    box.addEventListener("scroll", () => this.scrolled());
+  constructor(box, parts, render) {
+    const space = make("div", { role: "presentation" }), side = new Side(box, space, DOWN, ROW);
+    Object.assign(this, { box, parts, render, space, side, items: [], rows: new Map() });
+    Object.assign(this, { wanted: -1, filling: 0 });
+    new ResizeObserver(() => this.draw()).observe(box);
+    addEventListener("beforeprint", () => this.print());
+    addEventListener("afterprint", () => this.show(this.items, this.wanted));
+    box.addEventListener("scroll", () => this.draw());
     box.addEventListener("keydown", event => this.move(event));
   }
 
   get isReal() { return this.items.length <= REAL; }
 
-  show(items) {
-    this.items = items;
+  // Shows items, and brings one of them into view.
+  show(items, wanted) {
+    const k = items.indexOf(wanted);
+    Object.assign(this, { items, wanted });
     this.box.classList.toggle("real", this.isReal);
     this.box.classList.toggle("short", items.length < SHORT);
     if (this.isReal) {
-      this.fill(SOME);
-      return;
+      this.fill(0, Math.max(SOME, k + SHORT));
+      if (k >= 0) this.reveal(wanted);
+    } else {
+      this.rows.clear();
+      this.box.replaceChildren(this.space);
+      this.side.measure(0, items.length);
+      if (k >= 0) this.side.reveal(k);
+      this.draw();
     }
-    this.rows.clear();
-    this.box.replaceChildren(this.space);
-    this.draw();
   }
 
-  // Makes the rows of so many items, and of the others a little later.
-  fill(count) {
-    const rows = this.items.slice(0, count).map(item => this.row(item));
-    const isAll = count >= this.items.length;
-    let next = this.box.firstChild;
-    for (const row of rows) {
-      if (row === next?.nextSibling) [next] = [row, next.remove()];
-      if (row === next) next = next.nextSibling;
-      else this.box.insertBefore(row, next);
-    }
-    while (next && isAll) [next] = [next.nextSibling, next.remove()];
+  // Brings the row of an item into view.
+  reveal(item) {
+    const { box } = this, row = this.row(item), top = row.offsetTop - box.scrollTop;
+    const isSeen = top >= 0 && top + row.offsetHeight <= box.clientHeight;
+    if (!isSeen) box.scrollTop += top - box.clientHeight / 3;
+  }
+
+  // Makes the rows of a part of the items, and later the others.
+  fill(start, end) {
+    const { box, items, box: { children } } = this, isAll = end >= items.length;
+    items.slice(start, end).map(item => this.row(item)).forEach((row, i) => {
+      const [old, next] = [children[start + i], children[start + i + 1]];
+      if (row === next) old.remove();
+      else if (row !== old) box.insertBefore(row, old);
+    });
+    while (isAll && children.length > items.length) box.lastChild.remove();
     clearTimeout(this.filling);
-    if (!isAll) this.filling = setTimeout(() => this.fill(count + SOME), 40);
+    if (!isAll) this.filling = setTimeout(() => this.fill(end, end + SOME), start ? SOON : REST);
   }
 
   // The row of an item, which is made anew if it would show something else.
   row(item) {
-    const sign = this.sign(item), known = this.rows.get(item);
+    const parts = this.parts(item), sign = parts.join("\n"), known = this.rows.get(item);
     if (known?.sign === sign) return known.row;
-    const row = this.render(item);
+    const row = this.render(item, ...parts);
     this.rows.set(item, { sign, row });
     known?.row.replaceWith(row);
     return row;
   }
 
-  scrolled() {
-    this.side.read();
-    this.draw();
-  }
-
   // Draws the rows in view, where not all are there.
   draw() {
-    const { side, items, isPrinted } = this;
-    if (this.isReal && isPrinted) this.fill(items.length);
+    const { side, items } = this;
     if (this.isReal) return;
     side.measure(0, items.length);
     side.layout();
-    const top = isPrinted ? 0 : side.offset / ROW, first = Math.floor(top);
-    const end = first + (isPrinted ? PRINTED : Math.min(MOST, side.room / ROW + 2));
-    const rows = items.slice(first, end).map((item, i) => {
+    const top = side.offset / ROW, first = Math.floor(top), most = side.room / ROW + 2;
+    const rows = items.slice(first, first + Math.min(MOST, most)).map((item, i) => {
       const place = { ariaSetSize: items.length, ariaPosInSet: first + i + 1 };
-      const row = Object.assign(this.render(item), place);
+      const row = Object.assign(this.render(item, ...this.parts(item)), place);
       row.style.top = side.seen + (first + i - top) * ROW + "px";
       return row;
     });
-    const left = group(items.length - rows.length) + " more";
-    this.space.replaceChildren(...rows, isPrinted ? make("div", "row quiet", left) : "");
+    this.space.replaceChildren(...rows);
   }
 
-  // Brings an item into view.
-  reveal(item) {
-    const k = this.items.indexOf(item), { box, side } = this;
-    if (k < 0) return;
-    if (this.isReal) {
-      const row = this.row(item), top = row.offsetTop - box.offsetTop - box.scrollTop;
-      const isSeen = top >= 0 && top + row.offsetHeight <= box.clientHeight;
-      if (!isSeen) box.scrollTop += top - box.clientHeight / 3;
-      return;
-    }
-    side.measure(0, this.items.length);
-    side.reveal(k);
-    this.draw();
+  // Makes the rows that are printed: all, or as many as a list of elements has.
+  print() {
+    const render = item => this.render(item, ...this.parts(item));
+    const more = left => make("div", "row quiet", left + " more");
+    if (this.isReal) this.fill(0, this.items.length);
+    else this.box.replaceChildren(...some(this.items, REAL, render, more));
   }
 
   // The arrow keys go from link to link, which the tabulator passes over.

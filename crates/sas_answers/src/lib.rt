@@ -24,7 +24,7 @@ pub use layers::{accept_layers, refuse_layers};
 pub use line::Line;
 pub use names::{NameSource, given_by, operator_name, set_by, value_name};
 pub use pieces::Pieces;
-pub use plans::{accept_plan, answer_fault, answer_number_fault};
+pub use plans::{accept_plan, answer_fault, answer_number_fault, refuse_start};
 pub use pushing::{push_lines, write_reasons};
 pub use shown::{show, show_name};
 pub use sink::Sink;

@@ -2,13 +2,13 @@
 ghost use Rattle.std.specs.Prelude.{◌≡◌, option_map, Some, IfOk};
 ghost use Rattle.sas_answers.specs.Answers.{valid_by, invalid_answer};
 ghost use Rattle.sas_answers.specs.Ending.{output_of};
-ghost use Rattle.sas_answers.specs.NumberedPlans.{invalid_by_numbers, number_fault_words};
+ghost use Rattle.sas_answers.specs.NumberedPlans.{invalid_by_numbers, number_fault_words, start_refusal};
 ghost use Rattle.sas_answers.specs.PlanWords.{fault_words, step_words, goal_words, sum_words, invalid_line};
 ghost use Rattle.sas_answers.specs.ValidLine.{valid_line};
 
 use crate::{Answer, Status};
 use sas_lines::{push_line, push_number};
-use sas_run::PlanFault;
+use sas_run::{PlanFault, StartFault};
 use std::alloc::{AllocError, Global};
 
 /// Returns the answer about a valid plan with so many steps and this cost.
@@ -39,6 +39,36 @@ pub fn answer_number_fault(alloc: Global, cost: u64, fault: PlanFault) -> Result
         text: number_fault_text(alloc, cost, fault)?,
         status: Status::No,
     })
+}
+
+/// Returns the refusal of a start that isn't a state.
+pub fn refuse_start(alloc: Global, fault: StartFault) -> Result<Answer, AllocError>
+    ensures { IfOk result (λ a. output_of a ≡ start_refusal fault) }
+{
+    Ok(Answer {
+        text: start_text(alloc, fault)?,
+        status: Status::No,
+    })
+}
+
+/// Returns the line that refuses a start.
+fn start_text(alloc: Global, fault: StartFault) -> Result<Vec<u8>, AllocError>
+    ensures { IfOk result (λ t. t.items ≡ (start_refusal fault).text) }
+{
+    let mut text = Vec::from_slice(alloc, b"state refused: ")?;
+    match fault {
+        StartFault::Count { values, variables } => {
+            push_number(&mut text, values as u128)?;
+            text.extend_from_slice(b" values, not ")?;
+            push_number(&mut text, u128::from(variables))?;
+        }
+        StartFault::Value { var } => {
+            text.extend_from_slice(b"variable ")?;
+            push_number(&mut text, u128::from(var))?;
+        }
+    }
+    text.push(b'\n')?;
+    Ok(text)
 }
 
 /// Returns the line of a valid plan.

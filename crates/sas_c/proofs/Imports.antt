@@ -1,5 +1,5 @@
 -- What the proofs use of other crates, and of the definitions of this one.
-pub use Rattle.std.proofs.Common.{◌≡◌, ℕ, false, zero, suc, List, [], ◌∷◌, ◌++◌, refl, subst, Option, Some, None, ◌<◌, length, take, drop, codes, arith, sym, ap, ◌∙◌, inr, Result, Ok, Err, IfSome, decimal, inl, Bor, true≢false, IsSome, lit<}
+pub use Rattle.std.proofs.Common.{get_or, rules, Bool, true, ◌≡◌, ℕ, false, zero, suc, List, [], ◌∷◌, ◌++◌, refl, subst, Option, Some, None, ◌<◌, length, take, drop, codes, arith, sym, ap, ◌∙◌, inr, Result, Ok, Err, IfSome, decimal, inl, Bor, true≢false, IsSome, lit<}
 pub use Rattle.std.proofs.lemmas.Option.{same_Some}
 pub use Rattle.std.proofs.raw_atomic.Walks.{proved_at, leaves}
 pub use Rattle.std.specs.Global.{Vec}
@@ -17,7 +17,8 @@ pub use Rattle.std_alloc.proofs.boxed.Box.from_raw.Met.{met}
 pub use Rattle.std_alloc.specs.Box.Ownership.{box_owns}
 pub use Rattle.sas_answers.specs.Answers.{layers_verdict}
 pub use Rattle.sas_answers.specs.ValidLine.{valid_line}
-pub use Rattle.sas_answers.specs.NumberedPlans.{NumbersAnswer, number_fault_words}
+pub use Rattle.sas_answers.specs.NumberedPlans.{AnswerFrom, NumbersAnswer, RunAnswer, number_fault_words, start_refusal}
+pub use Rattle.sas_answers.specs.Answers.{valid_by}
 pub use Rattle.sas_answers.specs.PlanWords.{invalid_line}
 pub use Rattle.sas_core.specs.declared.parts.Parts.{Parts}
 pub use Rattle.sas_meaning.specs.Layers.{IsLayered}
@@ -26,7 +27,7 @@ pub use Rattle.sas_answers.specs.declared.ending.Status.{Status}
 pub use Rattle.sas_answers.specs.declared.ending.Status.TheVariants.{Yes, No}
 pub use Rattle.sas_answers.specs.declared.ending.ToolFault.{ToolFault}
 pub use Rattle.sas_answers.specs.declared.ending.ToolFault.TheVariants.{Memory, Read, TooLong, Write}
-pub use Rattle.sas_requests.proofs.Headlines.{other_words, invalid_line_apart}
+pub use Rattle.sas_requests.proofs.Headlines.{IsOther, other_words, invalid_line_apart}
 pub use Rattle.sas_requests.proofs.Outputs.{same_output}
 pub use Rattle.sas_requests.specs.Headline.{Headline}
 pub use Rattle.sas_requests.specs.Invariants.{Invariants}
@@ -46,8 +47,12 @@ pub use Rattle.sas_plan_reasons.specs.declared.detail.Detail.{Detail}
 pub use Rattle.sas_plan_reasons.specs.VerdictBy.{VerdictBy}
 pub use Rattle.sas_task_file.specs.TaskFormat.{task_format}
 pub use Rattle.sas_run.proofs.NumberVerdicts.{numbers_have_no_fault}
-pub use Rattle.sas_c.specs.Holding.{HoldsTask, HeldOut, NumbersOut, owns_task}
-pub use Rattle.sas_c.specs.Reporting.{Returns, HeadlineByNumbers, SolvesByNumbers, ReturnsByNumbers, ReturnsHeadline, ReturnsInvariants, number_of_fault, number_of_status}
+pub use Rattle.sas_run.specs.ByNumbers.{IsValidByNumbers, IsValidFrom}
+pub use Rattle.sas_run.specs.Starts.{IsStart, IsStartFault, start_of}
+pub use Rattle.sas_run.specs.declared.starts.StartFault.{StartFault}
+pub use Rattle.sas_run.specs.declared.starts.StartFault.TheVariants.{Count, Value}
+pub use Rattle.sas_c.specs.Holding.{HoldsTask, HeldOut, NumbersOut, RunOut, ReturnsHeld, owns_task}
+pub use Rattle.sas_c.specs.Telling.{Returns, ReturnsState, IsValidRun, HeadlineByNumbers, SolvesByNumbers, ReturnsByNumbers, ReturnsHeadline, ReturnsInvariants, number_of_fault, number_of_status}
 pub use Rattle.sas_c.specs.Written.{IsWritten}
 pub use Rattle.sas_c.specs.contracts.box_pointer.BoxPointer.into_box.{ended, clauses}
 pub use Rattle.sas_c.specs.declared.plans.PlanCall.{PlanCall}

@@ -1,17 +1,18 @@
 -- What is held of a task that was read, and what is answered about a plan of it.
-use Rattle.std.specs.Prelude.{◌≡◌, List, ℕ, Option, Some, None, IfSome, IsNone, Ok, []}
+use Rattle.std.specs.Prelude.{◌≡◌, List, ℕ, Option, Some, None, IfSome, IsNone, IsSomeAnd, Ok, []}
 use Rattle.sas_core.specs.declared.parts.Parts.{Parts}
 use Rattle.sas_meaning.specs.Layers.{IsLayered}
 use Rattle.sas_reader.specs.Format.{ReadsAs}
 use Rattle.sas_reader.specs.Limit.{most_bytes}
 use Rattle.sas_task_file.specs.TaskFormat.{task_format}
 use Rattle.sas_answers.specs.Ending.{Output}
-use Rattle.sas_answers.specs.NumberedPlans.{NumbersAnswer}
+use Rattle.sas_answers.specs.NumberedPlans.{NumbersAnswer, RunAnswer}
+use Rattle.sas_plan_reasons.specs.RunTraces.{RunTrace}
 use Rattle.sas_plan_reasons.specs.VerdictBy.{VerdictBy}
 use Rattle.sas_requests.specs.Answering.{PlanBy}
-use Rattle.sas_c.specs.Reporting.{Returns}
+use Rattle.sas_c.specs.Telling.{Returns}
 use Rattle.sas_c.specs.declared.plans.PlanCall.{PlanCall}
-use Rattle.sas_c.specs.declared.plans.PlanCall.TheVariants.{Bytes, Numbers}
+use Rattle.sas_c.specs.declared.plans.PlanCall.TheVariants.{Bytes, Numbers, Traced}
 use mir.Syntax.{impl, tnil, dnil}
 use base.Fml.{Fml, ftrue, fex}
 use denote.RattleType.{RattleType}
@@ -36,19 +37,36 @@ abbrev pub NumbersOut : Parts → List ℕ → ℕ → Option Output → Type 0
 NumbersOut p operators cost output =
     (answer : Output) × NumbersAnswer p operators cost answer × (output ≡ Some answer)
 
+-- the output about operators, by their numbers, at this cost, from the start that is given
+abbrev pub RunOut : Parts → List ℕ → List ℕ → ℕ → Option Output → Type 0
+RunOut p start operators cost output =
+    (answer : Output) × RunAnswer p start operators cost answer × (output ≡ Some answer)
+
+-- this after a trace
+abbrev pub RunTraceOut : Parts → List ℕ → List ℕ → ℕ → Option Output → Type 0
+RunTraceOut p start operators cost output =
+    IsSomeAnd output (RunTrace p start operators cost)
+
 -- the output of a call about a plan of the task that is held
 abbrev pub HeldOut : PlanCall → Parts → Option Output → Type 0
 HeldOut (Bytes detail plan) p = PlanBy detail.reasons (VerdictBy detail p) plan.now
-HeldOut (Numbers plan) p = NumbersOut p plan.operators.now plan.cost
+HeldOut (Numbers plan) p = RunOut p plan.start.now plan.operators.now plan.cost
+HeldOut (Traced plan) p = RunTraceOut p plan.start.now plan.operators.now plan.cost
 
--- What a call about the task that is held returns. `Out` holds of the right output for this task.
-pub record ReturnsHeld (Out : Parts → Option Output → Type 0) (held after : Option Parts)
-    (before room : List ℕ) (size number : ℕ) : Type 0 where
-  pub of_task : IfSome held (λ task. Returns (Out task) before room size number)
+-- What a call about the task that is held returns. `Returned` says what it returns for this task.
+pub record AsksHeld (Returned : Parts → Type 0) (held after : Option Parts) (before room : List ℕ)
+    (number : ℕ) : Type 0 where
+  pub of_task : IfSome held Returned
   -- it stays held
   pub same : after ≡ held
   -- 5: none is held
   pub none : IsNone held → (number ≡ 5) × (room ≡ before)
+
+-- this, where the call returns an answer: `Out` holds of the right output for this task
+abbrev pub ReturnsHeld : (Parts → Option Output → Type 0) → Option Parts → Option Parts → List ℕ
+    → List ℕ → ℕ → ℕ → Type 0
+ReturnsHeld Out held after before room size number =
+    AsksHeld (λ task. Returns (Out task) before room size number) held after before room number
 
 -- the type of a task that is held, as the logic names it; `impl` stands for the code of the task's
 -- methods, which no ghost member reads

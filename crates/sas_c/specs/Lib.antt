@@ -1,3 +1,3 @@
-pub mod Reporting
+pub mod Telling
 pub mod Holding
 pub mod Written

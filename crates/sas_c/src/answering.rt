@@ -1,8 +1,8 @@
 // How a question about bytes in memory is answered.
 ghost use Rattle.sas_requests.specs.OutBy.{OutBy};
-ghost use Rattle.sas_c.specs.Reporting.{Returns};
+ghost use Rattle.sas_c.specs.Telling.{Returns};
 
-use crate::reporting::report_ended;
+use crate::telling::tell_ended;
 use sas_lines::Watched;
 use sas_requests::{Question, answer};
 use std::alloc::Global;
@@ -30,5 +30,5 @@ pub fn answer_call(
     let mut plan = Watched::new(inputs.plan);
     let mut text = Watched::new(Vec::new(alloc));
     let ended = answer(alloc, question, &mut task, &mut plan, &mut text);
-    report_ended(ended, text, room, size)
+    tell_ended(ended, text, room, size)
 }

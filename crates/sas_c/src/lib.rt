@@ -6,10 +6,12 @@ mod answering;
 mod box_pointer;
 mod numbers;
 mod plans;
-mod reporting;
 mod requests;
+mod runs;
 mod sas_task;
 mod task_pointer;
 mod tasks;
+mod telling;
 
+pub use runs::SasRun;
 pub use sas_task::{HeldTask, SasTask};

@@ -1,6 +1,6 @@
 // How an answer is returned as a number.
 ghost use Rattle.std.specs.Prelude.{◌≡◌};
-ghost use Rattle.sas_c.specs.Reporting.{number_of_fault, number_of_status};
+ghost use Rattle.sas_c.specs.Telling.{number_of_fault, number_of_status};
 
 use sas_answers::{Status, ToolFault};
 

@@ -3,16 +3,17 @@ ghost use Rattle.std.specs.Prelude.{◌≡◌, false, true, List, ℕ, IfSome};
 ghost use Rattle.sas_answers.specs.Answers.{VerdictAnswer};
 ghost use Rattle.sas_meaning.specs.Layers.{IsLayered};
 ghost use Rattle.sas_plan_reasons.specs.Verdict.{WhyVerdict};
+ghost use Rattle.sas_run.specs.ByNumbers.{IsValidByNumbers};
 ghost use Rattle.sas_requests.specs.Output.{Out, VerdictOut};
 ghost use Rattle.sas_plan_reasons.specs.Traced.{TraceVerdict};
 ghost use Rattle.sas_requests.specs.FileReasons.{PlanFileReasons};
 ghost use Rattle.sas_requests.specs.OutBy.{OutBy, WithReasons, explained, traced};
-ghost use Rattle.sas_c.specs.Reporting.{Returns, ReturnsByNumbers, ReturnsHeadline};
+ghost use Rattle.sas_c.specs.Telling.{Returns, ReturnsByNumbers, ReturnsHeadline};
 ghost use Rattle.sas_c.specs.Holding.{HeldOut, HoldsTask, NumbersOut, ReturnsHeld};
 
 use crate::numbers::{NO_TASK, OUT_OF_MEMORY};
-use crate::reporting::{report_ended, return_answer};
 use crate::sas_task::{HeldTask, SasTask};
+use crate::telling::{return_answer, tell_ended};
 use sas_lines::Watched;
 use sas_requests::{Detail, Request, answer_bytes};
 use sas_run::NumberedPlan;
@@ -92,9 +93,16 @@ pub extern "C" fn sas_task_plan_operators(
     ensures answers { ReturnsHeld (λ loaded. NumbersOut loaded operators.now cost)
         task.old.pointer.task task.new.pointer.task room.old room.new size.new result }
     ensures headline { IfSome task.old.pointer.task (λ loaded.
-        ReturnsByNumbers loaded operators.now cost room.new size.new result) }
+        ReturnsByNumbers (IsValidByNumbers loaded operators.now cost)
+        operators.now cost room.new size.new result) }
 {
-    let call = PlanCall::Numbers(NumberedPlan { operators, cost });
+    let start = &[];
+    let plan = NumberedPlan {
+        operators,
+        cost,
+        start,
+    };
+    let call = PlanCall::Numbers(plan);
     answer_held(alloc, task, call, room, size)
 }
 
@@ -103,12 +111,14 @@ pub extern "C" fn sas_task_plan_operators(
 pub enum PlanCall<'b> {
     /// How much is reported, and the bytes of the plan.
     Bytes(Detail, &'b [u8]),
-    /// The numbers of its operators, and its cost.
+    /// The numbers of its operators, its cost, and the state that it starts in.
     Numbers(NumberedPlan<'b>),
+    /// The same, of which a trace is wanted.
+    Traced(NumberedPlan<'b>),
 }
 
 /// Writes the answer about the plan for the task that is held. It stays held.
-fn answer_held(
+pub fn answer_held(
     alloc: Global,
     task: &mut SasTask,
     call: PlanCall<'_>,
@@ -148,11 +158,16 @@ fn answer_loaded(
         PlanCall::Bytes(detail, plan) => {
             let mut text = Watched::new(Vec::new(alloc));
             let ended = answer_bytes(alloc, detail, loaded, plan, &mut text);
-            report_ended(ended, text, room, size)
+            tell_ended(ended, text, room, size)
         }
         PlanCall::Numbers(plan) => match loaded.verdict_by_numbers(alloc, &plan) {
             Ok(answer) => return_answer(answer, room, size),
             Err(_) => OUT_OF_MEMORY,
         },
+        PlanCall::Traced(plan) => {
+            let mut text = Watched::new(Vec::new(alloc));
+            let ended = loaded.trace_by_numbers(alloc, &plan, &mut text);
+            tell_ended(ended, text, room, size)
+        }
     }
 }

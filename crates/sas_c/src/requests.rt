@@ -3,7 +3,7 @@
 ghost use Rattle.std.specs.Prelude.{false, true, []};
 ghost use Rattle.sas_requests.specs.Output.{Out};
 ghost use Rattle.sas_requests.specs.OutBy.{OutBy, explained, traced};
-ghost use Rattle.sas_c.specs.Reporting.{Returns, ReturnsHeadline, ReturnsInvariants};
+ghost use Rattle.sas_c.specs.Telling.{Returns, ReturnsHeadline, ReturnsInvariants};
 
 use crate::answering::{Inputs, answer_call};
 use sas_requests::{Detail, Question, Request};
@@ -18,7 +18,8 @@ pub extern "C" fn sas_plan(
     room: &mut [u8],
     size: &mut usize,
 ) -> u32
-    ensures answers { Returns (Out Request.Plan task.now plan.now) room.old room.new size.new result }
+    ensures answers { Returns (Out Request.Plan task.now plan.now)
+        room.old room.new size.new result }
     ensures headline { ReturnsHeadline false task.now plan.now room.new size.new result }
 {
     let request = Request::Plan;
@@ -145,7 +146,8 @@ pub extern "C" fn sas_check_why(
     room: &mut [u8],
     size: &mut usize,
 ) -> u32
-    ensures answers { Returns (OutBy explained Request.Check task.now []) room.old room.new size.new result }
+    ensures answers { Returns (OutBy explained Request.Check task.now [])
+        room.old room.new size.new result }
 {
     let request = Request::Check;
     let detail = Detail::REASONS;
@@ -166,7 +168,8 @@ pub extern "C" fn sas_mutex_why(
     room: &mut [u8],
     size: &mut usize,
 ) -> u32
-    ensures answers { Returns (OutBy explained Request.Mutex task.now []) room.old room.new size.new result }
+    ensures answers { Returns (OutBy explained Request.Mutex task.now [])
+        room.old room.new size.new result }
     ensures invariants { ReturnsInvariants task.now room.new size.new result }
 {
     let request = Request::Mutex;
@@ -189,7 +192,8 @@ pub extern "C" fn sas_trace(
     room: &mut [u8],
     size: &mut usize,
 ) -> u32
-    ensures answers { Returns (OutBy traced Request.Plan task.now plan.now) room.old room.new size.new result }
+    ensures answers { Returns (OutBy traced Request.Plan task.now plan.now)
+        room.old room.new size.new result }
     ensures headline { ReturnsHeadline true task.now plan.now room.new size.new result }
 {
     let request = Request::Plan;

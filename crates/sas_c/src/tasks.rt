@@ -2,12 +2,12 @@
 ghost use Rattle.std.specs.Prelude.{◌≡◌, [], Some, None, IfSome};
 ghost use Rattle.sas_answers.specs.Answers.{layers_verdict};
 ghost use Rattle.sas_requests.specs.Output.{Out};
-ghost use Rattle.sas_c.specs.Reporting.{Returns};
+ghost use Rattle.sas_c.specs.Telling.{Returns};
 ghost use Rattle.sas_c.specs.Holding.{HoldsTask};
 
 use crate::numbers::{OUT_OF_MEMORY, YES};
-use crate::reporting::{report, report_ended};
 use crate::sas_task::{HeldTask, SasTask};
+use crate::telling::{tell, tell_ended};
 use sas_answers::Status;
 use sas_flat::FlatTask;
 use sas_lines::Watched;
@@ -34,7 +34,7 @@ pub extern "C" fn sas_task_read(
     let mut text = Watched::new(Vec::new(alloc));
     match read_layered(alloc, Detail::PLAIN, &mut device, &mut text) {
         ReadTask::Layered(layered) => hold(alloc, task, layered, room, size),
-        ReadTask::Ended(ended) => report_ended(ended, text, room, size),
+        ReadTask::Ended(ended) => tell_ended(ended, text, room, size),
     }
 }
 
@@ -64,20 +64,20 @@ fn hold(
         return OUT_OF_MEMORY;
     };
     match in_box(alloc, loaded) {
-        Some(loaded) => report_held(task, loaded, room, size),
+        Some(loaded) => tell_held(task, loaded, room, size),
         None => OUT_OF_MEMORY,
     }
 }
 
 /// Writes that the task is layered, and holds it if there is room for that.
-fn report_held(task: &mut SasTask, loaded: Box<HeldTask>, room: &mut [u8], size: &mut usize) -> u32
+fn tell_held(task: &mut SasTask, loaded: Box<HeldTask>, room: &mut [u8], size: &mut usize) -> u32
     requires { task.old.pointer.task ≡ None }
     ensures answers { Returns (λ output. output ≡ layers_verdict None)
         room.old room.new size.new result }
     ensures held { result ≡ 0 → task.new.pointer.task ≡ Some loaded.value }
     ensures none { (result ≡ 0 → ⊥) → task.new.pointer.task ≡ None }
 {
-    let number = report(b"task layered\n", Status::Yes, room, size);
+    let number = tell(b"task layered\n", Status::Yes, room, size);
     if number == YES {
         task.put(loaded);
     } else {

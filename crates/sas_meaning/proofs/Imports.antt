@@ -33,7 +33,7 @@ pub use Rattle.sas_core.specs.declared.parts.Variable.{Variable}
 pub use Rattle.sas_meaning.specs.DerivedVariables.{AreDerivedSpans, AreSpansOf, CopiesSpans, IsSpanned}
 pub use Rattle.sas_meaning.specs.declared.state.VariableSpan.{VariableSpan}
 pub use Rattle.sas_meaning.specs.Forced.{OnlyForced, HasFired, Changes, SameOff, AtDefault, equal_places, Occurs}
-pub use Rattle.sas_meaning.specs.FastDownward.{FiresLast, FastDownwardStep, FastDownwardReachable, Start, Onward}
+pub use Rattle.sas_meaning.specs.FastDownward.{FiresLast, ForcedStep, FastDownwardStep, FastDownwardReachable, Start, Onward}
 pub use Rattle.sas_meaning.specs.Laws.{SettledExists, InitialExists, SettledIsOne, StepIsOne}
 pub use Rattle.sas_meaning.specs.LayerChecks.{numbered_checks, agrees_with, looks_down, firing_checks, effect_layer_checks, operator_layer_checks, rule_layer_checks, layer_checks, LayerChecksAreTheRules}
 pub use Rattle.sas_meaning.specs.Layers.{IsBasic, IsOnLayer, default_of, IsLayered, CanFire, LooksDown, can_fire, IsLayeredRule}

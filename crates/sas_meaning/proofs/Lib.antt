@@ -5,7 +5,7 @@ pub mod Forced
 pub mod Settling
 pub mod Unique
 pub mod Exists
-mod Writing
+pub mod Writing
 pub mod FastDownwardSteps
 pub mod NumberedChecks
 pub mod RuleTests

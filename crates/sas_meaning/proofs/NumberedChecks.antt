@@ -1,5 +1,5 @@
 -- The first fault among the checks of the items of a list.
-use Rattle.sas_meaning.proofs.Imports.{common_steps, ◌≡◌, ℕ, ◌+◌, ◌<◌, ◌≤◌, Bool, List, ◌∷◌, length, flat_map, drop, get_or, Option, Some, None, sym, ◌∙◌, ap, add-one, arith, drop-cons, drop_all, get_or-enumerate_from, length-enumerate_from, enumerate_from, Check, first_fault, check, fails_before, decides_after, LayerFault, numbered_checks}
+use Rattle.sas_meaning.proofs.Imports.{common_steps, ◌≡◌, ℕ, [], not, is_some, refl, Parts, IsBasic, EffectOnDerived, effect_layer_checks, operator_layer_checks, ◌+◌, ◌<◌, ◌≤◌, Bool, List, ◌∷◌, length, flat_map, drop, get_or, Option, Some, None, sym, ◌∙◌, ap, add-one, arith, drop-cons, drop_all, get_or-enumerate_from, length-enumerate_from, enumerate_from, Check, first_fault, check, fails_before, decides_after, LayerFault, numbered_checks}
 
 -- a check, and one whose test says the same
 pub same_check : (passes test : Bool) (e : LayerFault) (found : Option LayerFault) → passes ≡ test → found ≡ first_fault (check passes e) → found ≡ first_fault (check test e)
@@ -35,3 +35,15 @@ module _ {A : Type 0} (checks_of : ℕ → A → List (Check LayerFault)) (items
     -- the item at this place fails
     pub fails_at : (e : LayerFault) → Some e ≡ first_fault (checks_of place item) → Some e ≡ first_fault (numbered_checks checks_of items)
     fails_at e some = grind (arith, common_steps, fails_before, enumerate_from, at_item)
+
+-- each item passes
+pub pass_each : {A : Type 0} (checks_of : ℕ → A → List (Check LayerFault)) (first : ℕ) (items : List A) → ((place : ℕ) (item : A) → None ≡ first_fault (checks_of place item))
+    → None ≡ first_fault (named checks_of (enumerate_from first items))
+pass_each checks_of first [] each = refl
+pass_each checks_of first (item ∷ items) each =
+    decides_after (checks_of first item) (named checks_of (enumerate_from (first + 1) items)) None (each first item) (pass_each checks_of (first + 1) items each)
+
+-- where no variable is derived, all operators pass
+pub pass_basic : (p : Parts) → ((var : ℕ) → IsBasic p var) → None ≡ first_fault (numbered_checks (operator_layer_checks p) p.operators)
+pass_basic p basic = pass_each (operator_layer_checks p) 0 p.operators (λ operator o. pass_each (effect_layer_checks p operator) 0 o.effects
+    (λ effect e. ap (λ layer. first_fault (check (not (is_some layer)) (EffectOnDerived operator effect))) (sym (basic e.var))))

@@ -1,13 +1,13 @@
 -- Writing the effects that fire over a state, one after another.
-use Rattle.sas_meaning.proofs.Imports.{common_steps, ◌≡◌, ◌≢◌, ℕ, zero, suc, ◌<◌, ◌⊎◌, ◌==◌, Bool, true, false, if◌then◌else◌, List, [], ◌∷◌, length, get_or, set, slice_index, refl, ◌∙◌, subst, inl, inr, arith, cases_eq, eqb-true, eq-eqb, get_or-set_same, get_or-set_other, get_or_default, length-set, All, All-nil, All-cons, All-head, All-tail, AllPass-from_list_all, list_all-from_AllPass, Fact, Effect, Parts, no_effect, HasValue, IsState, Fires, fires, written}
+use Rattle.sas_meaning.proofs.Imports.{common_steps, ◌≡◌, ◌≢◌, ℕ, zero, suc, ◌<◌, ◌⊎◌, ◌==◌, Bool, true, false, if◌then◌else◌, List, [], ◌∷◌, ◌++◌, length, get_or, set, slice_index, refl, ◌∙◌, subst, inl, inr, arith, cases_eq, eqb-true, eq-eqb, get_or-set_same, get_or-set_other, get_or_default, length-set, All, All-nil, All-cons, All-head, All-tail, AllPass-from_list_all, list_all-from_AllPass, Fact, Effect, Parts, no_effect, HasValue, IsState, Fires, fires, written}
 use Rattle.sas_meaning.proofs.Facts.{hold_or_not, Untouched}
 use Rattle.sas_meaning.proofs.Forced.{state_set}
 
 -- the test tells whether an effect fires
-fires_so : (s : List ℕ) (e : Effect) → fires s e ≡ true → Fires s e
+pub fires_so : (s : List ℕ) (e : Effect) → fires s e ≡ true → Fires s e
 fires_so s e test k d lt = eqb-true _ _ (AllPass-from_list_all (λ (f : Fact). slice_index s f.var == f.value) e.conditions test k d lt)
 
-so_fires : (s : List ℕ) (e : Effect) → Fires s e → fires s e ≡ true
+pub so_fires : (s : List ℕ) (e : Effect) → Fires s e → fires s e ≡ true
 so_fires s e hold = list_all-from_AllPass (λ (f : Fact). slice_index s f.var == f.value) e.conditions (λ k d lt. eq-eqb _ _ (hold k d lt))
 
 module _ (s : List ℕ) where
@@ -45,7 +45,7 @@ module _ (s : List ℕ) where
   ]
 
   -- the values after one effect
-  abbrev one : Effect → List ℕ → List ℕ
+  abbrev pub one : Effect → List ℕ → List ℕ
   one e values = if fires s e then set values e.var e.new else values
 
   one_length : (e : Effect) (values : List ℕ) → length (one e values) ≡ length values
@@ -56,6 +56,15 @@ module _ (s : List ℕ) where
 
   one_set : (e : Effect) (values : List ℕ) → Fires s e → e.var < length values → get_or (one e values) e.var 0 ≡ e.new
   one_set e values hold lt = grind (arith, common_steps, so_fires, get_or-set_same)
+
+  pub written_length : (effects : List Effect) (values : List ℕ) → length (written s effects values) ≡ length values
+  written_length [] values = refl
+  written_length (e ∷ es) values = written_length es (one e values) ∙ one_length e values
+
+  -- one more effect
+  pub written_more : (effects : List Effect) (e : Effect) (values : List ℕ) → written s (effects ++ e ∷ []) values ≡ one e (written s effects values)
+  written_more [] e values = refl
+  written_more (f ∷ fs) e values = written_more fs e (one f values)
 
   -- a variable that no effect sets keeps its value
   pub written_kept : (effects : List Effect) (values : List ℕ) (v : ℕ) → All (Untouched s v) effects

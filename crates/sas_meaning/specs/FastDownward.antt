@@ -20,10 +20,8 @@ pub record FiresLast (s : List ℕ) (o : Operator) (effect : ℕ) : Type 0 where
   pub last : (later : ℕ) → effect < later → later < length o.effects
       → Fires s (effect_at o later) → (effect_at o later).var ≢ (effect_at o effect).var
 
--- the operator leads from s to s' in Fast Downward's search
-pub record FastDownwardStep (p : Parts) (s : List ℕ) (o : Operator) (s' : List ℕ) : Type 0 where
-  -- its preconditions hold in s; they are those of `Step`
-  pub applicable : AllHold (slice_index s) (preconditions o)
+-- the operator's effects that fire in s lead to s', whether its preconditions hold or not
+pub record ForcedStep (p : Parts) (s : List ℕ) (o : Operator) (s' : List ℕ) : Type 0 where
   -- s' is a settled state of the task
   pub state : IsState p.variables s'
   pub settled : IsSettled p s'
@@ -33,6 +31,13 @@ pub record FastDownwardStep (p : Parts) (s : List ℕ) (o : Operator) (s' : List
   -- a basic variable that no firing effect sets keeps its value
   pub kept : (var : ℕ) → IsBasic p var → All (λ (e : Effect). Fires s e → e.var ≢ var) o.effects
       → slice_index s' var ≡ slice_index s var
+
+-- the operator leads from s to s' in Fast Downward's search
+pub record FastDownwardStep (p : Parts) (s : List ℕ) (o : Operator) (s' : List ℕ) : Type 0 where
+  -- its preconditions hold in s; they are those of `Step`
+  pub applicable : AllHold (slice_index s) (preconditions o)
+  -- its effects lead to s'
+  pub forced : ForcedStep p s o s'
 
 -- the states that Fast Downward's search can reach
 pub data FastDownwardReachable (p : Parts) : List ℕ → Type 0 where

@@ -1,7 +1,8 @@
 // The derived variables of a task.
-ghost use Rattle.std.specs.Prelude.{IfOk, IsTrue, IsFalse};
+ghost use Rattle.std.specs.Prelude.{ℕ, IfOk, IsTrue, IsFalse};
 ghost use Rattle.sas_core.specs.Variables.{IsDerived};
 ghost use Rattle.sas_meaning.specs.DerivedVariables.{AreDerivedSpans};
+ghost use Rattle.sas_meaning.specs.Layers.{IsBasic};
 
 use crate::layered::Layered;
 use crate::state::VariableSpan;
@@ -34,4 +35,16 @@ fn is_basic<T: Grounded>(task: &Layered<T>, var: u32) -> bool
     ensures no { IsFalse result → IsDerived task.now.variables var }
 {
     var >= task.variables() || task.layer(var).is_none()
+}
+
+/// Returns whether a variable of the task is derived.
+pub fn has_derived<T: Grounded>(task: &T) -> bool
+    ensures { IsFalse result → (var : ℕ) → IsBasic (T.says task.now) var }
+{
+    for var in 0..task.variables() {
+        if task.layer(var).is_some() {
+            return true;
+        }
+    }
+    false
 }

@@ -11,6 +11,7 @@ ghost use Rattle.sas_meaning.specs.Layers.{CanFire};
 ghost use Rattle.sas_meaning.specs.NewValues.{NewValues};
 ghost use Rattle.sas_meaning.specs.declared.layered.LayerFault.TheVariants.{LayerOrder};
 
+use crate::derived::has_derived;
 use crate::layered::LayerFault;
 use sas_core::{Change, Fact, Grounded, Items, check};
 use std::alloc::Global;
@@ -27,7 +28,7 @@ pub fn check_layers<T: Grounded>(alloc: Global, task: &T) -> Result<(), LayerFau
     check_rules(task, &mut new_values)
 }
 
-/// Checks the operators in order.
+/// Checks the operators in order. Where no variable is derived, there is nothing to check.
 fn check_operators<T: Grounded>(task: &T) -> Result<(), LayerFault>
     requires { WellRanged (T.says task.now) }
     ensures { result_err result
@@ -35,6 +36,9 @@ fn check_operators<T: Grounded>(task: &T) -> Result<(), LayerFault>
         (spec.numbered_checks (spec.operator_layer_checks (T.says task.now))
         (T.says task.now).operators) }
 {
+    if !has_derived(task) {
+        return Ok(());
+    }
     for operator in 0..task.operators() {
         check_operator(task, operator)?;
     }

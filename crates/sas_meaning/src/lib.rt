@@ -10,7 +10,7 @@ mod settle;
 mod state;
 mod steps;
 
-pub use derived::derived_spans;
+pub use derived::{derived_spans, has_derived};
 pub use laws::meaning_laws;
 pub use layered::{LayerFault, Layered};
 pub use preconditions::Preconditions;

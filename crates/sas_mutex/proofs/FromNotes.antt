@@ -262,7 +262,7 @@ known_one_is_all p kept o place e h in_family known_h among gone f in_group = el
 
 -- where the fact set apart excludes the facts of a group, none of them remains
 pub excluded_gone : (f : EffectPlace) (kept : List Bool) (recorded : Recorded) (excluding : Excluding) → IsNotedAt f kept recorded → Excludes f.task kept excluding
-    → recorded.known.apart ≡ Some excluding.fact → excluding.var ≡ (effect_of f).var → AreGoneAt f kept excluding.group
+    → recorded.known.apart ≡ Some excluding.fact → ((var : ℕ) → excluding.var ≡ Some var → var ≡ (effect_of f).var) → AreGoneAt f kept excluding.group
 excluded_gone f kept recorded excluding noted excludes apart on other among differ =
     let before = known_at f.task f.operator f.effect in
     let more = ap (λ (xs : List Fact). xs ++ other ∷ []) (sym (append-nil (preconditions (operator_of f) ++ (effect_of f).conditions))) in
@@ -271,5 +271,5 @@ excluded_gone f kept recorded excluding noted excludes apart on other among diff
       other,
       subst (λ (xs : List Fact). Contains xs excluding.fact) (sym more) (Contains-append_left before (other ∷ []) excluding.fact (noted.noted.are.noted.one_apart excluding.fact apart)),
       subst (λ (xs : List Fact). Contains xs other) (sym more) (Contains-push before other),
-      excludes other among (λ same. differ (sym (same ∙ on))),
+      excludes other among (λ same. differ (sym (on other.var same))),
     )

@@ -86,3 +86,10 @@ module _ {Such : Fact → Type 0} {group left : List Fact} (runs : List ℕ) (pl
     such = All-append Such so_far.before next so_far.such (subst (All Such) is here);
     fall = falls.2;
   }
+
+-- facts that are one run are on one variable
+pub one_run : (facts : List Fact) (runs : List ℕ) → AreRuns facts runs → length runs ≡ 1 → AreOnOne facts
+one_run facts [] fall one = absurd cc
+one_run facts (n ∷ []) (within, on, rest) one =
+    subst AreOnOne (sym (append-nil (take n facts)) ∙ ap (λ (xs : List Fact). take n facts ++ xs) (sym rest) ∙ take-append-drop n facts) on
+one_run facts (n ∷ m ∷ runs) fall one = absurd cc

@@ -1,6 +1,6 @@
 -- The basis: the groups that are assumed besides a group itself. What an effect keeps under
 -- this assumption it keeps whichever other groups are removed.
-use Rattle.std.specs.Prelude.{◌≡◌, ◌≢◌, ◌⊎◌, ℕ, ◌<◌, Bool, IsTrue, IsFalse, List, length, Contains, All}
+use Rattle.std.specs.Prelude.{◌≡◌, ◌≢◌, ◌⊎◌, ℕ, ◌<◌, Bool, Some, IsTrue, IsFalse, List, length, Contains, All}
 use Rattle.sas_core.specs.declared.parts.Parts.{Parts}
 use Rattle.sas_core.specs.declared.parts.Fact.{Fact}
 use Rattle.sas_core.specs.Grounded.{operator_at, effect_at, group_at}
@@ -16,10 +16,11 @@ abbrev pub SetsNone : Parts → List Bool → ℕ → ℕ → Type 0
 SetsNone p kept operator effect = (place : ℕ) → IsIn p (family_of kept) place
     → HasFactBeside p place (sets (effect_at (operator_at p operator) effect)) → ⊥
 
--- assuming the family, the fact contradicts each fact of the group on another variable than this one
+-- assuming the family, the fact contradicts each fact of the group, but perhaps those on the
+-- variable, if there is one
 abbrev pub Excludes : Parts → List Bool → Excluding → Type 0
 Excludes p kept excluding = (f : Fact) → Contains (group_at p excluding.group) f
-    → f.var ≢ excluding.var → Contradict (IsKept p kept) excluding.fact f
+    → excluding.var ≢ Some f.var → Contradict (IsKept p kept) excluding.fact f
 
 -- each one after was there before, or is this one
 abbrev pub AreNotedWith : Excluding → List Excluding → List Excluding → Type 0

@@ -1,7 +1,7 @@
 // Which groups an effect keeps.
 ghost use Rattle.std.specs.Prelude.{◌≡◌, ◌<◌, ◌↔◌, ℕ, Bool, List, length, IsTrue, IsFalse, IfSome, All, Contains};
 ghost use Rattle.std.specs.List.{Any};
-ghost use Rattle.sas_core.specs.Grounded.{operator_at, effect_at};
+ghost use Rattle.sas_core.specs.Grounded.{operator_at, effect_at, group_at};
 ghost use Rattle.sas_core.specs.Changes.{fact_of, plain_effects};
 ghost use Rattle.sas_core.specs.Variables.{FactExists};
 ghost use Rattle.sas_groups.specs.Clashes.{Contradict, Removes, sets};
@@ -50,7 +50,7 @@ pub struct FiringEffect<'a, 'b, T: Grounded> {
 impl<'a, 'b, T: Grounded> Model for FiringEffect<'a, 'b, T> {
     ghost use Rattle.std.specs.Prelude.{◌≡◌, ◌<◌, length};
     ghost use Rattle.sas_core.specs.Changes.{change_of};
-    ghost use Rattle.sas_core.specs.Grounded.{operator_at, effect_at};
+    ghost use Rattle.sas_core.specs.Grounded.{operator_at, effect_at, group_at};
     ghost use Rattle.sas_core.specs.WellRanged.{WellRanged};
     ghost use Rattle.sas_mutex.specs.Index.{IsIndexOf};
     ghost use Rattle.sas_mutex.specs.Effects.{EffectPlace};
@@ -223,17 +223,14 @@ impl<'a, 'b, T: Grounded> FiringEffect<'a, 'b, T> {
         ensures notes { IsNotedAt self.now kept.now recorded.new }
         ensures yes { IsTrue result → EffectKeepsGroup self.now kept.now group }
     {
-        if excluding.group != group
-            || excluding.var != self.change.var
-            || !recorded.known.is_apart(excluding.fact)
-        {
+        if !excluding.is_for(group, self.change.var) || !recorded.known.is_apart(excluding.fact) {
             return false;
         }
         self.is_single(kept, group, recorded)
     }
 
-    /// Returns the fact set apart if it excludes all facts of the group that aren't on the variable of the effect. The known facts must be
-    /// recorded and must not clash.
+    /// Returns the fact set apart if it excludes all facts of the group, but perhaps those on the variable of the effect. The known facts
+    /// must be recorded and must not clash.
     pub(crate) fn excluding(
         &self,
         kept: &[bool],
@@ -247,16 +244,16 @@ impl<'a, 'b, T: Grounded> FiringEffect<'a, 'b, T> {
         let Some(fact) = recorded.known.apart else {
             return None;
         };
+        let mut var = None;
         for other in self.index.facts_of(self.task, group) {
-            if other.var != self.change.var && !self.excludes(kept, fact, *other, recorded) {
-                return None;
+            if !self.excludes(kept, fact, *other, recorded) {
+                if other.var != self.change.var {
+                    return None;
+                }
+                var = Some(other.var);
             }
         }
-        Some(Excluding {
-            fact,
-            group,
-            var: self.change.var,
-        })
+        Some(Excluding { fact, group, var })
     }
 
     /// Returns true only if both facts contradict each other, assuming the family.
@@ -311,7 +308,8 @@ impl<'a, 'b, T: Grounded> FiringEffect<'a, 'b, T> {
     }
 
     /// Returns whether no effect that may fire together with this one sets another fact of the group on another variable. For a large
-    /// operator, only effects on variables of the group are looked at if the group has fewer facts than the operator has effects.
+    /// operator, no effect is looked at if the group has no other variable, and only effects on variables of the group are if the group has
+    /// fewer facts than the operator has effects.
     #[inline(always)]
     fn is_single(&self, kept: &[bool], group: u32, recorded: &mut Recorded) -> bool
         requires notes { IsNotedAt self.now kept.now recorded.old }
@@ -319,8 +317,13 @@ impl<'a, 'b, T: Grounded> FiringEffect<'a, 'b, T> {
         ensures notes { IsNotedAt self.now kept.now recorded.new }
         ensures is { IsTrue result ↔ HasNoPartnerAt self.now kept.now group }
     {
-        if self.has_more_effects(group) {
-            return self.is_single_by_facts(kept, group, recorded);
+        if self.is_large() {
+            if self.is_on_own_variable(group) {
+                return true;
+            }
+            if self.has_more_effects(group) {
+                return self.is_single_by_facts(kept, group, recorded);
+            }
         }
         match self.task.plain_changes(self.operator) {
             Some(changes) => self.is_single_of_changes(kept, group, changes, recorded),
@@ -352,17 +355,34 @@ impl<'a, 'b, T: Grounded> FiringEffect<'a, 'b, T> {
         true
     }
 
+    /// Returns whether the operator is large. The index only contains the effects of large operators.
+    #[inline(always)]
+    fn is_large(&self) -> bool {
+        self.effects_on(0).is_some()
+    }
+
+    /// Returns true only if all facts of the group are on the variable of the effect.
+    fn is_on_own_variable(&self, group: u32) -> bool
+        requires { group < length self.now.task.groups }
+        ensures { let f = self.now in IsTrue result → (fact : Fact)
+            → Contains (group_at f.task group) fact → fact.var ≡ (effect_of f).var }
+    {
+        match self.index.facts_of(self.task, group) {
+            [first, ..] => {
+                first.var == self.change.var
+                    && self.index.runs.as_slice()[group as usize].len() == 1
+            }
+            [] => false,
+        }
+    }
+
     /// Returns whether the operator is large and has more effects than the group has facts.
     #[inline(always)]
     pub fn has_more_effects(&self, group: u32) -> bool
         requires { group < length self.now.task.groups }
     {
-        // The index only contains the effects of large operators.
-        if self.effects_on(0).is_none() {
-            return false;
-        }
         let facts = self.index.facts_of(self.task, group);
-        facts.len() < self.task.effects(self.operator) as usize
+        self.is_large() && facts.len() < self.task.effects(self.operator) as usize
     }
 
     /// `is_single` by looking at all effects.

@@ -1,5 +1,5 @@
 // The family: the groups that may still be kept jointly.
-ghost use Rattle.std.specs.Prelude.{◌≡◌, ◌≤◌, ◌+◌, ◌++◌, [], ◌∷◌, false, ℕ, ◌<◌, length, IsTrue, IfOk, All, ◌↔◌, slice_set, vec_capacity};
+ghost use Rattle.std.specs.Prelude.{◌≡◌, Some, ◌≤◌, ◌+◌, ◌++◌, [], ◌∷◌, false, ℕ, ◌<◌, length, IsTrue, IfOk, All, ◌↔◌, slice_set, vec_capacity};
 ghost use Rattle.sas_groups.specs.declared.verdict.Verdict.TheVariants.{Exclusive};
 ghost use Rattle.sas_groups.specs.Verdicts.{verdict_at};
 ghost use Rattle.sas_mutex.specs.Kept.{family_of};
@@ -11,12 +11,27 @@ use sas_core::{Fact, Items};
 use sas_groups::Verdict;
 use std::alloc::{AllocError, Global};
 
-/// A fact that contradicts all facts of a group that are on other variables than `var`, assuming a family.
+/// A fact that contradicts all facts of a group, assuming a family. If `var` is a variable, it need not contradict those on it.
 #[derive(Clone, Copy)]
 pub struct Excluding {
     pub fact: Fact,
     pub group: u32,
-    pub var: u32,
+    pub var: Option<u32>,
+}
+
+impl Excluding {
+    /// Returns whether the fact contradicts all facts of this group that aren't on this variable.
+    #[inline(always)]
+    pub fn is_for(&self, group: u32, var: u32) -> bool
+        ensures group { IsTrue result → self.now.group ≡ group }
+        ensures var { IsTrue result → (v : ℕ) → self.now.var ≡ Some v → v ≡ var }
+    {
+        let is_left_out = match self.var {
+            Some(left_out) => left_out == var,
+            None => true,
+        };
+        self.group == group && is_left_out
+    }
 }
 
 /// At most so many of them are noted.

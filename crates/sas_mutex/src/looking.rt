@@ -220,8 +220,8 @@ impl Keeping {
         false
     }
 
-    /// Notes the fact set apart if it excludes all facts of the group that aren't on the variable of the effect. The known facts must be
-    /// recorded and must not clash.
+    /// Notes the fact set apart if it excludes all facts of the group, but perhaps those on the variable of the effect. The known facts must
+    /// be recorded and must not clash.
     #[inline(always)]
     fn note_excluding<T: Grounded>(&mut self, firing: &FiringEffect<'_, '_, T>, group: u32)
         requires group { group < length firing.now.task.groups }

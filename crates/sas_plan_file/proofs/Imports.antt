@@ -34,7 +34,7 @@ pub use Rattle.sas_reader.proofs.Live.{leads_line}
 pub use Rattle.sas_reader.proofs.Paths.{one_ended, after_ends, cut_at, ends_split}
 pub use Rattle.sas_reader.proofs.Plain.{plain, plain-decimal}
 pub use Rattle.sas_reader.proofs.Reading.{end_fault, reads_all, refuses_all, feeds}
-pub use Rattle.sas_reader.proofs.Refusals.{reported_by, explains, reads_explained, refuses_explained}
+pub use Rattle.sas_reader.proofs.Refusals.{explained_by, explains, reads_explained, refuses_explained}
 pub use Rattle.sas_reader.specs.About.{ConcernsText, EndsUnended, IsAbout, of_line, of_byte, of_end}
 pub use Rattle.sas_reader.specs.Ends.{StandsBefore}
 pub use Rattle.sas_reader.specs.Devices.{ReadsAll, ValueOf}

@@ -2,8 +2,8 @@
 ghost use Rattle.std.specs.Prelude.{◌≡◌, [], OnOk, IfErr};
 ghost use Rattle.std.specs.List.{AllByRecursion};
 
+use crate::name_list::NameList;
 use crate::plan_line::{PlanLine, plan_line, step_ahead};
-use crate::step_names::NameList;
 use sas_core::{CostKind, Items, Plan};
 use sas_flat::{FlatPlan, Lists};
 use sas_reader::{Front, Kind, LineEnd, Machine};

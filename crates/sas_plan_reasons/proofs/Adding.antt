@@ -1,9 +1,9 @@
 -- Reports with more lines.
 use Rattle.std.proofs.lemmas.Grind.{common_steps}
-use Rattle.sas_plan_reasons.proofs.Imports.{◌≡◌, ◌≢◌, ℕ, suc, ◌<◌, ◌⊎◌, true, false, not, List, [], ◌∷◌, ◌++◌, length, get_or, set, map, Option, None, Some, Vec, Global, refl, sym, ◌∙◌, ap, subst, inl, inr, arith, flat_map, find, ◌↔◌, IsTrue, AllByRecursion, AllPairs, Contains, option_map_or, cases_eq, cases_Bool, false≢true, get_or-set_same, get_or-set_other, length-set, flat_map-cons, Origins, Report, is_reported, AreOrigins, ReportsDerivation, lines_of_keepers, is_kept, ReportsGivers, IsReport, Contains-append_left, Contains-append_right, Contains-append_cases, Fact, Parts, rule_at, of_variable, places, can_give, contains_head, contains_tail, contains_cases, contains_none, places_ascend, Line, RuleDerives, RuleRequires, rule_numbers, is_rule_line, with_lines, StandsBefore, IsDerivation, fails, failing_lines}
+use Rattle.sas_plan_reasons.proofs.Imports.{◌≡◌, ◌≢◌, ℕ, suc, ◌<◌, ◌⊎◌, true, false, not, List, [], ◌∷◌, ◌++◌, length, get_or, set, map, Option, None, Some, Vec, Global, refl, sym, ◌∙◌, ap, subst, inl, inr, arith, flat_map, find, ◌↔◌, IsTrue, AllByRecursion, AllPairs, Contains, option_map_or, cases_eq, cases_Bool, false≢true, get_or-set_same, get_or-set_other, length-set, flat_map-cons, Origins, Explanation, is_explained, AreOrigins, ExplainsDerivation, lines_of_keepers, is_kept, ExplainsGivers, IsExplanation, Contains-append_left, Contains-append_right, Contains-append_cases, Fact, Parts, rule_at, of_variable, places, can_give, contains_head, contains_tail, contains_cases, contains_none, places_ascend, Line, RuleDerives, RuleRequires, rule_numbers, is_rule_line, with_lines, StandsBefore, IsDerivation, fails, failing_lines}
 use Rattle.sas_plan_reasons.proofs.Derivation.{no_circle}
 use Rattle.sas_plan_reasons.proofs.Once.{IsPlain, Apart, rule_of, other_line, contains_map, map_contains, derived_lines, none_new, all_new}
-use Rattle.sas_plan_reasons.proofs.ReportedRules.{in_filter, of_filter}
+use Rattle.sas_plan_reasons.proofs.ExplainedRules.{in_filter, of_filter}
 
 -- a plain line isn't one of a rule
 no_rule_line : (more : List Line) (z : Line) → AllByRecursion IsPlain more → is_rule_line z ≡ true → Contains more z → ⊥
@@ -19,17 +19,17 @@ derives_requires_none rule other c e = absurd (let k : 1 ≡ 3 = ap (λ (l : Lin
 
 module _ (p : Parts) (s : List ℕ) where
   -- what has to be known of more lines
-  record Grows (old new : Report) (more : List Line) : Type 0 where
+  record Grows (old new : Explanation) (more : List Line) : Type 0 where
     lines : new.lines ≡ old.lines ++ more
     origins : AreOrigins p s new.origins
-    derived : (rule : ℕ) → IsTrue (is_reported new.origins rule) ↔ (IsTrue (is_reported old.origins rule) ⊎ Contains more (RuleDerives rule))
+    derived : (rule : ℕ) → IsTrue (is_explained new.origins rule) ↔ (IsTrue (is_explained old.origins rule) ⊎ Contains more (RuleDerives rule))
     rules : new.rules ≡ old.rules
     one_each : length new.kept ≡ length old.kept
     kept : (var : ℕ) → is_kept new var ≡ true → (is_kept old var ≡ true) ⊎ ((z : Line) → Contains (lines_of_keepers p s var) z → Contains more z)
     not_kept : (rule : ℕ) (c : Fact) → is_kept new (rule_at p rule).var ≡ false
         → (is_kept old (rule_at p rule).var ≡ false) × (Contains more (RuleRequires rule c) → ⊥)
 
-  grown : (old new : Report) (more : List Line) → Grows old new more → IsReport p s old → IsReport p s new
+  grown : (old new : Explanation) (more : List Line) → Grows old new more → IsExplanation p s old → IsExplanation p s new
   grown old new more g is = record {
     origins = g.origins;
     derived = λ rule. (
@@ -64,9 +64,9 @@ module _ (p : Parts) (s : List ℕ) where
       either z h = Contains-append_cases old.lines more z (subst (λ (l : List Line). Contains l z) g.lines h)
 
   -- lines of no rule
-  pub plain_added : (report : Report) (new more : List Line) → AllByRecursion IsPlain more → new ≡ report.lines ++ more
-      → IsReport p s report → IsReport p s (record report { lines = new })
-  plain_added report new more plain add is = grown report (record report { lines = new }) more (record {
+  pub plain_added : (explanation : Explanation) (new more : List Line) → AllByRecursion IsPlain more → new ≡ explanation.lines ++ more
+      → IsExplanation p s explanation → IsExplanation p s (record explanation { lines = new })
+  plain_added explanation new more plain add is = grown explanation (record explanation { lines = new }) more (record {
     lines = add;
     origins = is.origins;
     derived = grind (arith, common_steps, no_rule_line);
@@ -84,31 +84,31 @@ module _ (p : Parts) (s : List ℕ) where
       let itself = subst (StandsBefore d.order a) (sym same) (d.ordered i j e lt within) in
       no_circle p s d.order d.is a a itself itself
 
-  module _ (report : Report) (new : List Line) (origins : Origins) (next : Vec ℕ Global) (var : ℕ) (t : ReportsDerivation p s var report.origins origins next.items)
-      (add : new ≡ report.lines ++ map RuleDerives next.items) (is : IsReport p s report) where
-    derivation_once : new ≡ with_lines report.lines (map RuleDerives t.derivation)
+  module _ (explanation : Explanation) (new : List Line) (origins : Origins) (next : Vec ℕ Global) (var : ℕ) (t : ExplainsDerivation p s var explanation.origins origins next.items)
+      (add : new ≡ explanation.lines ++ map RuleDerives next.items) (is : IsExplanation p s explanation) where
+    derivation_once : new ≡ with_lines explanation.lines (map RuleDerives t.derivation)
     derivation_once = add
-        ∙ (ap (λ (l : List ℕ). report.lines ++ map RuleDerives l) t.reported
-        ∙ sym (derived_lines report.lines (is_reported report.origins) is.derived t.derivation (rules_differ var t.derivation t.is)))
+        ∙ (ap (λ (l : List ℕ). explanation.lines ++ map RuleDerives l) t.explained
+        ∙ sym (derived_lines explanation.lines (is_explained explanation.origins) is.derived t.derivation (rules_differ var t.derivation t.is)))
 
-    derivation_added : IsReport p s (record report { lines = new; origins = origins; next = next })
-    derivation_added = grown report (record report { lines = new; origins = origins; next = next }) (map RuleDerives next.items) (record {
+    derivation_added : IsExplanation p s (record explanation { lines = new; origins = origins; next = next })
+    derivation_added = grown explanation (record explanation { lines = new; origins = origins; next = next }) (map RuleDerives next.items) (record {
       lines = add;
       origins = t.origins;
       derived = λ rule. (
         (λ so. elim ((t.noted rule).0 so) [
           | inl before ↦ inl before
-          | inr now ↦ elim (cases_Bool (is_reported report.origins rule)) [
+          | inr now ↦ elim (cases_Bool (is_explained explanation.origins rule)) [
             | inl before ↦ inl before
             | inr new ↦ inr (contains_map RuleDerives next.items rule
-                (subst (λ (l : List ℕ). Contains l rule) (sym t.reported) (in_filter (λ r. not (is_reported report.origins r)) t.derivation rule now (ap not new))))
+                (subst (λ (l : List ℕ). Contains l rule) (sym t.explained) (in_filter (λ r. not (is_explained explanation.origins r)) t.derivation rule now (ap not new))))
           ]
         ]),
         (λ either. elim either [
           | inl before ↦ (t.noted rule).1 (inl before)
           | inr h ↦ (let w = map_contains RuleDerives next.items (RuleDerives rule) h in
               let same : w.0 ≡ rule = ap rule_of w.2 in
-              let among = of_filter (λ r. not (is_reported report.origins r)) t.derivation w.0 (subst (λ (l : List ℕ). Contains l w.0) t.reported w.1) in
+              let among = of_filter (λ r. not (is_explained explanation.origins r)) t.derivation w.0 (subst (λ (l : List ℕ). Contains l w.0) t.explained w.1) in
               (t.noted rule).1 (inr (subst (Contains t.derivation) same among.0)))
         ]),
       );
@@ -118,8 +118,8 @@ module _ (p : Parts) (s : List ℕ) where
       not_kept = λ rule c not_so. (not_so, λ h. let w = map_contains RuleDerives next.items (RuleRequires rule c) h in derives_requires_none w.0 rule c w.2);
     }) is
 
-    pub givers_reported : ReportsGivers p s var report (record report { lines = new; origins = origins; next = next })
-    givers_reported = record { rules = t.derivation; are = t.is; added = derivation_once; report = derivation_added }
+    pub givers_explained : ExplainsGivers p s var explanation (record explanation { lines = new; origins = origins; next = next })
+    givers_explained = record { rules = t.derivation; are = t.is; added = derivation_once; explanation = derivation_added }
 
   -- ---- what the rules require that don't fire
 
@@ -149,26 +149,26 @@ module _ (p : Parts) (s : List ℕ) where
       let below : rule < get_or rules w.2.0 w.0 = pairs 0 (suc w.2.0) w.0 (omega arith) (let lt = w.2.1 in omega arith) in
       absurd (omega (arith, w.2.2))))
 
-  module _ (report : Report) (var : ℕ) (is : IsReport p s report) where
+  module _ (explanation : Explanation) (var : ℕ) (is : IsExplanation p s explanation) where
     abbrev keepers : List Line
     keepers = lines_of_keepers p s var
 
-    pub keepers_again : is_kept report var ≡ true → report.lines ≡ with_lines report.lines keepers
-    keepers_again so = sym (none_new report.lines keepers (λ z h. (rule_line z h, is.kept var so z h)))
+    pub keepers_again : is_kept explanation var ≡ true → explanation.lines ≡ with_lines explanation.lines keepers
+    keepers_again so = sym (none_new explanation.lines keepers (λ z h. (rule_line z h, is.kept var so z h)))
       where
         rule_line : (z : Line) → Contains keepers z → is_rule_line z ≡ true
         rule_line z h = let w = keeper (places (can_give p var) p.rules) z h in ap is_rule_line w.3
 
-    module _ (new : List Line) (within : var < length p.variables) (not_so : is_kept report var ≡ false) (add : new ≡ report.lines ++ keepers) where
-      pub keepers_once : new ≡ with_lines report.lines keepers
-      keepers_once = add ∙ sym (all_new report.lines keepers (keepers_apart (places (can_give p var) p.rules) (places_ascend (can_give p var) 0 p.rules))
+    module _ (new : List Line) (within : var < length p.variables) (not_so : is_kept explanation var ≡ false) (add : new ≡ explanation.lines ++ keepers) where
+      pub keepers_once : new ≡ with_lines explanation.lines keepers
+      keepers_once = add ∙ sym (all_new explanation.lines keepers (keepers_apart (places (can_give p var) p.rules) (places_ascend (can_give p var) 0 p.rules))
           (λ z h before.
           let w = keeper (places (can_give p var) p.rules) z h in
           let of = of_variable p var w.0 w.2 in
-          is.not_kept w.0 w.1 (ap (λ v. is_kept report v) of.1 ∙ not_so) (subst (Contains report.lines) w.3 before)))
+          is.not_kept w.0 w.1 (ap (λ v. is_kept explanation v) of.1 ∙ not_so) (subst (Contains explanation.lines) w.3 before)))
 
-      pub keepers_added : IsReport p s (record report { lines = new; kept = set report.kept var true })
-      keepers_added = grown report (record report { lines = new; kept = set report.kept var true }) keepers (record {
+      pub keepers_added : IsExplanation p s (record explanation { lines = new; kept = set explanation.kept var true })
+      keepers_added = grown explanation (record explanation { lines = new; kept = set explanation.kept var true }) keepers (record {
         lines = add;
         origins = is.origins;
         derived = λ rule. (
@@ -179,10 +179,10 @@ module _ (p : Parts) (s : List ℕ) where
           ]),
         );
         rules = refl;
-        one_each = length-set report.kept var true;
+        one_each = length-set explanation.kept var true;
         kept = grind (arith, common_steps, cases_eq, elsewhere);
         not_kept = λ rule c not_yet. elim (cases_eq (rule_at p rule).var var) [
-          | inl e ↦ absurd (false≢true (sym not_yet ∙ (ap (λ u. get_or (set report.kept var true) u false) e ∙ here)))
+          | inl e ↦ absurd (false≢true (sym not_yet ∙ (ap (λ u. get_or (set explanation.kept var true) u false) e ∙ here)))
           | inr ne ↦ (
             sym (elsewhere (rule_at p rule).var ne) ∙ not_yet,
             λ h. let w = keeper (places (can_give p var) p.rules) (RuleRequires rule c) h in
@@ -192,8 +192,8 @@ module _ (p : Parts) (s : List ℕ) where
         ];
       }) is
         where
-          here : get_or (set report.kept var true) var false ≡ true
-          here = get_or-set_same report.kept var true false (omega (arith, is.one_each, within))
+          here : get_or (set explanation.kept var true) var false ≡ true
+          here = get_or-set_same explanation.kept var true false (omega (arith, is.one_each, within))
 
-          elsewhere : (v : ℕ) → v ≢ var → get_or (set report.kept var true) v false ≡ get_or report.kept v false
-          elsewhere v ne = get_or-set_other report.kept var v true false ne
+          elsewhere : (v : ℕ) → v ≢ var → get_or (set explanation.kept var true) v false ≡ get_or explanation.kept v false
+          elsewhere v ne = get_or-set_other explanation.kept var v true false ne

@@ -1,7 +1,5 @@
 -- The answer about a plan with its trace: there is one, it ends with the answer about the plan, and the costs add up.
-use Rattle.std.proofs.lemmas.Grind.{common_steps}
-use Rattle.std.proofs.Common.{arith}
-use Rattle.sas_plan_reasons.proofs.Imports.{WellRanged, cost_of, sum_by, ◌≡◌, ℕ, Bool, true, false, List, ◌++◌, Option, Some, None, refl, sym, ◌∙◌, ap, subst, inl, inr, same_Some, Parts, PlanParts, text, IsLayered, PlanFault, Memory, NoOperator, NotApplicable, Conflict, GoalMissed, CostDiffers, IsValid, IsFaultOf, some_verdict, valid_has_no_fault, fault_is_one, Status, Yes, No, Output, valid_answer, invalid_answer, fault_words, invalid_line, Line, reasons_text, Explains, WhyVerdict, VerdictWith, run_lines, FaultAnswer, EndsWith, TraceVerdict, Run, RunEndsWith, StepsSucceed, steps_before, worded, some_run, one_run, to_fault}
+use Rattle.sas_plan_reasons.proofs.Imports.{WellRanged, cost_of, sum_by, ◌≡◌, ℕ, Bool, true, false, List, ◌++◌, Option, Some, None, refl, sym, ◌∙◌, ap, subst, inl, inr, same_Some, Parts, PlanParts, text, IsLayered, PlanFault, Memory, IsValid, IsFaultOf, some_verdict, valid_has_no_fault, fault_is_one, Status, Yes, No, Output, valid_answer, invalid_answer, fault_words, invalid_line, Line, reasons_text, Explains, WhyVerdict, VerdictWith, run_lines, FaultAnswer, EndsWith, TraceVerdict, Run, RunEndsWith, StepsSucceed, steps_before, worded, some_run, one_run, to_fault}
 use Rattle.sas_plan_reasons.proofs.WhyPlan.{one_why, some_why}
 
 abbrev made : List ℕ → Status → Output
@@ -21,11 +19,11 @@ pub some_reported : (p : Parts) (plan : PlanParts) (fault : PlanFault) → IsFau
 some_reported p plan Memory f = absurd f
 some_reported p plan _ f = (_, refl)
 
-pub some_fault_answer : (reasons : Bool) (p : Parts) (plan : PlanParts) (fault : PlanFault) → IsLayered p → IsFaultOf p plan fault → (o : Output) × FaultAnswer reasons p plan fault o
-some_fault_answer false p plan fault layered is = some_reported p plan fault is
-some_fault_answer true p plan fault layered is =
+pub some_fault_answer : (reasons : Bool) (p : Parts) (plan : PlanParts) (fault : PlanFault) → WellRanged p → IsLayered p → IsFaultOf p plan fault → (o : Output) × FaultAnswer reasons p plan fault o
+some_fault_answer false p plan fault ranged layered is = some_reported p plan fault is
+some_fault_answer true p plan fault ranged layered is =
     let reported = some_reported p plan fault is in
-    let why = some_why p plan fault layered is in (
+    let why = some_why p plan fault ranged layered is in (
       record { text = reported.0.text ++ reasons_text p plan.steps why.0; status = No },
       (record { verdict = reported.0; reported = reported.1; reasons = why.0; why = why.1; whole = refl }, refl),
     )
@@ -87,7 +85,7 @@ some_trace reasons p plan ranged layered = elim (some_verdict p plan ranged laye
       traced reasons p plan w.0 (valid_answer plan) w.1 (inl ((subst (λ os. IsValid p plan os) (sym w.3) valid, w.2), refl))
   | inr v ↦
       let w = to_fault p plan v.0 v.1 in
-      let a = some_fault_answer reasons p plan v.0 layered v.1 in
+      let a = some_fault_answer reasons p plan v.0 ranged layered v.1 in
       traced reasons p plan w.0 a.0 w.1 (inr (v.0, (v.1, w.2), a.1))
 ]
 

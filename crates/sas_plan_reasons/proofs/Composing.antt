@@ -1,7 +1,7 @@
 -- What functions report, one behind the other.
 use Rattle.std.proofs.Common.{arith}
 use Rattle.std.proofs.lemmas.Grind.{common_steps}
-use Rattle.sas_plan_reasons.proofs.Imports.{◌≡◌, ℕ, zero, suc, ◌+◌, ◌<◌, true, false, List, [], ◌∷◌, ◌++◌, length, get_or, set, map, take, refl, sym, ◌∙◌, ap, subst, append_assoc, if◌then◌else◌, flat_map, slice_index, AllByRecursion, append-nil, map-append, take_more, flat_map-cons, flat_map-append, Fact, Parts, needs_rules, Line, with_lines, LineThen, PlanHistory, Report, IsReport, ReportsGivers, IsBehind, lines_of_keepers, is_kept, IsReportOf, AddsLines, LinesOfEach, Run, last_state, IsDerivation, since_line, AreDerivationLines, can_be_given, keeping_lines, missing_lines, IsCause}
+use Rattle.sas_plan_reasons.proofs.Imports.{◌≡◌, ℕ, zero, suc, ◌+◌, ◌<◌, true, false, List, [], ◌∷◌, ◌++◌, length, get_or, set, map, take, refl, sym, ◌∙◌, ap, subst, append_assoc, if◌then◌else◌, flat_map, slice_index, AllByRecursion, append-nil, map-append, take_more, flat_map-cons, flat_map-append, Fact, Parts, needs_rules, Line, with_lines, LineThen, PlanHistory, Explanation, IsExplanation, ExplainsGivers, IsBehind, lines_of_keepers, is_kept, IsExplanationOf, AddsLines, LinesOfEach, Run, last_state, IsDerivation, since_line, AreDerivationLines, can_be_given, keeping_lines, missing_lines, IsCause}
 use Rattle.sas_answers.specs.declared.line.Line.TheVariants as line
 use Rattle.sas_plan_reasons.proofs.Once.{IsPlain, lines_append, plain_lines}
 use Rattle.sas_plan_reasons.proofs.Adding.{plain_added, keepers_again, keepers_once, keepers_added}
@@ -13,22 +13,22 @@ actual_fact s var = record { var = var; value = slice_index s var }
 module _ (p : Parts) (history : PlanHistory) where
   -- ---- lines of no rule
 
-  plain_then : (report : Report) (new more rest : List Line) → AllByRecursion IsPlain more → new ≡ report.lines ++ more
-      → with_lines new rest ≡ with_lines report.lines (more ++ rest)
-  plain_then report new more rest plain add = grind (arith, with_lines, plain_lines, lines_append)
+  plain_then : (explanation : Explanation) (new more rest : List Line) → AllByRecursion IsPlain more → new ≡ explanation.lines ++ more
+      → with_lines new rest ≡ with_lines explanation.lines (more ++ rest)
+  plain_then explanation new more rest plain add = grind (arith, with_lines, plain_lines, lines_append)
 
-  pub plain_is_report : (report : Report) (new more : List Line) → AllByRecursion IsPlain more → new ≡ report.lines ++ more
-      → IsReportOf p history report → IsReportOf p history (record report { lines = new })
-  plain_is_report report new more plain add can = (can.0, can.1, plain_added p history.last report new more plain add can.2)
+  pub plain_is_explanation : (explanation : Explanation) (new more : List Line) → AllByRecursion IsPlain more → new ≡ explanation.lines ++ more
+      → IsExplanationOf p history explanation → IsExplanationOf p history (record explanation { lines = new })
+  plain_is_explanation explanation new more plain add can = (can.0, can.1, plain_added p history.last explanation new more plain add can.2)
 
-  pub more_is_report : (Are : Run → List Line → Type 0) (old new : Report) → AddsLines p history old new Are → IsReportOf p history old → IsReportOf p history new
-  more_is_report Are old new adds can = let w = adds can.0 can.1 can.2 in (can.0, can.1, w.3)
+  pub more_is_explanation : (Are : Run → List Line → Type 0) (old new : Explanation) → AddsLines p history old new Are → IsExplanationOf p history old → IsExplanationOf p history new
+  more_is_explanation Are old new adds can = let w = adds can.0 can.1 can.2 in (can.0, can.1, w.3)
 
-  pub line_and_more : (report after : Report) (new : List Line) (l : Line) (Are : Run → List Line → Type 0) → IsPlain l → new ≡ report.lines ++ l ∷ []
-      → AddsLines p history (record report { lines = new }) after Are → AddsLines p history report after (λ run. LineThen l (Are run))
-  line_and_more report after new l Are plain add adds run behind is =
-      let w = adds run behind (plain_added p history.last report new (l ∷ []) (plain, tt) add is) in
-      (l ∷ w.0, (w.0, w.1, refl), w.2 ∙ plain_then report new (l ∷ []) w.0 (plain, tt) add, w.3)
+  pub line_and_more : (explanation after : Explanation) (new : List Line) (l : Line) (Are : Run → List Line → Type 0) → IsPlain l → new ≡ explanation.lines ++ l ∷ []
+      → AddsLines p history (record explanation { lines = new }) after Are → AddsLines p history explanation after (λ run. LineThen l (Are run))
+  line_and_more explanation after new l Are plain add adds run behind is =
+      let w = adds run behind (plain_added p history.last explanation new (l ∷ []) (plain, tt) add is) in
+      (l ∷ w.0, (w.0, w.1, refl), w.2 ∙ plain_then explanation new (l ∷ []) w.0 (plain, tt) add, w.3)
 
   -- ---- causes
 
@@ -43,14 +43,14 @@ module _ (p : Parts) (history : PlanHistory) where
   pub first_plain : (fact : Fact) → AllByRecursion IsPlain (first_lines fact)
   first_plain fact = (refl, (refl, (since_plain (slice_index history.since.items fact.var), tt)))
 
-  pub cause_added : (report : Report) (new : List Line) (between after : Report) (fact : Fact) → fact.var < length p.variables
-      → new ≡ report.lines ++ first_lines fact
-      → AddsLines p history (record report { lines = new }) between (λ run. AreDerivationLines p (last_state run) fact.var)
+  pub cause_added : (explanation : Explanation) (new : List Line) (between after : Explanation) (fact : Fact) → fact.var < length p.variables
+      → new ≡ explanation.lines ++ first_lines fact
+      → AddsLines p history (record explanation { lines = new }) between (λ run. AreDerivationLines p (last_state run) fact.var)
       → AddsLines p history between after (λ run lines. lines ≡ missing_lines p (last_state run) fact)
-      → AddsLines p history report after (λ run. IsCause p run fact)
-  cause_added report new between after fact lt add givers missing run behind is =
+      → AddsLines p history explanation after (λ run. IsCause p run fact)
+  cause_added explanation new between after fact lt add givers missing run behind is =
       let since = slice_index history.since.items fact.var in
-      let g = givers run behind (plain_added p history.last report new (first_lines fact) (first_plain fact) add is) in
+      let g = givers run behind (plain_added p history.last explanation new (first_lines fact) (first_plain fact) add is) in
       let m = missing run behind g.3 in (
         first_lines fact ++ (g.0 ++ m.0),
         record {
@@ -63,17 +63,17 @@ module _ (p : Parts) (history : PlanHistory) where
         },
         m.2 ∙ (ap (λ (l : List Line). with_lines l m.0) g.2
             ∙ (sym (lines_append new g.0 m.0)
-            ∙ plain_then report new (first_lines fact) (g.0 ++ m.0) (first_plain fact) add)),
+            ∙ plain_then explanation new (first_lines fact) (g.0 ++ m.0) (first_plain fact) add)),
         m.3,
       )
 
   -- ---- rules that derive values
 
-  pub givers_behind : (old new : Report) (var : ℕ) → ((s : List ℕ) → IsReport p s old → ReportsGivers p s var old new)
+  pub givers_behind : (old new : Explanation) (var : ℕ) → ((s : List ℕ) → IsExplanation p s old → ExplainsGivers p s var old new)
       → AddsLines p history old new (λ run. AreDerivationLines p (last_state run) var)
   givers_behind old new var reports run behind is =
       let t = reports history.last is in
-      (map line.RuleDerives t.rules, (t.rules, subst (λ s. IsDerivation p s var t.rules) behind.last t.are, refl), t.added, t.report)
+      (map line.RuleDerives t.rules, (t.rules, subst (λ s. IsDerivation p s var t.rules) behind.last t.are, refl), t.added, t.explanation)
 
   -- ---- rules that don't fire
 
@@ -81,35 +81,35 @@ module _ (p : Parts) (history : PlanHistory) where
       → lines_of_keepers p history.last fact.var ≡ keeping_lines p (last_state run) fact
   keepers_of_last run behind fact so = grind (arith, lines_of_keepers, last_state)
 
-  pub no_rule : (report : Report) (new : List Line) (fact : Fact) → can_be_given p fact ≡ false → new ≡ report.lines ++ line.NoRuleDerives ∷ []
-      → AddsLines p history report (record report { lines = new }) (λ run lines. lines ≡ keeping_lines p (last_state run) fact)
-  no_rule report new fact not_so add run behind is = (
+  pub no_rule : (explanation : Explanation) (new : List Line) (fact : Fact) → can_be_given p fact ≡ false → new ≡ explanation.lines ++ line.NoRuleDerives ∷ []
+      → AddsLines p history explanation (record explanation { lines = new }) (λ run lines. lines ≡ keeping_lines p (last_state run) fact)
+  no_rule explanation new fact not_so add run behind is = (
     line.NoRuleDerives ∷ [],
     sym (ap (λ b. if b then lines_of_keepers p (last_state run) fact.var else line.NoRuleDerives ∷ []) not_so),
-    add ∙ sym (plain_lines report.lines (line.NoRuleDerives ∷ []) (refl, tt)),
-    plain_added p history.last report new (line.NoRuleDerives ∷ []) (refl, tt) add is,
+    add ∙ sym (plain_lines explanation.lines (line.NoRuleDerives ∷ []) (refl, tt)),
+    plain_added p history.last explanation new (line.NoRuleDerives ∷ []) (refl, tt) add is,
   )
 
-  pub reported_before : (report : Report) (fact : Fact) → can_be_given p fact ≡ true → is_kept report fact.var ≡ true
-      → AddsLines p history report report (λ run lines. lines ≡ keeping_lines p (last_state run) fact)
-  reported_before report fact so kept run behind is = grind (arith, lines_of_keepers, keepers_of_last, keepers_again)
+  pub reported_before : (explanation : Explanation) (fact : Fact) → can_be_given p fact ≡ true → is_kept explanation fact.var ≡ true
+      → AddsLines p history explanation explanation (λ run lines. lines ≡ keeping_lines p (last_state run) fact)
+  reported_before explanation fact so kept run behind is = grind (arith, lines_of_keepers, keepers_of_last, keepers_again)
 
-  pub reported_now : (report : Report) (new : List Line) (fact : Fact) → fact.var < length p.variables → can_be_given p fact ≡ true
-      → is_kept report fact.var ≡ false → new ≡ report.lines ++ lines_of_keepers p history.last fact.var
-      → AddsLines p history report (record report { lines = new; kept = set report.kept fact.var true }) (λ run lines. lines ≡ keeping_lines p (last_state run) fact)
-  reported_now report new fact lt so not_kept add run behind is = (
+  pub reported_now : (explanation : Explanation) (new : List Line) (fact : Fact) → fact.var < length p.variables → can_be_given p fact ≡ true
+      → is_kept explanation fact.var ≡ false → new ≡ explanation.lines ++ lines_of_keepers p history.last fact.var
+      → AddsLines p history explanation (record explanation { lines = new; kept = set explanation.kept fact.var true }) (λ run lines. lines ≡ keeping_lines p (last_state run) fact)
+  reported_now explanation new fact lt so not_kept add run behind is = (
     lines_of_keepers p history.last fact.var,
     keepers_of_last run behind fact so,
-    keepers_once p history.last report fact.var is new lt not_kept add,
-    keepers_added p history.last report fact.var is new lt not_kept add,
+    keepers_once p history.last explanation fact.var is new lt not_kept add,
+    keepers_added p history.last explanation fact.var is new lt not_kept add,
   )
 
-  pub nothing_missing : (report : Report) (fact : Fact) → needs_rules p fact ≡ false → AddsLines p history report report (λ run lines. lines ≡ missing_lines p (last_state run) fact)
-  nothing_missing report fact not_so run behind is = ([], sym (ap (λ b. if b then keeping_lines p (last_state run) fact else []) not_so), refl, is)
+  pub nothing_missing : (explanation : Explanation) (fact : Fact) → needs_rules p fact ≡ false → AddsLines p history explanation explanation (λ run lines. lines ≡ missing_lines p (last_state run) fact)
+  nothing_missing explanation fact not_so run behind is = ([], sym (ap (λ b. if b then keeping_lines p (last_state run) fact else []) not_so), refl, is)
 
-  pub missing_reported : (report after : Report) (fact : Fact) → needs_rules p fact ≡ true → AddsLines p history report after (λ run lines. lines ≡ keeping_lines p (last_state run) fact)
-      → AddsLines p history report after (λ run lines. lines ≡ missing_lines p (last_state run) fact)
-  missing_reported report after fact so adds run behind is = grind (arith, common_steps)
+  pub missing_reported : (explanation after : Explanation) (fact : Fact) → needs_rules p fact ≡ true → AddsLines p history explanation after (λ run lines. lines ≡ keeping_lines p (last_state run) fact)
+      → AddsLines p history explanation after (λ run lines. lines ≡ missing_lines p (last_state run) fact)
+  missing_reported explanation after fact so adds run behind is = grind (arith, common_steps)
 
 -- ---- each of some items
 
@@ -119,10 +119,10 @@ each_more Are [] item lines its none decides = (its, [], decides, refl, ap (λ (
 each_more Are (first ∷ items) item lines its each decides = grind (arith, common_steps, each_more Are items item each.1 its each.3 decides, append_assoc)
 
 module _ (p : Parts) (history : PlanHistory) {A : Type 0} (Are : Run → A → List Line → Type 0) where
-  pub none_yet : (report : Report) → AddsLines p history report report (λ run. LinesOfEach (Are run) [])
-  none_yet report run behind is = ([], refl, refl, is)
+  pub none_yet : (explanation : Explanation) → AddsLines p history explanation explanation (λ run. LinesOfEach (Are run) [])
+  none_yet explanation run behind is = ([], refl, refl, is)
 
-  pub one_more : (first old new : Report) (items : List A) (item : A) → AddsLines p history first old (λ run. LinesOfEach (Are run) items)
+  pub one_more : (first old new : Explanation) (items : List A) (item : A) → AddsLines p history first old (λ run. LinesOfEach (Are run) items)
       → AddsLines p history old new (λ run. Are run item) → AddsLines p history first new (λ run. LinesOfEach (Are run) (items ++ item ∷ []))
   one_more first old new items item before adds run behind is =
       let b = before run behind is in

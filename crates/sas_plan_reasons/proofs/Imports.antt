@@ -38,7 +38,7 @@ pub use Rattle.sas_answers.proofs.Sent.{writes_as, writes_by, writes_counting, e
 pub use Rattle.sas_answers.proofs.Texts.{text_of_each}
 pub use Rattle.sas_answers.proofs.WordedLines.{worded}
 pub use Rattle.sas_answers.specs.Answers.{VerdictAnswer, valid_by, valid_answer, invalid_answer}
-pub use Rattle.sas_answers.specs.NumberedPlans.{NumbersAnswer, invalid_by_numbers}
+pub use Rattle.sas_answers.specs.NumberedPlans.{AnswerFrom, RunAnswer, invalid_by_numbers}
 pub use Rattle.sas_answers.specs.Ending.{output_of, Output, EndsCounting}
 pub use Rattle.sas_answers.specs.Facts.{initial_lines, fact_line}
 pub use Rattle.sas_answers.specs.Line.{is_rule_line, is_same_rule_line, rule_numbers, reasons_text}
@@ -51,7 +51,7 @@ pub use Rattle.sas_answers.specs.declared.ending.ToolFault.{ToolFault}
 pub use Rattle.sas_answers.specs.declared.sink.Sink.{Sink}
 pub use Rattle.sas_answers.specs.declared.ending.Status.TheVariants.{Yes, No}
 pub use Rattle.sas_answers.specs.declared.line.Line.{Line}
-pub use Rattle.sas_answers.specs.declared.line.Line.TheVariants.{RuleDerives, RuleRequires, Requires, Actual, SinceStep, Step, ConflictingEffect, CouldBe, GoalFact, FailingGoalFacts}
+pub use Rattle.sas_answers.specs.declared.line.Line.TheVariants.{RuleDerives, RuleRequires, Requires, Actual, SinceStep, Step, ConflictingEffect, CouldBe, GoalFact, FailingGoalFacts, LaterFailures, LaterFailure, FailingGoalLater}
 pub use Rattle.sas_axioms.proofs.RuleChanges.{same_option, change_within, conditions_within}
 pub use Rattle.sas_axioms.proofs.RulesOf.{of_variable, can_of}
 pub use Rattle.sas_axioms.specs.Conditions.{IsFullIndex, IsOfRule, waiting_at, asking, occurrences, released}
@@ -83,27 +83,32 @@ pub use Rattle.sas_meaning.specs.Layers.{IsOnLayer, default_of, CanFire, can_fir
 pub use Rattle.sas_meaning.specs.Places.{can_give, places_from, places}
 pub use Rattle.sas_meaning.specs.Settled.{new_value_of, differs, IsSettled, value_with, is_on_layer, IsClosed, IsSettledAt}
 pub use Rattle.sas_meaning.specs.States.{Holds, AllHold}
-pub use Rattle.sas_meaning.specs.InitialStates.{IsInitial}
+pub use Rattle.sas_meaning.specs.Settled.{Settles}
 pub use Rattle.sas_meaning.specs.Steps.{Fires, Agree, preconditions}
 pub use Rattle.sas_run.proofs.Choosing.{named_or_not, applicable_or_not}
 pub use Rattle.sas_run.proofs.Determined.{leads_one_way}
+pub use Rattle.sas_run.proofs.FollowingAnyway.{follows_one, follows_some, names_decide}
 pub use Rattle.sas_run.proofs.Going.{MakesStep}
 pub use Rattle.sas_run.proofs.GoingByNumbers.{goes_one_way, goes_one_more, goes_on, goes_none, leads_on_numbers}
-pub use Rattle.sas_run.proofs.MadeSteps.{by_number, named_ending, named_valid, named_faulty, numbered_valid, numbered_faulty}
+pub use Rattle.sas_run.proofs.MadeSteps.{by_number, front, whole, stuck_at, named_ending, named_valid, named_faulty, numbered_valid, numbered_faulty}
 pub use Rattle.sas_run.proofs.Giving.{not_both}
 pub use Rattle.sas_run.proofs.PlanVerdicts.{some_verdict, valid_has_no_fault, fault_is_one}
 pub use Rattle.sas_run.proofs.Ranges.{preconditions_within, effect_within}
-pub use Rattle.sas_run.proofs.Runs.{some_run, one_run, leads_to_last, last_rests, operators_exist, to_fault, state_fits, run_goes}
-pub use Rattle.sas_run.specs.ByNumbers.{GoesThrough}
-pub use Rattle.sas_run.specs.Choosers.{HaveOperators, IsSolutionBy, IsFaultByOrMemory}
+pub use Rattle.sas_run.proofs.Runs.{some_run, one_run, leads_to_last, last_rests, operators_exist, to_fault, state_fits, run_goes, some_run_from, run_from}
+pub use Rattle.sas_run.specs.Anyway.{AreNoted, Follows}
+pub use Rattle.sas_run.specs.declared.anyway.Anyway.{Anyway}
+pub use Rattle.sas_run.specs.ByNumbers.{GoesThrough, GoesThroughFrom}
+pub use Rattle.sas_run.specs.Choosers.{HaveOperators, IsSolutionBy, IsFaultByOrMemory, EndsPlan, FailsNext, IsNumberChoice}
+pub use Rattle.sas_run.specs.NumberFaults.{LeadsAsFar}
+pub use Rattle.sas_run.specs.Starts.{IsStart, start_of}
 pub use Rattle.sas_run.proofs.Observing.{goes_state}
 pub use Rattle.sas_run.specs.Observing.{IsTold}
 pub use Rattle.sas_names.specs.Named.{IsNamed}
 pub use Rattle.sas_names.specs.Nameless.{is_nameless, nameless_steps}
 pub use Rattle.sas_run.specs.Plans.{IsApplicable, LeadFrom, LeadsTo, IsValid}
-pub use Rattle.sas_run.specs.Running.{IsChoice, IsLater, IsLaterIfAny}
+pub use Rattle.sas_run.specs.Running.{IsChoice, IsLater, IsLaterIfAny, IsFinalVerdict, StepFailsBy}
 pub use Rattle.sas_run.specs.declared.choice.Choice.{Choice}
-pub use Rattle.sas_run.specs.Runs.{Run, last_state, state_at, StepsSucceed, steps_before, RunEndsWith, IsRunOf, IsEnding}
+pub use Rattle.sas_run.specs.Runs.{Run, last_state, state_at, StepsLead, StepsSucceed, IsRunFrom, names_of, steps_before, RunEndsWith, IsRunOf, IsEnding}
 pub use Rattle.sas_run.specs.Verdicts.{IsFirstMissed, ComesTo, IsFaultOf}
 pub use Rattle.sas_run.specs.declared.plan_check.Valid.{Valid}
 pub use Rattle.sas_run.specs.declared.plan_check.PlanFault.{PlanFault}
@@ -111,13 +116,13 @@ pub use Rattle.sas_run.specs.declared.plan_check.PlanFault.TheVariants.{Memory, 
 pub use Rattle.sas_plan_reasons.specs.Cause.{fails, AreDerivationLines, since_line, missing_lines, IsCause, value_at, IsSince, failing_lines, can_be_given, keeping_lines}
 pub use Rattle.sas_plan_reasons.specs.Conflicts.{first_on, AgreesWithFirst, AreFirstEffects}
 pub use Rattle.sas_plan_reasons.specs.Derivation.{needs_rules, has_rule, CanBeAdded, IsOrder, IsRuleOf, DependsOn, Own, Below, InDerivation, StandsBefore, IsDerivation}
-pub use Rattle.sas_plan_reasons.specs.Report.{lines_of_keepers, is_kept, ReportsGivers, IsReport, IsBehind, ReportsOnce, IsReportOf, AddsLines}
+pub use Rattle.sas_plan_reasons.specs.Explanation.{lines_of_keepers, is_kept, ExplainsGivers, IsExplanation, IsBehind, ExplainsOnce, IsExplanationOf, AddsLines}
 pub use Rattle.sas_plan_reasons.specs.Lines.{with_line, with_lines, LineThen, LinesOfEach}
 pub use Rattle.sas_plan_reasons.specs.Lowest.{IsLowest, AreLowest}
 pub use Rattle.sas_plan_reasons.specs.MayMean.{HaveNoNamesakes, similar_operator, IsOther, MayMean}
 pub use Rattle.sas_plan_reasons.specs.Noting.{CanList, ListCoversChanges, ListsBelow, AddsOther, HasNoted}
-pub use Rattle.sas_plan_reasons.specs.Retracing.{HavePlaces, NotedAt, LeftAt, Notes, change_text, AreFirstChanges, IsOtherIfAny, AreNameless, Retraces, ComesUnambiguously, HaveSince}
-pub use Rattle.sas_plan_reasons.specs.Origins.{is_met, open_with, IsReady, IsOrdered, HasNoneOpen, AreOpen, AreOpenAtFirst, unmet, work_left, Closes, CanMeetAll, MeetsAll, Meets, giver_at, AreGivers, IsDerivedOrder, Builds, IsOrderSoFar, IsNext, is_reported, ArePlaces, HasRule, OriginsMatchState, AreOrigins, HasRuleBelow, IsReportedOf, AreReportedBelow, SameOrigins, unreported, AddsRules, ReportsDerivation}
+pub use Rattle.sas_plan_reasons.specs.Retracing.{HavePlaces, NotedAt, LeftAt, Notes, change_text, AreFirstChanges, IsOtherIfAny, AreNameless, NotesAnyway, NotesAnywayIfAny, Retraces, ComesUnambiguously, HaveSince}
+pub use Rattle.sas_plan_reasons.specs.Origins.{is_met, open_with, IsReady, IsOrdered, HasNoneOpen, AreOpen, AreOpenAtFirst, unmet, work_left, Closes, CanMeetAll, MeetsAll, Meets, giver_at, AreGivers, IsDerivedOrder, Builds, IsOrderSoFar, IsNext, is_explained, ArePlaces, HasRule, OriginsMatchState, AreOrigins, HasRuleBelow, IsExplainedOf, AreExplainedBelow, SameOrigins, unexplained, AddsRules, ExplainsDerivation}
 pub use Rattle.sas_plan_reasons.specs.ReasonLaws.{replayed, RequiresLower, RestsOnEarlier, IsAlike, IsPermuted, IsSimilar, IsLowestIfAny}
 pub use Rattle.sas_plan_reasons.specs.Words.{separates, parts, words, are_permuted}
 pub use Rattle.sas_plan_reasons.specs.Similar.{AreSorted, IsSought, IsLikeness}
@@ -125,7 +130,7 @@ pub use Rattle.sas_plan_reasons.specs.Trace.{run_lines, changed, is_changed, cha
 pub use Rattle.sas_plan_reasons.specs.Traced.{FaultAnswer, EndsWith, TraceVerdict}
 pub use Rattle.sas_plan_reasons.specs.Verdict.{Explains, WhyVerdict, MakeAnswer}
 pub use Rattle.sas_plan_reasons.specs.VerdictBy.{VerdictWith}
-pub use Rattle.sas_plan_reasons.specs.WhyPlan.{ConflictsWith, AreFailedPreconditionLines, AreConflictLines, AreGoalFactLines, cost_hint, cost_lines, first_nameless, nameless_step_lines, nameless_lines, some_similar, other_task_hint, AreCouldBeLines, AreFaultLines, IsWhy, AreOperatorLines, cost_lines_sum}
+pub use Rattle.sas_plan_reasons.specs.WhyPlan.{FollowsAnyway, step_made, anyway_lines, AreAnywayLines, ConflictsWith, AreFailedPreconditionLines, AreConflictLines, AreGoalFactLines, cost_hint, cost_lines, first_nameless, nameless_step_lines, nameless_lines, some_similar, other_task_hint, AreCouldBeLines, AreFaultLines, IsWhy, AreOperatorLines, cost_lines_sum}
 pub use Rattle.sas_plan_reasons.specs.declared.similar.Likeness.{Likeness}
 pub use Rattle.sas_plan_reasons.specs.declared.similar.Likeness.TheVariants.{Same, Permuted, Other}
 pub use Rattle.sas_plan_reasons.specs.declared.similar.Sought.{Sought}
@@ -144,6 +149,7 @@ pub use Rattle.sas_plan_reasons.specs.Tracing.{HasTraced, sink_of}
 pub use Rattle.sas_plan_reasons.specs.declared.tracing.Printed.{Printed}
 pub use Rattle.sas_names.specs.Chains.{IsChain, AreStepOperators}
 pub use Rattle.sas_names.specs.Names.{IsNextNamed, IsLowestNamed, existing, AreFirsts}
-pub use Rattle.sas_plan_reasons.specs.declared.causes.Report.{Report}
+pub use Rattle.sas_plan_reasons.specs.declared.causes.Explanation.{Explanation}
 pub use Rattle.sas_core.specs.Tasks.{cost_of}
 pub use Rattle.std.specs.Prelude.{sum_by, IsSomeAnd}
+pub use Rattle.sas_answers.specs.Wording.{steps_of}

@@ -27,12 +27,13 @@ pub mod Faulty
 pub mod Behind
 pub mod OpenConditions
 pub mod Building
-pub mod ReportingSteps
-pub mod ReportedRules
+pub mod ExplainingSteps
+pub mod ExplainedRules
 mod Changing
 mod ListedChanges
 mod StepChains
 mod VerdictAnswers
+mod RunEndings
 mod Standing
 mod Replaying
 pub mod Answering

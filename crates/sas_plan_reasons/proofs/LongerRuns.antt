@@ -1,6 +1,6 @@
 -- The run of the first steps of a run, and the one that is a step longer.
 use Rattle.std.proofs.lemmas.Grind.{common_steps}
-use Rattle.sas_plan_reasons.proofs.Imports.{◌≡◌, ◌≢◌, ℕ, ◌+◌, ◌<◌, ◌≤◌, List, [], ◌∷◌, ◌++◌, length, take, get_or, sym, ◌∙◌, ap, arith, cases_lt, take_all, take_more, take-take, length-take-le, get_or-take, get_or-append, get_or-append_seam, Parts, operator_at, IsLater, Run, state_at, last_state, StepsSucceed, value_at, IsSince, IsOther, MayMean}
+use Rattle.sas_plan_reasons.proofs.Imports.{◌≡◌, ◌≢◌, ℕ, ◌+◌, ◌<◌, ◌≤◌, List, [], ◌∷◌, ◌++◌, length, take, get_or, sym, ◌∙◌, ap, arith, cases_lt, take_all, take_more, take-take, length-take-le, get_or-take, get_or-append, get_or-append_seam, Parts, operator_at, IsLater, Run, state_at, last_state, StepsLead, value_at, IsSince, IsOther, MayMean}
 use Rattle.std.proofs.Math.ListN.{length-append}
 
 abbrev run_of : List (List ℕ) → List ℕ → List (List ℕ) → Run
@@ -15,12 +15,12 @@ one_more run name operator next = run_of (run.steps ++ name ∷ []) (run.operato
 abbrev pub first_steps : Run → ℕ → Run
 first_steps run k = run_of (take k run.steps) (take k run.operators) (take (k + 1) run.states)
 
-module _ (p : Parts) (run : Run) (through : StepsSucceed p run) where
+module _ (p : Parts) {Lead : List (List ℕ) → List ℕ → List ℕ → Type 0} (run : Run) (through : StepsLead Lead run) where
   module _ (k : ℕ) (le : k ≤ length run.steps) where
     pub first_many : length (take k run.steps) ≡ k
     first_many = length-take-le k run.steps le
 
-    pub first_goes : StepsSucceed p (first_steps run k)
+    pub first_goes : StepsLead Lead (first_steps run k)
     first_goes = grind (arith, common_steps, length-take-le, first_many, get_or-take, take-take)
 
     pub first_last : last_state (first_steps run k) ≡ state_at run k
@@ -40,7 +40,7 @@ none_since run var one = grind (arith, common_steps)
 
 -- ---- one step more
 
-module _ (p : Parts) (run : Run) (through : StepsSucceed p run) (name : List ℕ) (operator : ℕ) (next : List ℕ) where
+module _ (p : Parts) {Lead : List (List ℕ) → List ℕ → List ℕ → Type 0} (run : Run) (through : StepsLead Lead run) (name : List ℕ) (operator : ℕ) (next : List ℕ) where
   abbrev longer : Run
   longer = one_more run name operator next
 

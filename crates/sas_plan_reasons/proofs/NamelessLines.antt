@@ -2,7 +2,7 @@
 use Rattle.std.proofs.lemmas.Grind.{common_steps}
 use Rattle.std.proofs.lemmas.List.{take-append-le}
 use Rattle.std.specs.Prelude.{nat_lt}
-use Rattle.sas_plan_reasons.proofs.Imports.{◌==◌, ◌&&◌, ◌≡◌, ℕ, suc, ◌+◌, ◌<◌, ◌≤◌, Bool, true, false, not, is_some, if◌then◌else◌, List, [], ◌∷◌, ◌++◌, length, take, flat_map, get_or, Option, Some, None, refl, sym, ◌∙◌, ap, subst, inl, inr, arith, option_map_or, AllByRecursion, Contains, list_any_at, list_any_none, cases_Bool, length-take, length-append, append_assoc, take_all, get_or-take, Parts, PlanParts, step_at, is_nameless, nameless_steps, bytes_eq, bytes_eq-Decides, get_or_default, Operator, operator_at, existing, IsNextNamed, AreFirsts, places, places_from, places_to, place_is, Line, ReportsOnce, similar_operator, NamelessSteps, AreNameless, first_nameless, nameless_step_lines, nameless_lines, some_similar}
+use Rattle.sas_plan_reasons.proofs.Imports.{◌==◌, ◌&&◌, ◌≡◌, ℕ, suc, ◌+◌, ◌<◌, ◌≤◌, Bool, true, false, not, is_some, if◌then◌else◌, List, [], ◌∷◌, ◌++◌, length, take, flat_map, get_or, Option, Some, None, refl, sym, ◌∙◌, ap, subst, inl, inr, arith, option_map_or, AllByRecursion, Contains, list_any_at, list_any_none, cases_Bool, length-take, length-append, append_assoc, take_all, get_or-take, Parts, PlanParts, step_at, is_nameless, nameless_steps, bytes_eq, bytes_eq-Decides, get_or_default, Operator, operator_at, existing, IsNextNamed, AreFirsts, places, places_from, places_to, place_is, Line, ExplainsOnce, similar_operator, NamelessSteps, AreNameless, first_nameless, nameless_step_lines, nameless_lines, some_similar}
 use Rattle.sas_answers.specs.declared.line.Line.TheVariants as line
 use Rattle.sas_plan_reasons.proofs.Once.{IsPlain, plain_lines}
 use Rattle.sas_plan_reasons.proofs.Faulty.{place_more, place_not}
@@ -84,7 +84,7 @@ hint_plain : (given : Bool) → AllByRecursion IsPlain (if given then line.Other
 hint_plain true = (refl, _)
 hint_plain false = _
 
-pub nameless_reported : (p : Parts) (plan : PlanParts) (lines : List Line) → lines ≡ nameless_lines p plan → ReportsOnce lines (λ its. its ≡ nameless_lines p plan)
+pub nameless_reported : (p : Parts) (plan : PlanParts) (lines : List Line) → lines ≡ nameless_lines p plan → ExplainsOnce lines (λ its. its ≡ nameless_lines p plan)
 nameless_reported p plan lines are =
     (nameless_lines p plan, refl, are ∙ sym (plain_lines [] (nameless_lines p plan) (steps_plain p plan (first_nameless p plan.steps) _ (refl, hint_plain _))))
 
@@ -92,7 +92,7 @@ nameless_reported p plan lines are =
 pub all_reported : (p : Parts) (plan : PlanParts) (nameless : NamelessSteps) (similar hint : Bool) (steps : ℕ) (lines : List Line) → AreNameless p plan.steps nameless → steps ≡ length plan.steps
     → similar ≡ some_similar p plan nameless.first.items → hint ≡ (nat_lt 1 steps && ((nameless.count == steps) && not similar))
     → lines ≡ (flat_map (nameless_step_lines p plan) nameless.first.items ++ line.NamelessSteps nameless.count steps ∷ []) ++ (if hint then line.OtherTaskHint ∷ [] else [])
-    → ReportsOnce lines (λ its. its ≡ nameless_lines p plan)
+    → ExplainsOnce lines (λ its. its ≡ nameless_lines p plan)
 all_reported p plan nameless similar hint steps lines are many is_similar is_hint is = nameless_reported p plan lines
     (is ∙ (append_assoc (flat_map (nameless_step_lines p plan) nameless.first.items) (line.NamelessSteps nameless.count steps ∷ []) (if hint then line.OtherTaskHint ∷ [] else [])
     ∙ (ap (λ h. flat_map (nameless_step_lines p plan) nameless.first.items ++ line.NamelessSteps nameless.count steps ∷ (if h then line.OtherTaskHint ∷ [] else []))

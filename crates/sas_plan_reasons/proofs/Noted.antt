@@ -1,6 +1,6 @@
 -- What is noted of a run, step by step.
 use Rattle.sas_meaning.specs.Steps.{Step}
-use Rattle.sas_plan_reasons.proofs.Imports.{◌≡◌, ℕ, ◌+◌, ◌<◌, ◌≤◌, List, [], ◌∷◌, ◌++◌, length, take, get_or, Option, Some, None, refl, sym, ◌∙◌, ap, subst, inl, inr, arith, cases_eq, same_lists, get_or_default, take_all, take-append_seam, get_or-append_seam, length-append, Parts, operator_at, IsLayered, IsInitial, IsLaterIfAny, Run, state_at, last_state, StepsSucceed, GoesThrough, run_goes, goes_one_way, goes_one_more, goes_on, goes_none, leads_on_numbers, IsSince, MayMean, Changes, Historian, OtherOperator, AreFirstChanges, Notes, IsOtherIfAny, HaveSince, AddsOther, HasNoted, CanList, is_some, true, false, false≢true}
+use Rattle.sas_plan_reasons.proofs.Imports.{◌≡◌, ℕ, zero, suc, ◌+◌, ◌<◌, ◌≤◌, List, [], ◌∷◌, ◌++◌, length, take, get_or, Option, Some, None, refl, sym, ◌∙◌, ap, subst, inl, inr, arith, cases_eq, same_lists, get_or_default, take_all, take-append_seam, get_or-append_seam, length-append, Parts, operator_at, IsLayered, Settles, IsLaterIfAny, Run, state_at, last_state, StepsLead, IsRunFrom, names_of, GoesThroughFrom, goes_one_way, goes_one_more, goes_on, goes_none, IsSince, MayMean, Changes, Historian, OtherOperator, AreFirstChanges, Notes, IsOtherIfAny, HaveSince, AddsOther, HasNoted, CanList, is_some, true, false, false≢true}
 use Rattle.sas_plan_reasons.proofs.LongerRuns.{first_steps, first_many, first_goes, first_last, first_more, first_all, none_since, one_more, since_changed, since_unchanged, may_mean_longer, still_none, may_mean_now}
 
 -- ---- which other operator is noted
@@ -28,7 +28,7 @@ values_are step s old new notes = same_lists new.values s notes.places.values (�
     ∙ ((notes.these k (omega (arith, notes.places.values))).value
     ∙ get_or_default s k 0 d (omega (arith, notes.places.values))))
 
-module _ (p : Parts) (run : Run) (through : StepsSucceed p run) (name : List ℕ) (operator : ℕ) (next : List ℕ) where
+module _ (p : Parts) {Lead : List (List ℕ) → List ℕ → List ℕ → Type 0} (run : Run) (through : StepsLead Lead run) (name : List ℕ) (operator : ℕ) (next : List ℕ) where
   -- since when each variable has its value there
   since_longer : (old new : Changes) → old.values ≡ last_state run → length next ≡ length p.variables
       → NotesChanges (length run.steps + 1) next old new → HaveSince p run old.since.items → HaveSince p (one_more run name operator next) new.since.items
@@ -61,18 +61,26 @@ module _ (p : Parts) (run : Run) (through : StepsSucceed p run) (name : List ℕ
 
 -- ---- runs, by their operators
 
-module _ (p : Parts) (layered : IsLayered p) (run : Run) (through : StepsSucceed p run) where
+module _ (p : Parts) (layered : IsLayered p) {start : List ℕ} (run : Run) (through : IsRunFrom p start run) where
   -- the first operators of a run lead to one state, that of the run
-  pub state_after : (operators s : List ℕ) → operators ≡ take (length operators) run.operators → length operators ≤ length run.steps → GoesThrough p operators s
+  pub state_after : (operators s : List ℕ) → operators ≡ take (length operators) run.operators → length operators ≤ length run.steps → GoesThroughFrom p start operators s
       → state_at run (length operators) ≡ s
   state_after operators s front le goes =
       let n = length operators in
-      let leads = leads_on_numbers p (take n run.steps) (take n run.operators) (state_at run n) (through.leads n le) in
-      goes_one_way p layered operators (state_at run n) s (subst (λ os. GoesThrough p os (state_at run n)) (sym front) leads) goes
+      goes_one_way p layered operators (state_at run n) s (subst (λ os. GoesThroughFrom p start os (state_at run n)) (sym front) (through.leads n le).0) goes
 
 -- ---- a step of a run, by its operators
 
-module _ (p : Parts) (layered : IsLayered p) (before : List ℕ) (s : List ℕ) (goes : GoesThrough p before s) (operator : ℕ) (next : List ℕ) (there : GoesThrough p (before ++ operator ∷ []) next) where
+-- a step has the name of its operator
+name_at : (p : Parts) (steps : List (List ℕ)) (operators : List ℕ) (k : ℕ) → k < length operators → steps ≡ names_of p operators → get_or steps k [] ≡ (operator_at p (get_or operators k 0)).name
+name_at p steps operators k lt are = ap (λ (names : List (List ℕ)). get_or names k []) are ∙ at operators k lt
+  where
+    at : (os : List ℕ) (i : ℕ) → i < length os → get_or (names_of p os) i [] ≡ (operator_at p (get_or os i 0)).name
+    at [] i lt = absurd (omega arith)
+    at (o ∷ os) zero lt = refl
+    at (o ∷ os) (suc i) lt = at os i (omega arith)
+
+module _ (p : Parts) (layered : IsLayered p) {start : List ℕ} (before : List ℕ) (s : List ℕ) (goes : GoesThroughFrom p start before s) (operator : ℕ) (next : List ℕ) (there : GoesThroughFrom p start (before ++ operator ∷ []) next) where
   abbrev more : List ℕ
   more = before ++ operator ∷ []
 
@@ -91,11 +99,11 @@ module _ (p : Parts) (layered : IsLayered p) (before : List ℕ) (s : List ℕ) 
   -- the operator makes the step
   pub step_there : (operator < length p.operators) × Step p s (operator_at p operator) next
   step_there =
-      let on = rw its_operator at (goes_on p layered more next k s there (omega (arith, one_longer)) (subst (λ os. GoesThrough p os s) (sym front) goes)) in
+      let on = rw its_operator at (goes_on p layered more next k s there (omega (arith, one_longer)) (subst (λ os. GoesThroughFrom p start os s) (sym front) goes)) in
       let same = goes_one_way p layered more on.1.0 next (goes_one_more p before s operator on.1.0 goes on.0 on.1.1) there in
       (on.0, subst (Step p s (operator_at p operator)) same on.1.1)
 
-  module _ (run : Run) (through : StepsSucceed p run) (is : run.operators ≡ more) where
+  module _ (run : Run) (through : IsRunFrom p start run) (is : run.operators ≡ more) where
     many : length run.steps ≡ k + 1
     many = sym through.operators ∙ (ap length is ∙ one_longer)
 
@@ -106,7 +114,7 @@ module _ (p : Parts) (layered : IsLayered p) (before : List ℕ) (s : List ℕ) 
     abbrev pub sofar : Run
     sofar = first_steps run k
 
-    pub sofar_goes : StepsSucceed p sofar
+    pub sofar_goes : IsRunFrom p start sofar
     sofar_goes = first_goes p run through k (omega (arith, within))
 
     pub sofar_is : sofar.operators ≡ before
@@ -131,7 +139,8 @@ module _ (p : Parts) (layered : IsLayered p) (before : List ℕ) (s : List ℕ) 
     its = ap (λ os. get_or os k 0) is ∙ its_operator
 
     pub named_so : (operator_at p operator).name ≡ its_name
-    named_so = (let goes = run_goes p run through layered k within in ap (λ o. (operator_at p o).name) (sym its) ∙ goes.chosen.of_name.named)
+    named_so = ap (λ o. (operator_at p o).name) (sym its) ∙ sym (name_at p run.steps run.operators k (omega (arith, within, through.operators))
+        (sym (take_all (length run.steps) run.steps (omega arith)) ∙ ((through.leads (length run.steps) (omega arith)).1 ∙ ap (names_of p) (take_all (length run.steps) run.operators (omega (arith, through.operators))))))
 
     -- and the step
     pub run_is : run ≡ one_more sofar its_name operator next
@@ -141,8 +150,8 @@ module _ (p : Parts) (layered : IsLayered p) (before : List ℕ) (s : List ℕ) 
 -- ---- what is noted
 
 -- before the first step
-pub noted_none : (p : Parts) (h : Historian) → IsInitial p h.changes.values → CanList p h.listing → AreFirstChanges h.changes.values h.changes → h.other ≡ None → HasNoted p h h []
-noted_none p h starts listing first none = record {
+pub noted_none : (p : Parts) (start : List ℕ) (h : Historian) → Settles p start h.changes.values → CanList p h.listing → AreFirstChanges h.changes.values h.changes → h.other ≡ None → HasNoted p start h h []
+noted_none p start h starts listing first none = record {
   nexts = refl;
   listing = listing;
   one_each = first.one_each ∙ starts.state.one_each;
@@ -155,15 +164,15 @@ noted_none p h starts listing first none = record {
 }
 
 -- with one step more
-module _ (p : Parts) (layered : IsLayered p) (first old new : Historian) (before : List ℕ) (operator : ℕ) (next : List ℕ) (noted : HasNoted p first old before)
-    (there : GoesThrough p (before ++ operator ∷ []) next) where
+module _ (p : Parts) (layered : IsLayered p) {start : List ℕ} (first old new : Historian) (before : List ℕ) (operator : ℕ) (next : List ℕ) (noted : HasNoted p start first old before)
+    (there : GoesThroughFrom p start (before ++ operator ∷ []) next) where
   pub noted_next : (step : ℕ) → step ≡ length before + 1 → new.nexts.now ≡ old.nexts.now → CanList p new.listing → NotesChanges step next old.changes new.changes
-      → AddsOther p old.changes.values operator step old.other new.other → HasNoted p first new (before ++ operator ∷ [])
+      → AddsOther p old.changes.values operator step old.other new.other → HasNoted p start first new (before ++ operator ∷ [])
   noted_next step at nexts listing changes adds = record {
     nexts = nexts ∙ noted.nexts;
     listing = listing;
     one_each = changes.places.since ∙ fits;
-    through = subst (GoesThrough p (before ++ operator ∷ [])) (sym (values_are step next old.changes new.changes changes)) there;
+    through = subst (GoesThroughFrom p start (before ++ operator ∷ [])) (sym (values_are step next old.changes new.changes changes)) there;
     since = λ run through is.
         let goes = sofar_goes p layered before s noted.through operator next there run through is in
         let last = sofar_last p layered before s noted.through operator next there run through is in
@@ -187,11 +196,11 @@ module _ (p : Parts) (layered : IsLayered p) (first old new : Historian) (before
       fits : length next ≡ length p.variables
       fits = (let step = step_there p layered before s noted.through operator next there in step.1.state.one_each)
 
-      before_of : (run : Run) → StepsSucceed p run → run.operators ≡ before ++ operator ∷ [] → Run
+      before_of : (run : Run) → IsRunFrom p start run → run.operators ≡ before ++ operator ∷ [] → Run
       before_of run through is = sofar p layered before s noted.through operator next there run through is
 
-      name_of : (run : Run) → StepsSucceed p run → run.operators ≡ before ++ operator ∷ [] → List ℕ
+      name_of : (run : Run) → IsRunFrom p start run → run.operators ≡ before ++ operator ∷ [] → List ℕ
       name_of run through is = its_name p layered before s noted.through operator next there run through is
 
-      number : (run : Run) (through : StepsSucceed p run) (is : run.operators ≡ before ++ operator ∷ []) → step ≡ length (before_of run through is).steps + 1
+      number : (run : Run) (through : IsRunFrom p start run) (is : run.operators ≡ before ++ operator ∷ []) → step ≡ length (before_of run through is).steps + 1
       number run through is = at ∙ ap (λ n. n + 1) (sym (sofar_many p layered before s noted.through operator next there run through is))

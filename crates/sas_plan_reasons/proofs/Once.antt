@@ -93,14 +93,14 @@ derived_apart (rule ∷ rules) pairs = (
   derived_apart rules (λ i j d lt within. pairs (suc i) (suc j) d (omega arith) (omega arith)),
 )
 
-module _ (lines : List Line) (is_reported : ℕ → Bool) (reported : (rule : ℕ) → (is_reported rule ≡ true → Contains lines (RuleDerives rule)) × (Contains lines (RuleDerives rule) → is_reported rule ≡ true)) where
-  reported_is : (rule : ℕ) → is_among lines (RuleDerives rule) ≡ is_reported rule
+module _ (lines : List Line) (is_explained : ℕ → Bool) (reported : (rule : ℕ) → (is_explained rule ≡ true → Contains lines (RuleDerives rule)) × (Contains lines (RuleDerives rule) → is_explained rule ≡ true)) where
+  reported_is : (rule : ℕ) → is_among lines (RuleDerives rule) ≡ is_explained rule
   reported_is rule = same_from_decides _ _ (among_is lines (RuleDerives rule), is_among_when lines (RuleDerives rule) refl) (reported rule)
 
-  unreported_lines : (rules : List ℕ) → new_of lines (map RuleDerives rules) ≡ map RuleDerives (filter (λ rule. not (is_reported rule)) rules)
-  unreported_lines [] = refl
-  unreported_lines (rule ∷ rules) = grind (arith, common_steps, unreported_lines rules, cases_Bool, reported_is)
+  unexplained_lines : (rules : List ℕ) → new_of lines (map RuleDerives rules) ≡ map RuleDerives (filter (λ rule. not (is_explained rule)) rules)
+  unexplained_lines [] = refl
+  unexplained_lines (rule ∷ rules) = grind (arith, common_steps, unexplained_lines rules, cases_Bool, reported_is)
 
   pub derived_lines : (rules : List ℕ) → AllPairs (λ a b. a ≢ b) rules
-      → with_lines lines (map RuleDerives rules) ≡ lines ++ map RuleDerives (filter (λ rule. not (is_reported rule)) rules)
-  derived_lines rules pairs = new_lines lines (map RuleDerives rules) (derived_apart rules pairs) ∙ ap (λ (l : List Line). lines ++ l) (unreported_lines rules)
+      → with_lines lines (map RuleDerives rules) ≡ lines ++ map RuleDerives (filter (λ rule. not (is_explained rule)) rules)
+  derived_lines rules pairs = new_lines lines (map RuleDerives rules) (derived_apart rules pairs) ∙ ap (λ (l : List Line). lines ++ l) (unexplained_lines rules)

@@ -1,8 +1,7 @@
 -- What is written of the steps of a run, and of the whole run.
-use Rattle.sas_plan_reasons.proofs.Imports.{◌≡◌, ℕ, ◌+◌, ◌≤◌, List, [], ◌∷◌, ◌++◌, flat_map, length, take, get_or, sym, ◌∙◌, ap, subst, get_or-append_seam, get_or-take, take-append_seam, take-take, length-take, length-append, range_with_len, Parts, text, text_of_both, text_of_each, initial_lines, IsLayered, Run, StepsSucceed, state_at, GoesThrough, step_lines, run_lines, step_line, change_lines, PlanParts, Output, TraceVerdict, EndsWith, Bool, refl, IsSomeAnd, Option, Some, Status, ToolFault, Sink, Pushed, Pushes, pushes_then, EndsCounting, ends_counting_as, Tracer, HasTraced, sink_of, CanList}
+use Rattle.sas_plan_reasons.proofs.Imports.{◌≡◌, ℕ, ◌+◌, ◌≤◌, List, [], ◌∷◌, ◌++◌, flat_map, length, take, get_or, sym, ◌∙◌, ap, subst, get_or-append_seam, get_or-take, take-append_seam, take-take, length-take, length-append, range_with_len, Parts, text, text_of_both, text_of_each, initial_lines, IsLayered, Run, IsRunFrom, state_at, GoesThroughFrom, step_lines, run_lines, step_line, change_lines, Output, Option, Some, Status, ToolFault, Sink, Pushed, Pushes, pushes_then, EndsCounting, Tracer, HasTraced, sink_of, CanList}
 use Rattle.sas_plan_reasons.proofs.Changing.{said, said_more}
 use Rattle.sas_plan_reasons.proofs.Noted.{state_after}
-use Rattle.std.proofs.lemmas.Grind.{common_steps}
 use Rattle.std.proofs.Common.{arith}
 use Rattle.std.specs.Prelude.{Result}
 
@@ -27,8 +26,8 @@ module _ (p : Parts) (run : Run) where
 
 -- ---- one step more
 
-module _ {W : Type 0} (contents : W → Option (List ℕ)) (p : Parts) (layered : IsLayered p) (first old new : Tracer W) (before : List ℕ) (operator : ℕ) (next : List ℕ)
-    (traced : HasTraced contents p first old before) (there : GoesThrough p (before ++ operator ∷ []) next) where
+module _ {W : Type 0} (contents : W → Option (List ℕ)) (p : Parts) (layered : IsLayered p) {start : List ℕ} (first old new : Tracer W) (before : List ℕ) (operator : ℕ) (next : List ℕ)
+    (traced : HasTraced contents p start first old before) (there : GoesThroughFrom p start (before ++ operator ∷ []) next) where
   abbrev more : List ℕ
   more = before ++ operator ∷ []
 
@@ -36,10 +35,10 @@ module _ {W : Type 0} (contents : W → Option (List ℕ)) (p : Parts) (layered 
   k = length before
 
   pub traced_next : (step : ℕ) → step ≡ k + 1 → CanList p new.printed.now.listing → new.printed.now.values ≡ next
-      → Pushes contents (sink_of old) (sink_of new) (text (step_line p step operator ∷ change_lines p old.printed.now.values next)) → HasTraced contents p first new more
+      → Pushes contents (sink_of old) (sink_of new) (text (step_line p step operator ∷ change_lines p old.printed.now.values next)) → HasTraced contents p start first new more
   traced_next step at listing values pushes = record {
     listing = listing;
-    through = subst (GoesThrough p more) (sym values) there;
+    through = subst (GoesThroughFrom p start more) (sym values) there;
     pushes = λ run through front.
         let many : length more ≡ k + 1 = length-append before (operator ∷ []) in
         let within : length more ≤ length run.steps = within_run run through front in
@@ -57,7 +56,7 @@ module _ {W : Type 0} (contents : W → Option (List ℕ)) (p : Parts) (layered 
         (pushes_then contents (sink_of first) (sink_of old) (sink_of new) _ _ (traced.pushes run through front_before) (subst (Pushes contents (sink_of old) (sink_of new)) (sym line) pushes)));
   }
     where
-      within_run : (run : Run) → StepsSucceed p run → more ≡ take (length more) run.operators → length more ≤ length run.steps
+      within_run : (run : Run) → IsRunFrom p start run → more ≡ take (length more) run.operators → length more ≤ length run.steps
       within_run run through front = omega (arith, ap length front, length-take (length more) run.operators, through.operators)
 
       front_of : (run : Run) → more ≡ take (length more) run.operators → before ≡ take k run.operators
@@ -67,18 +66,11 @@ module _ {W : Type 0} (contents : W → Option (List ℕ)) (p : Parts) (layered 
       operator_of run front = sym (get_or-take (length more) run.operators k 0 (omega (arith, length-append before (operator ∷ []))))
           ∙ (ap (λ os. get_or os k 0) (sym front) ∙ get_or-append_seam before operator [] 0)
 
--- what was written, as an output
-abbrev pub written : Parts → Output → Run → Output
-written p answer run = record { text = text (run_lines p run) ++ answer.text; status = answer.status }
-
--- what goes out of the lines of a run, and of the answer behind them, is a trace
-pub sends_trace : {W : Type 0} (contents : W → Option (List ℕ)) (reasons : Bool) (p : Parts) (plan : PlanParts) (answer : Output) (run : Run) (start : Option (List ℕ)) (first mid last : Sink W)
-    (Sent : List ℕ → Type 0) (ended : Result Status ToolFault) → StepsSucceed p run → EndsWith reasons p plan run answer → first.status ≡ answer.status → Pushed contents start first []
-    → Pushes contents first mid (text (run_lines p run)) → Pushes contents mid last answer.text
+-- what goes out of some lines, and of an answer behind them, is an output of both
+pub sends_both : {W : Type 0} (contents : W → Option (List ℕ)) (lines : List ℕ) (answer : Output) (start : Option (List ℕ)) (first mid last : Sink W)
+    (Sent : List ℕ → Type 0) (ended : Result Status ToolFault) → first.status ≡ answer.status → Pushed contents start first [] → Pushes contents first mid lines → Pushes contents mid last answer.text
     → ((whole : List ℕ) → Pushed contents start last whole → EndsCounting (λ output. output ≡ Some (record { text = whole; status = last.status })) Sent ended)
-    → EndsCounting (λ output. IsSomeAnd output (TraceVerdict reasons p plan)) Sent ended
-sends_trace contents reasons p plan answer run start first mid last Sent ended through ends status none lines behind finish =
-    ends_counting_as (written p answer run) Sent (λ output. IsSomeAnd output (TraceVerdict reasons p plan)) ended
-    (record { run = run; through = through; answer = answer; ends = ends; whole = refl; status = refl })
-    (subst (λ (s : Status). EndsCounting (λ output. output ≡ Some (record { text = text (run_lines p run) ++ answer.text; status = s })) Sent ended)
-    (behind.status ∙ (lines.status ∙ status)) (finish _ (behind.text start _ (lines.text start [] none))))
+    → EndsCounting (λ output. output ≡ Some (record { text = lines ++ answer.text; status = answer.status })) Sent ended
+sends_both contents lines answer start first mid last Sent ended status none pushes behind finish =
+    subst (λ (s : Status). EndsCounting (λ output. output ≡ Some (record { text = lines ++ answer.text; status = s })) Sent ended)
+    (behind.status ∙ (pushes.status ∙ status)) (finish _ (behind.text start _ (pushes.text start [] none)))

@@ -1,6 +1,6 @@
 -- The fault of a plan has exactly one list of reasons, and the first step that may mean another
 -- operator is unique, as is this operator.
-use Rattle.sas_plan_reasons.proofs.Imports.{MayMean, ◌≡◌, ℕ, ◌+◌, ◌⊎◌, [], length, get_or, refl, sym, ◌∙◌, ap, inl, inr, arith, cases_lt, Parts, named_or_not, applicable_or_not, Run, state_at, IsOther, ◌-◌, ◌<◌, List, ◌∷◌, ◌++◌, take, subst, take-append_seam, filter, count_by, bytes_eq, Operator, PlanParts, step_at, operator_at, IsLayered, IsSettled, preconditions, places, PlanFault, Memory, NoOperator, NotApplicable, Conflict, GoalMissed, CostDiffers, LeadFrom, LeadsTo, ComesTo, IsFaultOf, Line, with_lines, LineThen, LinesOfEach, fails, IsCause, AreFailedPreconditionLines, AreConflictLines, AreGoalFactLines, cost_lines, AreCouldBeLines, AreFaultLines, IsWhy, last_state, StepsSucceed, steps_before, some_run, one_run}
+use Rattle.sas_plan_reasons.proofs.Imports.{MayMean, ◌≡◌, ℕ, ◌+◌, ◌⊎◌, [], length, get_or, refl, sym, ◌∙◌, ap, inl, inr, arith, cases_lt, Parts, named_or_not, applicable_or_not, Run, state_at, IsOther, ◌-◌, ◌<◌, List, ◌∷◌, ◌++◌, take, subst, take-append_seam, filter, count_by, bytes_eq, Operator, PlanParts, step_at, operator_at, IsLayered, IsSettled, preconditions, places, PlanFault, Memory, NoOperator, NotApplicable, Conflict, GoalMissed, CostDiffers, LeadFrom, LeadsTo, ComesTo, IsFaultOf, Line, with_lines, LineThen, LinesOfEach, fails, IsCause, AreFailedPreconditionLines, AreConflictLines, AreGoalFactLines, cost_lines, AreCouldBeLines, AreFaultLines, IsWhy, last_state, StepsSucceed, steps_before, some_run, one_run, Option, Some, None, IsState, WellRanged, step_made, anyway_lines, AreAnywayLines, last_rests, follows_one, follows_some, names_decide}
 use Rattle.sas_plan_reasons.proofs.Lowest.{are_lowest_one, some_are_lowest}
 use Rattle.std.proofs.lemmas.Grind.{common_steps}
 use Rattle.sas_plan_reasons.proofs.CauseLines.{some_cause, one_cause}
@@ -92,16 +92,28 @@ fault_lines_one p plan run (GoalMissed index) a b x y = behind_one (goal_line p 
 fault_lines_one p plan run (CostDiffers sum) a b x y = x ∙ sym y
 fault_lines_one p plan run Memory a b x y = absurd x
 
+-- what follows if the step is made anyway
+anyway_one : (p : Parts) (plan : PlanParts) (run : Run) → IsLayered p → (step : Option ℕ) (a b : List Line) → AreAnywayLines p plan run step a → AreAnywayLines p plan run step b → a ≡ b
+anyway_one p plan run layered None a b x y = x ∙ sym y
+anyway_one p plan run layered (Some step) a b (failing, last, follows, is) (failing', last', follows', is') =
+    let many = length plan.steps in
+    let same = follows_one p _ _ layered (names_decide p (step_at plan)) many step (last_state run) failing failing' last last' follows follows' in
+    is ∙ (ap (λ (them : List ℕ). anyway_lines p many step them last) same.0 ∙ (ap (λ (s : List ℕ). anyway_lines p many step failing' s) same.1 ∙ sym is'))
+
 pub one_why : (p : Parts) (plan : PlanParts) (fault : PlanFault) (a b : List Line) → IsLayered p → IsWhy p plan fault a → IsWhy p plan fault b → a ≡ b
 one_why p plan fault a b layered x y = x.whole
-    ∙ (ap (λ (reasons : List Line). with_lines [] reasons ++ x.others) (fault_lines_one p plan y.run fault x.reasons y.reasons are y.are)
-    ∙ (ap (λ (others : List Line). with_lines [] y.reasons ++ others) (other_one p y.run x.others y.others may y.may) ∙ sym y.whole))
+    ∙ (ap (λ (reasons : List Line). with_lines [] reasons ++ (x.later ++ x.others)) (fault_lines_one p plan y.run fault x.reasons y.reasons are y.are)
+    ∙ (ap (λ (later : List Line). with_lines [] y.reasons ++ (later ++ x.others)) (anyway_one p plan y.run layered (step_made fault) x.later y.later follow y.follow)
+    ∙ (ap (λ (others : List Line). with_lines [] y.reasons ++ (y.later ++ others)) (other_one p y.run x.others y.others may y.may) ∙ sym y.whole)))
   where
     same : x.run ≡ y.run
     same = one_run p x.run y.run layered x.through y.through (x.went ∙ sym y.went)
 
     are : AreFaultLines p plan y.run fault x.reasons
     are = subst (λ run. AreFaultLines p plan run fault x.reasons) same x.are
+
+    follow : AreAnywayLines p plan y.run (step_made fault) x.later
+    follow = subst (λ run. AreAnywayLines p plan run (step_made fault) x.later) same x.follow
 
     may : AreCouldBeLines p y.run x.others
     may = subst (λ run. AreCouldBeLines p run x.others) same x.may
@@ -121,14 +133,22 @@ some_other p run = elim (some_may_mean p run) [
   | inr none ↦ ([], inr (none, refl))
 ]
 
-module _ (p : Parts) (plan : PlanParts) (layered : IsLayered p) where
+some_anyway : (p : Parts) (plan : PlanParts) (run : Run) → WellRanged p → IsLayered p → IsState p.variables (last_state run) → (step : Option ℕ) → (lines : List Line) × AreAnywayLines p plan run step lines
+some_anyway p plan run ranged layered state None = ([], refl)
+some_anyway p plan run ranged layered state (Some step) =
+    let many = length plan.steps in
+    let (failing, last, follows) = follows_some p _ _ layered (names_decide p (step_at plan)) ranged many step (last_state run) state in
+    (anyway_lines p many step failing last, (failing, last, follows, refl))
+
+module _ (p : Parts) (plan : PlanParts) (ranged : WellRanged p) (layered : IsLayered p) where
   -- the reasons after a run that leads to the fault
   from_run : (fault : PlanFault) (run : Run) → run.steps ≡ steps_before plan fault → StepsSucceed p run
       → ((lines : List Line) × AreFaultLines p plan run fault lines) → (lines : List Line) × IsWhy p plan fault lines
   from_run fault run went through are =
+      let later = some_anyway p plan run ranged layered (last_rests p run through).0 (step_made fault) in
       let other = some_other p run in (
-        with_lines [] are.0 ++ other.0,
-        record { run = run; went = went; through = through; reasons = are.0; are = are.1; others = other.0; may = other.1; whole = refl },
+        with_lines [] are.0 ++ (later.0 ++ other.0),
+        record { run = run; went = went; through = through; reasons = are.0; are = are.1; later = later.0; follow = later.1; others = other.0; may = other.1; whole = refl },
       )
 
   -- a run of these steps, and that its last state is settled
@@ -191,5 +211,5 @@ module _ (p : Parts) (plan : PlanParts) (layered : IsLayered p) where
       let l = led plan.steps f.0 f.1 f.2 in
       from_run (CostDiffers sum) l.run l.went l.through (cost_lines p plan.cost l.run, refl)
 
-pub some_why : (p : Parts) (plan : PlanParts) (fault : PlanFault) → IsLayered p → IsFaultOf p plan fault → (lines : List Line) × IsWhy p plan fault lines
-some_why p plan fault layered f = some_why_of p plan layered fault f
+pub some_why : (p : Parts) (plan : PlanParts) (fault : PlanFault) → WellRanged p → IsLayered p → IsFaultOf p plan fault → (lines : List Line) × IsWhy p plan fault lines
+some_why p plan fault ranged layered f = some_why_of p plan ranged layered fault f

@@ -12,8 +12,11 @@ pub mod Verdict
 pub mod Trace
 pub mod Traced
 pub mod VerdictBy
+pub mod StateBehind
+pub mod RunTraces
+pub mod Replays
 pub mod Retracing
 pub mod Noting
 pub mod Tracing
-pub mod Report
+pub mod Explanation
 pub mod ReasonLaws

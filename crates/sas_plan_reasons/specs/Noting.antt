@@ -1,9 +1,9 @@
 -- What is noted of the steps of a plan as they are made once more.
 use Rattle.std.specs.Prelude.{◌≡◌, ◌⊎◌, ℕ, ◌+◌, ◌*◌, ◌<◌, ◌≤◌, List, length, All, Contains, Option, Some, None, slice_index, vec_capacity}
 use Rattle.sas_core.specs.declared.parts.Parts.{Parts}
-use Rattle.sas_run.specs.ByNumbers.{GoesThrough}
+use Rattle.sas_run.specs.ByNumbers.{GoesThroughFrom}
 use Rattle.sas_run.specs.Running.{IsLaterIfAny}
-use Rattle.sas_run.specs.Runs.{Run, StepsSucceed}
+use Rattle.sas_run.specs.Runs.{Run, IsRunFrom}
 use Rattle.sas_plan_reasons.specs.Retracing.{HaveSince, IsOtherIfAny}
 use Rattle.sas_plan_reasons.specs.declared.history.Historian.{Historian}
 use Rattle.sas_plan_reasons.specs.declared.history.OtherOperator.{OtherOperator}
@@ -37,14 +37,16 @@ AddsOther p s operator step None None = IsLaterIfAny p s operator None
 AddsOther p s operator step None (Some other) = (other.step ≡ step)
     × IsLaterIfAny p s operator (Some other.operator)
 
--- The steps of these operators, which lead to the state that is noted, were noted: for each run of
--- them, since when each variable has its value, and which other operator a step may mean.
-pub record HasNoted (p : Parts) (first now : Historian) (operators : List ℕ) : Type 0 where
+-- The steps of these operators, which lead from `start` to the state that is noted, were noted: for
+-- each run of them, since when each variable has its value, and which other operator a step may
+-- mean.
+pub record HasNoted (p : Parts) (start : List ℕ) (first now : Historian) (operators : List ℕ)
+    : Type 0 where
   pub nexts : now.nexts.now ≡ first.nexts.now
   pub listing : CanList p now.listing
   pub one_each : length now.changes.since.items ≡ length p.variables
-  pub through : GoesThrough p operators now.changes.values
-  pub since : (run : Run) → StepsSucceed p run → run.operators ≡ operators
+  pub through : GoesThroughFrom p start operators now.changes.values
+  pub since : (run : Run) → IsRunFrom p start run → run.operators ≡ operators
       → HaveSince p run now.changes.since.items
-  pub other : (run : Run) → StepsSucceed p run → run.operators ≡ operators
+  pub other : (run : Run) → IsRunFrom p start run → run.operators ≡ operators
       → IsOtherIfAny p run now.other

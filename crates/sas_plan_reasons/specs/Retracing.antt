@@ -1,7 +1,8 @@
 -- What a second pass over a plan notes of each step, and of the whole run, or prints.
-use Rattle.std.specs.Prelude.{◌≡◌, ◌≢◌, ◌⊎◌, ℕ, ◌<◌, if◌then◌else◌, List, [], ◌∷◌, ◌++◌, length, slice_index, Option, Some, None}
+use Rattle.std.specs.Prelude.{◌≡◌, ◌≢◌, ◌⊎◌, ℕ, ◌<◌, ◌≤◌, if◌then◌else◌, List, [], ◌∷◌, ◌++◌, length, slice_index, Option, Some, None}
 use Rattle.sas_core.specs.declared.parts.Parts.{Parts}
 use Rattle.sas_core.specs.PlanParts.{PlanParts}
+use Rattle.sas_core.specs.Variables.{IsState}
 use Rattle.sas_names.specs.Nameless.{nameless_steps}
 use Rattle.sas_run.specs.declared.plan_check.PlanFault.{PlanFault}
 use Rattle.sas_run.specs.Runs.{Run, last_state, StepsSucceed, RunEndsWith}
@@ -12,7 +13,9 @@ use Rattle.sas_plan_reasons.specs.declared.history.OtherOperator.{OtherOperator}
 use Rattle.sas_plan_reasons.specs.declared.history.PlanHistory.{PlanHistory}
 use Rattle.sas_plan_reasons.specs.declared.changes.Changes.{Changes}
 use Rattle.sas_plan_reasons.specs.declared.nameless.NamelessSteps.{NamelessSteps}
-use Rattle.sas_plan_reasons.specs.WhyPlan.{first_nameless}
+use Rattle.sas_plan_reasons.specs.WhyPlan.{FollowsAnyway, first_nameless, step_made}
+use Rattle.sas_run.specs.Anyway.{AreNoted}
+use Rattle.sas_run.specs.declared.anyway.Anyway.{Anyway}
 
 -- the first step of the run that may mean another operator, and the lowest that it may mean; or
 -- none may
@@ -30,6 +33,21 @@ pub record AreNameless (p : Parts) (steps : List (List ℕ)) (nameless : Nameles
   pub count : nameless.count ≡ nameless_steps p steps
   pub first : nameless.first.items ≡ first_nameless p steps
 
+-- it is noted what follows in the plan if this step is made anyway
+pub record NotesAnyway (p : Parts) (plan : PlanParts) (run : Run) (number : ℕ) (anyway : Anyway)
+    : Type 0 where
+  pub step : anyway.step ≡ number
+  pub exists : number ≤ length plan.steps
+  pub state : IsState p.variables anyway.state
+  pub failing : List ℕ
+  pub noted : AreNoted failing anyway
+  pub follows : FollowsAnyway p plan run number failing anyway.state
+
+-- it is noted if there is such a step
+abbrev pub NotesAnywayIfAny : Parts → PlanParts → Run → Option ℕ → Option Anyway → Type 0
+NotesAnywayIfAny p plan run (Some step) (Some anyway) = NotesAnyway p plan run step anyway
+NotesAnywayIfAny p plan run step anyway = (step ≡ None) × (anyway ≡ None)
+
 -- this is noted of the run of a plan, up to its fault
 pub record Retraces (p : Parts) (plan : PlanParts) (history : PlanHistory) (run : Run)
     : Type 0 where
@@ -40,6 +58,7 @@ pub record Retraces (p : Parts) (plan : PlanParts) (history : PlanHistory) (run 
   pub last : history.last ≡ last_state run
   pub since : HaveSince p run history.since.items
   pub other : IsOtherIfAny p run history.other
+  pub anyway : NotesAnywayIfAny p plan run (step_made history.fault) history.anyway
 
 -- the plan has this fault after the steps of the run, and none of these may mean another operator
 pub record ComesUnambiguously (p : Parts) (plan : PlanParts) (fault : PlanFault) (run : Run)

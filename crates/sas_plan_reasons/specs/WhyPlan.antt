@@ -1,6 +1,7 @@
 -- Why a plan isn't valid: the lines of reasons after its verdict.
 use Rattle.std.specs.Prelude.{◌≡◌, ◌≢◌, ◌⊎◌, ℕ, ◌+◌, ◌-◌, ◌<◌, ◌==◌, ◌&&◌, Bool, true, false, not, nat_lt, is_some, if◌then◌else◌}
-use Rattle.std.specs.Prelude.{List, [], ◌∷◌, ◌++◌, length, take, filter, flat_map, sum_by, slice_index_or, bytes_eq}
+use Rattle.std.specs.Prelude.{List, [], ◌∷◌, ◌++◌, length, map, take, filter, flat_map, sum_by, slice_index_or, bytes_eq}
+use Rattle.std.specs.Prelude.{Option, None, Some}
 use Rattle.std.specs.List.{count_by, list_any}
 use Rattle.std.specs.Option.{option_map_or}
 use Rattle.sas_core.specs.declared.parts.Operator.{Operator}
@@ -16,6 +17,9 @@ use Rattle.sas_answers.specs.declared.line.Line.{Line}
 use Rattle.sas_answers.specs.declared.line.Line.TheVariants as line
 use Rattle.sas_plan_reasons.specs.Lines.{with_lines, LineThen, LinesOfEach}
 use Rattle.sas_names.specs.Nameless.{is_nameless, nameless_steps}
+use Rattle.sas_names.specs.Names.{IsLowestNamed}
+use Rattle.sas_run.specs.Anyway.{Follows}
+use Rattle.sas_run.specs.Running.{IsChoice}
 use Rattle.sas_run.specs.Runs.{Run, last_state, StepsSucceed, steps_before}
 use Rattle.sas_plan_reasons.specs.Lowest.{AreLowest}
 use Rattle.sas_plan_reasons.specs.MayMean.{similar_operator, IsOther, MayMean}
@@ -118,6 +122,35 @@ cost_lines p cost run =
     ∷ line.CostLines (cost_lines_sum p run.operators)
     ∷ cost_hint p.metric cost (length run.steps) (cost_lines_sum p run.operators)
 
+-- ---- what follows if the step that fails is made anyway
+
+-- the steps of the plan from this one on are made, whether they fail or not, in the last state of
+-- the run: they lead to `last`, and of those behind this one those in `failing` fail
+abbrev pub FollowsAnyway : Parts → PlanParts → Run → ℕ → List ℕ → List ℕ → Type 0
+FollowsAnyway p plan run step failing last = Follows p
+    (λ before s. IsChoice p s (step_at plan before))
+    (λ before. IsLowestNamed p (step_at plan before) 0)
+    (length plan.steps) step (last_state run) failing last
+
+-- how many of the later steps fail, the first five of them, and how many facts of the goal fail
+abbrev pub anyway_lines : Parts → ℕ → ℕ → List ℕ → List ℕ → List Line
+anyway_lines p steps step failing last = line.LaterFailures (length failing) (steps - step)
+    ∷ map line.LaterFailure (take 5 failing)
+    ++ line.FailingGoalLater (count_by (fails last) p.goal) (length p.goal) ∷ []
+
+-- the step that is made anyway: that of the fault, if it names an operator
+abbrev pub step_made : PlanFault → Option ℕ
+step_made (NotApplicable step) = Some step
+step_made (Conflict step operator) = Some step
+step_made other = None
+
+-- these lines if there is such a step
+abbrev pub AreAnywayLines : Parts → PlanParts → Run → Option ℕ → List Line → Type 0
+AreAnywayLines p plan run None lines = lines ≡ []
+AreAnywayLines p plan run (Some step) lines = (failing last : List ℕ)
+    × FollowsAnyway p plan run step failing last
+    × (lines ≡ anyway_lines p (length plan.steps) step failing last)
+
 -- ---- after each of these
 
 -- a line for the first step that could also mean another operator, if any
@@ -147,6 +180,8 @@ pub record IsWhy (p : Parts) (plan : PlanParts) (fault : PlanFault) (lines : Lis
   pub through : StepsSucceed p run
   pub reasons : List Line
   pub are : AreFaultLines p plan run fault reasons
+  pub later : List Line
+  pub follow : AreAnywayLines p plan run (step_made fault) later
   pub others : List Line
   pub may : AreCouldBeLines p run others
-  pub whole : lines ≡ with_lines [] reasons ++ others
+  pub whole : lines ≡ with_lines [] reasons ++ (later ++ others)

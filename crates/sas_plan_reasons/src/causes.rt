@@ -6,7 +6,7 @@ ghost use Rattle.sas_meaning.specs.Places.{places, can_give};
 ghost use Rattle.sas_meaning.specs.Settled.{IsSettled};
 ghost use Rattle.sas_run.specs.Runs.{last_state};
 ghost use Rattle.sas_plan_reasons.specs.Cause.{fails, since_line, failing_lines, can_be_given, keeping_lines, IsCause};
-ghost use Rattle.sas_plan_reasons.specs.Report.{IsReport, IsReportOf, AddsLines, ReportsGivers};
+ghost use Rattle.sas_plan_reasons.specs.Explanation.{IsExplanation, IsExplanationOf, AddsLines, ExplainsGivers};
 
 use crate::history::PlanHistory;
 use crate::origins::{Origins, requires_rules};
@@ -19,7 +19,7 @@ use std::alloc::{AllocError, Global};
 
 /// The lines of reasons so far, and what keeps a line of a rule from standing twice.
 #[derive(Drop)]
-pub struct Report {
+pub struct Explanation {
     pub lines: Items<Line>,
     /// The rules that give derived variables their values, and for which of them there is a line.
     pub origins: Origins,
@@ -31,19 +31,20 @@ pub struct Report {
     pub next: Vec<u32>,
 }
 
-impl Report {
-    /// Returns the report of this state without a line.
+impl Explanation {
+    /// Returns an explanation of this state without a line.
     pub fn new<T: Grounded>(
         alloc: Global,
         task: &Layered<T>,
         state: &State,
-    ) -> Result<Report, AllocError>
+    ) -> Result<Explanation, AllocError>
         requires state { IsState task.now.variables state.now }
         requires settled { IsSettled task.now state.now }
-        ensures report { IfOk result (λ report. IsReport task.now state.now report) }
-        ensures empty { IfOk result (λ report. report.lines ≡ []) }
+        ensures explanation { IfOk result (λ explanation.
+            IsExplanation task.now state.now explanation) }
+        ensures empty { IfOk result (λ explanation. explanation.lines ≡ []) }
     {
-        Ok(Report {
+        Ok(Explanation {
             lines: Items::new(alloc),
             origins: Origins::new(alloc, task, state)?,
             rules: rules_of_variables(alloc, task)?,
@@ -53,29 +54,29 @@ impl Report {
     }
 }
 
-/// Reports the cause of a fact that fails in the last state.
-pub fn report_cause<T: Grounded>(
+/// Explains the cause of a fact that fails in the last state.
+pub fn explain_cause<T: Grounded>(
     task: &Layered<T>,
     history: &PlanHistory,
     fact: Fact,
-    report: &mut Report,
+    explanation: &mut Explanation,
 ) -> Result<(), AllocError>
     requires fact { fact.var < length task.now.variables }
-    requires report { IsReportOf task.now history.now report.old }
-    ensures { OnOk result (AddsLines task.now history.now report.old report.new
+    requires explanation { IsExplanationOf task.now history.now explanation.old }
+    ensures { OnOk result (AddsLines task.now history.now explanation.old explanation.new
         (λ run. IsCause task.now run fact)) }
 {
-    report_values(history, fact, &mut report.lines)?;
-    report_givers(task, fact.var, report)?;
+    explain_values(history, fact, &mut explanation.lines)?;
+    explain_givers(task, fact.var, explanation)?;
     if requires_rules(task, fact) {
-        report_keepers(task, history, fact, report)
+        explain_keepers(task, history, fact, explanation)
     } else {
         Ok(())
     }
 }
 
-/// Reports the required fact, the actual one, and since when it holds.
-fn report_values(
+/// Explains the required fact, the actual one, and since when it holds.
+fn explain_values(
     history: &PlanHistory,
     fact: Fact,
     lines: &mut Items<Line>,
@@ -104,21 +105,21 @@ fn report_values(
     ])
 }
 
-/// Reports which rules derive a variable's value, if it isn't its default.
-fn report_givers<T: Grounded>(
+/// Explains which rules derive a variable's value, if it isn't its default.
+fn explain_givers<T: Grounded>(
     task: &Layered<T>,
     var: u32,
-    report: &mut Report,
+    explanation: &mut Explanation,
 ) -> Result<(), AllocError>
     requires var { var < length task.now.variables }
-    requires report { (s : List ℕ) × IsReport task.now s report.old }
-    ensures { OnOk result ((s : List ℕ) → IsReport task.now s report.old
-        → ReportsGivers task.now s var report.old report.new) }
+    requires explanation { (s : List ℕ) × IsExplanation task.now s explanation.old }
+    ensures { OnOk result ((s : List ℕ) → IsExplanation task.now s explanation.old
+        → ExplainsGivers task.now s var explanation.old explanation.new) }
 {
-    report
+    explanation
         .origins
-        .report_derivation(task, var, &mut report.next)?;
-    push_givers(report.next.as_slice(), &mut report.lines)
+        .explain_derivation(task, var, &mut explanation.next)?;
+    push_givers(explanation.next.as_slice(), &mut explanation.lines)
 }
 
 /// Adds a line for each of the rules.
@@ -132,28 +133,28 @@ fn push_givers(rules: &[u32], lines: &mut Items<Line>) -> Result<(), AllocError>
     Ok(())
 }
 
-/// Reports what the rules of the fact's variable require that fails, or that none of them derives the fact's value.
-fn report_keepers<T: Grounded>(
+/// Explains what the rules of the fact's variable require that fails, or that none of them derives the fact's value.
+fn explain_keepers<T: Grounded>(
     task: &Layered<T>,
     history: &PlanHistory,
     fact: Fact,
-    report: &mut Report,
+    explanation: &mut Explanation,
 ) -> Result<(), AllocError>
     requires fact { fact.var < length task.now.variables }
-    requires report { IsReportOf task.now history.now report.old }
-    ensures { OnOk result (AddsLines task.now history.now report.old report.new
+    requires explanation { IsExplanationOf task.now history.now explanation.old }
+    ensures { OnOk result (AddsLines task.now history.now explanation.old explanation.new
         (λ run lines. lines ≡ keeping_lines task.now (last_state run) fact)) }
 {
     let var = fact.var as usize;
-    let rules = report.rules.get(var);
+    let rules = explanation.rules.get(var);
     if !give_value(task, rules, fact) {
-        return report.lines.push(Line::NoRuleDerives);
+        return explanation.lines.push(Line::NoRuleDerives);
     }
-    if report.kept.as_slice()[var] {
+    if explanation.kept.as_slice()[var] {
         return Ok(());
     }
-    report.kept.set(var, true);
-    push_keepers(task, &history.last, rules, &mut report.lines)
+    explanation.kept.set(var, true);
+    push_keepers(task, &history.last, rules, &mut explanation.lines)
 }
 
 /// Returns whether the rules of the fact's variable that can fire derive the fact's value. All of them derive the same.

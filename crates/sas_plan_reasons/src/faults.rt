@@ -1,18 +1,21 @@
 // Why a plan isn't valid.
-ghost use Rattle.std.specs.Prelude.{◌≡◌, ◌<◌, ◌≤◌, ◌-◌, ◌∷◌, ◌++◌, ℕ, length, All, IfOk, OnOk};
+ghost use Rattle.std.specs.Prelude.{◌≡◌, ◌<◌, ◌≤◌, ◌-◌, ◌∷◌, ◌++◌, ℕ, List, length, All, IfOk, OnOk};
 ghost use Rattle.std.specs.List.{count_by};
 ghost use Rattle.sas_core.specs.declared.parts.Fact.{Fact};
+ghost use Rattle.sas_core.specs.declared.parts.Parts.{Parts};
+ghost use Rattle.sas_answers.specs.declared.line.Line.{Line};
 ghost use Rattle.sas_core.specs.Grounded.{operator_at};
 ghost use Rattle.sas_core.specs.Variables.{IsState};
 ghost use Rattle.sas_meaning.specs.Steps.{Agree};
 ghost use Rattle.sas_plan_reasons.specs.Cause.{fails};
 ghost use Rattle.sas_plan_reasons.specs.Lines.{LineThen};
 ghost use Rattle.sas_run.specs.Runs.{Run};
-ghost use Rattle.sas_plan_reasons.specs.WhyPlan.{AreFailedPreconditionLines, AreOperatorLines, AreConflictLines, AreGoalLines, AreFaultLines, IsWhy, cost_hint, cost_lines, cost_lines_sum};
-ghost use Rattle.sas_plan_reasons.specs.Retracing.{Retraces};
-ghost use Rattle.sas_plan_reasons.specs.Report.{IsBehind, IsReportOf, AddsLines, ReportsOnce};
+ghost use Rattle.sas_plan_reasons.specs.WhyPlan.{AreCouldBeLines, AreFailedPreconditionLines, AreOperatorLines, AreConflictLines, AreGoalLines, AreFaultLines, IsWhy, cost_hint, cost_lines, cost_lines_sum};
+ghost use Rattle.sas_plan_reasons.specs.Retracing.{IsOtherIfAny, Retraces};
+ghost use Rattle.sas_plan_reasons.specs.Explanation.{IsBehind, IsExplanationOf, AddsLines, ExplainsOnce};
 
-use crate::causes::{Report, report_cause};
+use crate::anyway::push_later;
+use crate::causes::{Explanation, explain_cause};
 use crate::conflicts::conflict;
 use crate::history::PlanHistory;
 use crate::nameless::unknown;
@@ -35,13 +38,23 @@ pub fn reasons<P: Stepwise>(
         IsWhy layered.now (P.says plan.now) history.now.fault lines.items) }
 {
     let mut lines = lines_of_fault(alloc, layered, plan, history)?;
-    if let Some(other) = history.other {
-        lines.push(Line::CouldBe {
+    push_later(layered, plan, history, &mut lines)?;
+    push_other(history, &mut lines)?;
+    Ok(lines.into_vec())
+}
+
+/// Adds the line of the step that may mean another operator, if there is one.
+fn push_other(history: &PlanHistory, lines: &mut Items<Line>) -> Result<(), AllocError>
+    ensures { OnOk result ((p : Parts) (run : Run) → IsOtherIfAny p run history.now.other
+        → (more : List Line) × AreCouldBeLines p run more × (lines.new ≡ lines.old ++ more)) }
+{
+    match history.other {
+        Some(other) => lines.push(Line::CouldBe {
             step: other.step,
             operator: other.operator,
-        })?;
+        }),
+        None => Ok(()),
     }
-    Ok(lines.into_vec())
 }
 
 /// Returns the lines of the fault.
@@ -54,7 +67,7 @@ fn lines_of_fault<P: Stepwise>(
     requires { (run : Run) × Retraces layered.now (P.says plan.now) history.now run }
     ensures { IfOk result (λ lines. (run : Run)
         → Retraces layered.now (P.says plan.now) history.now run
-        → ReportsOnce lines (AreFaultLines layered.now (P.says plan.now) run history.now.fault)) }
+        → ExplainsOnce lines (AreFaultLines layered.now (P.says plan.now) run history.now.fault)) }
 {
     // By its contract the task is well ranged and layered.
     let _ = layered.task();
@@ -84,34 +97,34 @@ fn blocked<T: Grounded>(
 ) -> Result<Items<Line>, AllocError>
     requires { (run : Run) × IsBehind task.now history.now run }
     ensures { IfOk result (λ lines. (run : Run) → IsBehind task.now history.now run
-        → ReportsOnce lines (LineThen (Line.Step step) (AreOperatorLines task.now run name.now))) }
+        → ExplainsOnce lines (LineThen (Line.Step step) (AreOperatorLines task.now run name.now))) }
 {
-    let mut report = Report::new(alloc, task, &history.last)?;
-    report.lines.push(Line::Step { step })?;
+    let mut explanation = Explanation::new(alloc, task, &history.last)?;
+    explanation.lines.push(Line::Step { step })?;
     for operator in 0..task.operators() {
         if task.name(operator) == name {
-            report_inapplicable(task, history, operator, &mut report)?;
+            explain_inapplicable(task, history, operator, &mut explanation)?;
         }
     }
-    Ok(report.lines)
+    Ok(explanation.lines)
 }
 
-/// Reports the operator, and the cause of each of its preconditions that fails.
-fn report_inapplicable<T: Grounded>(
+/// Explains the operator, and the cause of each of its preconditions that fails.
+fn explain_inapplicable<T: Grounded>(
     layered: &Layered<T>,
     history: &PlanHistory,
     operator: u32,
-    report: &mut Report,
+    explanation: &mut Explanation,
 ) -> Result<(), AllocError>
     requires operator { operator < length layered.now.operators }
-    requires report { IsReportOf layered.now history.now report.old }
-    ensures { OnOk result (AddsLines layered.now history.now report.old report.new
+    requires explanation { IsExplanationOf layered.now history.now explanation.old }
+    ensures { OnOk result (AddsLines layered.now history.now explanation.old explanation.new
         (λ run. AreFailedPreconditionLines layered.now run operator)) }
 {
-    report.lines.push(Line::Operator { operator })?;
+    explanation.lines.push(Line::Operator { operator })?;
     for fact in Preconditions::new(layered.task(), operator) {
         if history.last.value(fact.var) != fact.value {
-            report_cause(layered, history, fact, report)?;
+            explain_cause(layered, history, fact, explanation)?;
         }
     }
     Ok(())
@@ -129,7 +142,7 @@ fn conflicting<T: Grounded>(
     requires state { IsState task.now.variables state.now }
     requires disagree { Agree state.now (operator_at task.now operator).effects → ⊥ }
     ensures { IfOk result (λ lines.
-        ReportsOnce lines (LineThen (Line.Step step)
+        ExplainsOnce lines (LineThen (Line.Step step)
         (AreConflictLines task.now state.now operator))) }
 {
     let clash = conflict(alloc, task, operator, state)?;
@@ -157,41 +170,41 @@ fn missed<T: Grounded>(
 ) -> Result<Items<Line>, AllocError>
     requires { (run : Run) × IsBehind task.now history.now run }
     ensures { IfOk result (λ lines. (run : Run) → IsBehind task.now history.now run
-        → ReportsOnce lines (AreGoalLines task.now run)) }
+        → ExplainsOnce lines (AreGoalLines task.now run)) }
 {
-    let mut report = Report::new(alloc, task, &history.last)?;
-    report_missed(task, history, &mut report)?;
-    Ok(report.lines)
+    let mut explanation = Explanation::new(alloc, task, &history.last)?;
+    explain_missed(task, history, &mut explanation)?;
+    Ok(explanation.lines)
 }
 
-/// Reports how many goal facts fail, and each of them with its cause.
-fn report_missed<T: Grounded>(
+/// Explains how many goal facts fail, and each of them with its cause.
+fn explain_missed<T: Grounded>(
     layered: &Layered<T>,
     history: &PlanHistory,
-    report: &mut Report,
+    explanation: &mut Explanation,
 ) -> Result<(), AllocError>
-    requires { IsReportOf layered.now history.now report.old }
-    ensures { OnOk result (AddsLines layered.now history.now report.old report.new
+    requires { IsExplanationOf layered.now history.now explanation.old }
+    ensures { OnOk result (AddsLines layered.now history.now explanation.old explanation.new
         (AreGoalLines layered.now)) }
 {
     let goal = layered.task().goal();
-    report.lines.push(Line::FailingGoalFacts {
+    explanation.lines.push(Line::FailingGoalFacts {
         count: count_failing(&history.last, goal),
         facts: goal.len(),
     })?;
     for (index, fact) in goal.iter().enumerate() {
         if history.last.value(fact.var) != fact.value {
-            report.lines.push(Line::GoalFact {
+            explanation.lines.push(Line::GoalFact {
                 index: index as u32,
             })?;
-            report_cause(layered, history, *fact, report)?;
+            explain_cause(layered, history, *fact, explanation)?;
         }
     }
     Ok(())
 }
 
 /// Returns how many of the facts fail in the state.
-fn count_failing(state: &State, facts: &[Fact]) -> usize
+pub fn count_failing(state: &State, facts: &[Fact]) -> usize
     requires { All (λ (f : Fact). f.var < length state.now) facts.now }
     ensures { result ≡ count_by (fails state.now) facts.now }
 {

@@ -1,8 +1,8 @@
 // What is noted of a plan as its steps are made once more.
-ghost use Rattle.std.specs.Prelude.{◌≡◌, ◌<◌, length, IfOk, [], None};
+ghost use Rattle.std.specs.Prelude.{◌≡◌, ◌<◌, ℕ, List, length, IfOk, [], None};
 ghost use Rattle.sas_core.specs.Variables.{IsState};
 ghost use Rattle.sas_core.specs.Grounded.{operator_at};
-ghost use Rattle.sas_meaning.specs.InitialStates.{IsInitial};
+ghost use Rattle.sas_meaning.specs.Settled.{Settles};
 ghost use Rattle.sas_names.specs.Chains.{IsChain};
 ghost use Rattle.sas_plan_reasons.specs.Noting.{AddsOther, HasNoted};
 
@@ -11,7 +11,7 @@ use crate::listing::Listing;
 use crate::nameless::NamelessSteps;
 use sas_core::Grounded;
 use sas_meaning::{Layered, State};
-use sas_run::{Observer, PlanFault, later_applicable};
+use sas_run::{Anyway, Observer, PlanFault, later_applicable};
 use std::alloc::{AllocError, Global};
 
 /// A step of a plan, counted from 1, and an operator that it may mean besides the one that it means.
@@ -36,6 +36,8 @@ pub struct PlanHistory {
     pub since: Vec<usize>,
     /// The first of these steps that may mean another operator, and the lowest such operator.
     pub other: Option<OtherOperator>,
+    /// What follows if the step that fails is made anyway, if the fault is that of a step that names an operator.
+    pub anyway: Option<Anyway>,
 }
 
 /// Notes since when each variable has its value, and which other operator a step may mean.
@@ -57,8 +59,9 @@ impl<'n> Historian<'n> {
         nexts: &'n [Option<u32>],
         state: &State,
     ) -> Result<Historian<'n>, AllocError>
-        requires { IsInitial task.now state.now }
-        ensures none { IfOk result (λ h. HasNoted task.now h h []) }
+        requires { IsState task.now.variables state.now }
+        ensures none { IfOk result (λ h. (start : List ℕ) → Settles task.now start state.now
+            → HasNoted task.now start h h []) }
         ensures nexts { IfOk result (λ h. h.nexts.now ≡ nexts.now) }
     {
         Ok(Historian {

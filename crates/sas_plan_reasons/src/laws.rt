@@ -137,7 +137,7 @@ pub fn cause_laws()
 
 /// Ensures that each fault of a plan of a layered task has exactly one list of reasons.
 pub fn why_laws()
-    ensures some { (p : Parts) (plan : PlanParts) (fault : PlanFault) → IsLayered p
+    ensures some { (p : Parts) (plan : PlanParts) (fault : PlanFault) → WellRanged p → IsLayered p
         → IsFaultOf p plan fault → (lines : List Line) × IsWhy p plan fault lines }
     ensures one { (p : Parts) (plan : PlanParts) (fault : PlanFault) (a b : List Line) → IsLayered p
         → IsWhy p plan fault a → IsWhy p plan fault b → a ≡ b }

@@ -2,6 +2,7 @@
 //! read.
 #![tactic(auto)]
 
+mod anyway;
 mod causes;
 mod changes;
 mod conflicts;
@@ -14,6 +15,8 @@ mod loaded_task;
 mod nameless;
 mod order;
 mod origins;
+mod replays;
+mod running;
 mod similar;
 mod tracing;
 mod verdicts;

@@ -87,7 +87,8 @@ impl Listing {
 
     /// Adds these derived variables to the list.
     fn list_derived(&mut self, derived: &[u32])
-        requires room { length self.old.vars.items + length derived.now ≤ vec_capacity self.old.vars }
+        requires room { length self.old.vars.items + length derived.now
+            ≤ vec_capacity self.old.vars }
         ensures vars { self.new.vars.items ≡ self.old.vars.items ++ derived.now }
         ensures room { vec_capacity self.old.vars ≤ vec_capacity self.new.vars }
         ensures rest { self.new ≡ record self.old { vars = self.new.vars } }

@@ -3,7 +3,7 @@ ghost use Rattle.std.specs.Prelude.{◌≡◌, ◌==◌, ◌&&◌, ◌++◌, ◌
 ghost use Rattle.sas_core.specs.Stepwise.{step_at};
 ghost use Rattle.sas_names.specs.Names.{AreFirsts};
 ghost use Rattle.sas_plan_reasons.specs.MayMean.{similar_operator};
-ghost use Rattle.sas_plan_reasons.specs.Report.{ReportsOnce};
+ghost use Rattle.sas_plan_reasons.specs.Explanation.{ExplainsOnce};
 ghost use Rattle.sas_plan_reasons.specs.Retracing.{AreNameless};
 ghost use Rattle.sas_plan_reasons.specs.WhyPlan.{first_nameless, nameless_lines, nameless_step_lines};
 
@@ -72,7 +72,7 @@ pub fn unknown<T: Grounded, P: Stepwise>(
     nameless: &NamelessSteps,
 ) -> Result<Items<Line>, AllocError>
     requires { AreNameless task.now (P.says plan.now).steps nameless.now }
-    ensures { IfOk result (λ lines. ReportsOnce lines (λ its.
+    ensures { IfOk result (λ lines. ExplainsOnce lines (λ its.
         its ≡ nameless_lines task.now (P.says plan.now))) }
 {
     let count = nameless.count;

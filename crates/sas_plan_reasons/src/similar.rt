@@ -94,7 +94,8 @@ fn sorted_parts<'t>(alloc: Global, text: &'t [u8]) -> Result<Vec<&'t [u8]>, Allo
 
 /// Returns whether the words are the same, in the same order.
 fn are_same(words: &[&[u8]], others: &[&[u8]]) -> bool
-    ensures { IsTrue result ↔ (map (λ word. word.now) words.now ≡ map (λ word. word.now) others.now) }
+    ensures { IsTrue result
+        ↔ (map (λ word. word.now) words.now ≡ map (λ word. word.now) others.now) }
 {
     if words.len() != others.len() {
         return false;

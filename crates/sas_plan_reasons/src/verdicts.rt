@@ -2,20 +2,22 @@
 ghost use Rattle.std.specs.Prelude.{◌≡◌, false, IfOk, IsSomeAnd};
 ghost use Rattle.sas_answers.specs.Answers.{VerdictAnswer};
 ghost use Rattle.sas_answers.specs.Ending.{EndsCounting, Writes, output_of};
+ghost use Rattle.sas_answers.specs.NumberedPlans.{AnswerFrom};
 ghost use Rattle.sas_run.specs.Choosers.{HaveOperators};
+ghost use Rattle.sas_run.specs.Starts.{IsStart, start_of};
 ghost use Rattle.sas_run.specs.Stepping.{IsPrepared};
 ghost use Rattle.sas_plan_reasons.specs.VerdictBy.{VerdictBy};
 
 use crate::detail::Detail;
 use crate::writing::{write_explained, write_trace};
-use sas_answers::{Answer, Status, ToolFault, accept_plan, answer_fault};
+use sas_answers::{Answer, Status, ToolFault, accept_plan, answer_fault, answer_number_fault};
 use sas_axioms::Worklist;
 use sas_core::Stepwise;
 use sas_flat::{FlatPlan, FlatTask};
 use sas_lines::Watched;
 use sas_meaning::{Layered, Settle};
 use sas_names::StepOperators;
-use sas_run::{LongChains, NamedPlan, Stepper, check, stepper_for};
+use sas_run::{LongChains, NamedPlan, NumberedPlan, Stepper, check, stepper_for};
 use std::alloc::{AllocError, Global};
 use std::io::Write;
 
@@ -78,7 +80,7 @@ pub fn answer_named<W: Write, E: Settle<FlatTask> + Drop>(
 }
 
 /// Returns the answer about a plan whose names are known: one line.
-pub fn verdict_answer<E: Settle<FlatTask> + Drop>(
+fn verdict_answer<E: Settle<FlatTask> + Drop>(
     alloc: Global,
     stepper: &mut Stepper<E>,
     named: &NamedPlan<'_, FlatTask, FlatPlan>,
@@ -93,5 +95,24 @@ pub fn verdict_answer<E: Settle<FlatTask> + Drop>(
     match check(alloc, named.task, stepper, named) {
         Ok(_) => accept_plan(alloc, named.plan.steps(), named.plan.cost()),
         Err(fault) => answer_fault(alloc, named.plan.cost(), fault),
+    }
+}
+
+/// Returns the answer about a plan by numbers, whose start is a state: one line.
+pub fn number_answer<E: Settle<FlatTask> + Drop>(
+    alloc: Global,
+    task: &Layered<FlatTask>,
+    stepper: &mut Stepper<E>,
+    plan: &NumberedPlan<'_>,
+) -> Result<Answer, AllocError>
+    requires prepared { IsPrepared E.ready task.now stepper.old }
+    requires start { IsStart task.now plan.now.start.now }
+    ensures prepared { IsPrepared E.ready task.now stepper.new }
+    ensures answer { IfOk result (λ a. AnswerFrom task.now (start_of task.now plan.now.start.now)
+        plan.now.operators.now plan.now.cost (output_of a)) }
+{
+    match check(alloc, task, stepper, plan) {
+        Ok(_) => accept_plan(alloc, plan.operators.len(), plan.cost),
+        Err(fault) => answer_number_fault(alloc, plan.cost, fault),
     }
 }

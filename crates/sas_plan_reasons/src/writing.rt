@@ -13,19 +13,20 @@ ghost use Rattle.sas_plan_reasons.specs.Retracing.{Retraces, ComesUnambiguously}
 ghost use Rattle.sas_plan_reasons.specs.Traced.{EndsWith, TraceVerdict};
 ghost use Rattle.sas_plan_reasons.specs.Verdict.{WhyVerdict, MakeAnswer};
 
+use crate::anyway::follow;
 use crate::faults::reasons;
 use crate::history::{Historian, PlanHistory};
 use crate::nameless::{NamelessSteps, unknown};
-use crate::tracing::{Printed, Tracer};
+use crate::replays::{Replay, write_replay};
 use sas_answers::{
-    Answer, Line, NameSource, Pieces, Status, ToolFault, accept_plan, answer_fault, write_reasons,
+    Answer, Line, NameSource, Status, ToolFault, accept_plan, answer_fault, write_reasons,
 };
 use sas_core::Stepwise;
 use sas_flat::{FlatPlan, FlatTask};
 use sas_lines::Watched;
 use sas_meaning::Settle;
 use sas_names::next_in;
-use sas_run::{NamedPlan, PlanEnd, PlanFault, Stepper, find_end, initial_of, replay};
+use sas_run::{NamedPlan, NumberedPlan, PlanEnd, PlanFault, Stepper, find_end, initial_of, replay};
 use std::alloc::{AllocError, Global};
 use std::io::Write;
 
@@ -152,14 +153,14 @@ fn retrace<E: Settle<FlatTask> + Drop>(
     let nameless = NamelessSteps::new(alloc, named.task, named.firsts)?;
     let mut last = initial_of(alloc, named.task, stepper)?;
     let mut noted = Historian::new(alloc, named.task, named.nexts, &last)?;
-    replay(
-        named.task,
-        stepper,
-        operators.as_slice(),
-        &mut last,
-        &mut noted,
-    );
+    let made = NumberedPlan {
+        operators: operators.as_slice(),
+        cost: 0,
+        start: &[],
+    };
+    replay(named.task, stepper, &made, &mut last, &mut noted);
     let (since, other) = noted.into_parts();
+    let anyway = follow(alloc, stepper, named, fault, &last)?;
     Ok(PlanHistory {
         fault,
         nameless,
@@ -167,6 +168,7 @@ fn retrace<E: Settle<FlatTask> + Drop>(
         last,
         since,
         other,
+        anyway,
     })
 }
 
@@ -233,31 +235,20 @@ pub fn write_trace<W: Write, E: Settle<FlatTask> + Drop>(
         (TraceVerdict with_reasons named.now.task.now named.now.plan.now)))
         out.old out.new result }
 {
-    // What takes memory comes first.
     let end = find_end(alloc, named.task, stepper, named)?;
     let (verdict, reasons) = answer_end(alloc, with_reasons, stepper, named, &end)?;
-    let mut state = initial_of(alloc, named.task, stepper)?;
-    let mut printed = Printed::new(alloc, named.task, &state)?;
-    let mut pieces = Pieces::new(alloc)?;
-    let source = NameSource {
-        task: named.task.task(),
+    let its = Replay {
+        task: named.task,
+        verdict: &verdict,
+        reasons: reasons.as_slice(),
         plan: Some(named.plan),
     };
-    let ended = {
-        let mut tracer = Tracer::new(verdict.status, &mut printed, &mut pieces, out);
-        tracer.push_initial(named.task, &state);
-        replay(
-            named.task,
-            stepper,
-            end.operators.as_slice(),
-            &mut state,
-            &mut tracer,
-        );
-        tracer.push_answer(verdict.text.as_slice(), &source, reasons.as_slice());
-        tracer.finish()
+    let made = NumberedPlan {
+        operators: end.operators.as_slice(),
+        cost: 0,
+        start: &[],
     };
-    drop(printed);
-    drop(pieces);
+    let ended = write_replay(alloc, stepper, &its, &made, out);
     drop(reasons);
     drop(verdict);
     ended

@@ -55,14 +55,14 @@ module _ {T V I S M : Type 0} (F : Format V I S) (Fits : I → Type 0) (node : T
     stands = at_end h.reached.led h.open_still h.kind;
   }
 
-  pub reported_by : (limit : ℕ) (bytes : List ℕ) (r : Refusal M) → ConcernsText r.fault.kind → IsRefused B limit bytes r → Answer limit bytes r.fault r.machine r.found
-  reported_by limit bytes r reported (inl h) = fault_reported limit bytes r.fault r.machine r.found reported h h.stops
-  reported_by limit bytes r reported (inr h) = end_reported limit bytes r.fault r.machine r.found h
+  pub explained_by : (limit : ℕ) (bytes : List ℕ) (r : Refusal M) → ConcernsText r.fault.kind → IsRefused B limit bytes r → Answer limit bytes r.fault r.machine r.found
+  explained_by limit bytes r reported (inl h) = fault_reported limit bytes r.fault r.machine r.found reported h h.stops
+  explained_by limit bytes r reported (inr h) = end_reported limit bytes r.fault r.machine r.found h
 
   device_reported : (bytes : List ℕ) (End : Type 0) (r : Refusal M) → ConcernsText r.fault.kind → ReadFails B most_bytes bytes End r → Answer most_bytes bytes r.fault r.machine r.found
   device_reported bytes End r reported (unread m h l n k) = absurd (reported.0 k)
-  device_reported bytes End r reported (early e h) = reported_by most_bytes bytes r reported (inr h)
-  device_reported bytes End r reported (faulty h ne) = reported_by most_bytes bytes r reported (inl h)
+  device_reported bytes End r reported (early e h) = explained_by most_bytes bytes r reported (inr h)
+  device_reported bytes End r reported (faulty h ne) = explained_by most_bytes bytes r reported (inl h)
 
   -- ---- a refusal X that is made from that of the machine
 
@@ -80,8 +80,8 @@ module _ {T V I S M : Type 0} (F : Format V I S) (Fits : I → Type 0) (node : T
     pub refuses_explained : {D A : Type 0} (left : D → Option (List ℕ)) (Gives : List ℕ → A → Type 0) (old new : Device D) → FeedsMachine B left most_bytes old new (Err r) → ReadsOrExplains F fault found Why left Gives old new (Err x)
     refuses_explained left Gives old new h = record {
       plain = subst (λ (f : Fault). ReadsAll left F Gives old new (Err f)) (sym same) (refuses_all F Fits node start g B follows left Gives old new r h);
-      explained = λ is_reported.
-          let reported : ConcernsText r.fault.kind = subst (λ (f : Fault). ConcernsText f.kind) same is_reported in
+      explained = λ is_explained.
+          let reported : ConcernsText r.fault.kind = subst (λ (f : Fault). ConcernsText f.kind) same is_explained in
           let t = h.refused reported.2 in
           let End = IsAtEnd (left new.device) in (
             t.0,

@@ -9,8 +9,57 @@ use sas_lines::Watched;
 use std::alloc::Global;
 use std::io::Read;
 
-/// How many bytes are read at a time, if there is memory for them.
+/// How many bytes are read at a time.
+const SMALL: usize = 4096;
+
+/// How many are, if there is memory for them, once a read gave as many as a small piece has.
 const LARGE: usize = 65_536;
+
+/// Where the bytes of a device are read into.
+#[derive(Drop)]
+struct Room {
+    small: [u8; SMALL],
+    /// The room for larger pieces, once there is one.
+    large: Vec<u8>,
+    /// What the larger room is to be made with, if there may be one.
+    grows: Option<Global>,
+}
+
+impl Room {
+    /// Returns a small room, which may `grow` if an allocator is given for that.
+    fn new(alloc: Global, grows: Option<Global>) -> Room {
+        Room {
+            small: [0; SMALL],
+            large: Vec::new(alloc),
+            grows,
+        }
+    }
+
+    /// Returns the bytes to read into.
+    #[inline(always)]
+    fn bytes(&mut self) -> &mut [u8]
+        ensures { 0 < length result.now }
+    {
+        if self.large.is_empty() {
+            &mut self.small
+        } else {
+            self.large.as_mut_slice()
+        }
+    }
+
+    /// Makes the room large, if it may grow, if a piece of so many bytes filled the small one, and if there is memory.
+    #[inline(always)]
+    fn grow(&mut self, taken: usize) {
+        if taken == SMALL
+            && let Some(alloc) = self.grows
+        {
+            self.grows = None;
+            if let Ok(large) = vec![in alloc; 0u8; LARGE] {
+                self.large = large;
+            }
+        }
+    }
+}
 
 /// Reads the device to its end or to the first fault, in pieces of at most 4,096 bytes. Feeds all lines to the machine, which must have
 /// accepted no line yet, and returns the machine.
@@ -29,12 +78,11 @@ pub fn read_all<M: Machine, R: Read>(
     requires start { M.behavior.led_by [] machine }
     ensures { FeedsMachine M.behavior R.remaining limit device.old device.new result }
 {
-    let mut buffer = [0u8; 4096];
-    feed_all(Reader::new(alloc, machine, limit), device, &mut buffer)
+    let reader = Reader::new(alloc, machine, limit);
+    feed_all(reader, device, Room::new(alloc, None))
 }
 
-/// Like `read_all`, but reads pieces of at most 65,536 bytes. If there is no memory for such a piece, reads pieces of at most 4,096 bytes
-/// instead.
+/// Like `read_all`, but after a first piece of 4,096 bytes reads pieces of at most 65,536 bytes, if there is memory for them.
 pub fn read_all_large<M: Machine, R: Read>(
     alloc: Global,
     machine: M,
@@ -46,29 +94,23 @@ pub fn read_all_large<M: Machine, R: Read>(
     requires start { M.behavior.led_by [] machine }
     ensures { FeedsMachine M.behavior R.remaining limit device.old device.new result }
 {
-    match vec![in alloc; 0u8; LARGE] {
-        Ok(mut buffer) => feed_all(
-            Reader::new(alloc, machine, limit),
-            device,
-            buffer.as_mut_slice(),
-        ),
-        Err(_) => read_all(alloc, machine, limit, device),
-    }
+    let reader = Reader::new(alloc, machine, limit);
+    feed_all(reader, device, Room::new(alloc, Some(alloc)))
 }
 
-/// Feeds the bytes of the device to the reader, to the end or to the first fault, in pieces that fit into the buffer.
+/// Feeds the bytes of the device to the reader, to the end or to the first fault, in pieces that fit into the room.
 fn feed_all<M: Machine, R: Read>(
     mut reader: Reader<M>,
     device: &mut Watched<R>,
-    buffer: &mut [u8],
+    mut room: Room,
 ) -> Result<M, Refusal<M>>
     requires note { device.old.failed ≡ false }
-    requires room { 0 < length buffer.old }
     requires stands { Stands M.behavior reader [] }
     requires fault { reader.fault ≡ None }
     ensures { FeedsMachine M.behavior R.remaining reader.limit device.old device.new result }
 {
     loop {
+        let buffer = room.bytes();
         let taken = match device.take(buffer) {
             Ok(n) => n,
             Err(_) => {
@@ -85,5 +127,6 @@ fn feed_all<M: Machine, R: Read>(
         if let Err(fault) = reader.feed(&buffer[..taken]) {
             return Err(reader.refused(fault));
         }
+        room.grow(taken);
     }
 }

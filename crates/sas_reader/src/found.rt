@@ -67,7 +67,12 @@ impl Excerpt {
 
     /// Keeps the first bytes of the text.
     fn front_of(text: &[u8]) -> Excerpt
-        ensures { kept_in result ≡ record { front = take 65 text.now; cost = false; semicolon = false; inner_return = false } }
+        ensures { kept_in result ≡ record {
+          front = take 65 text.now;
+          cost = false;
+          semicolon = false;
+          inner_return = false;
+        } }
     {
         let kept = &text[..text.len().min(KEPT)];
         let mut bytes = [0u8; KEPT];

@@ -3,7 +3,7 @@ use Rattle.std.proofs.lemmas.Grind.{common_steps}
 use Rattle.std.proofs.Common.{arith, ap}
 use Rattle.sas_reader.specs.Found.{Kept}
 use Rattle.sas_requests.specs.FileLine.{task_reasons, plan_reasons}
-use Rattle.sas_requests.proofs.Imports.{◌≡◌, ◌≢◌, ℕ, true, false, List, [], refl, sym, subst, ◌∙◌, inr, codes, Option, Some, None, Result, Ok, Err, IsErrOf, IsSomeAnd, ◌↔◌, Consumes, IsAtEnd, Parts, PlanParts, first_fault, LayerFault, layer_checks, Device, Fault, TooLong, Read, Memory, Excerpt, ReadsAll, ValueOf, Format, ReadsAs, Bool, FileBy, TaskBy, PlanBy, UnlayeredBy, layers_by, refusal_by, task_refusal_lines, plan_refusal_lines, FaultReasons, reported, past_limit, FileReasons, AreTaskReasons, ArePlanReasons, IsAbout, IsFoundOf, most_bytes, ConcernsText, AboutLaws, ExplainsRefusal, ReadsOrExplains, known_answer, known_fault, known_explained, PlanRefusal, plan_format, fault_of, found_of, TellsLacks, ReadsPlan, less, task_format, TaskRefusal, fault_in, found_in, HasReason, ReadsTask, FileLine, file_text, Status, ToolFault, Output, Ends, EndsCounting, IsDecided, Writes, Answers, ends_by, writes_as, writes_counting, writes_answers, answers_by, not_memory, refusal, IsAnswerOrRefusal, FileOut, EndsFile}
+use Rattle.sas_requests.proofs.Imports.{◌≡◌, ◌≢◌, ℕ, true, false, List, [], refl, sym, subst, ◌∙◌, inr, codes, Option, Some, None, Result, Ok, Err, IsErrOf, IsSomeAnd, ◌↔◌, Consumes, IsAtEnd, Parts, PlanParts, first_fault, LayerFault, layer_checks, Device, Fault, TooLong, Read, Memory, Excerpt, ReadsAll, ValueOf, Format, ReadsAs, Bool, FileBy, TaskBy, PlanBy, UnlayeredBy, layers_by, refusal_by, task_refusal_lines, plan_refusal_lines, FaultReasons, reported, past_limit, FileReasons, AreTaskReasons, ArePlanReasons, IsAbout, IsFoundOf, most_bytes, ConcernsText, AboutLaws, ExplainsRefusal, ReadsOrExplains, known_answer, known_fault, known_explained, PlanRefusal, plan_format, fault_of, found_of, TellsLacks, ReadsPlan, less, task_format, TaskRefusal, fault_in, found_in, HasReason, ReadsTask, FileLine, file_text, Status, ToolFault, Output, Ends, EndsCounting, IsDecided, Writes, Answers, ends_by, writes_as, writes_counting, writes_answers, answers_by, not_memory, refusal, IsAnswerOrRefusal, FileOut, EndsFile, HoldsOf}
 use Rattle.sas_plan_file.specs.PlanRefusal.{ExplainsPlan}
 use Rattle.sas_requests.proofs.Outputs.{refused_kind, too_long_else, reading_of_refusal}
 use Rattle.sas_requests.proofs.PlanOutputs.{reported_fault}
@@ -36,7 +36,7 @@ starved contents old o working = record { ends = tt; nothing = inr (refl, refl);
 
 module _ {V I S : Type 0} (F : Format V I S) (Reports : List ℕ → Fault → List (List ℕ) → List ℕ → List FileLine → Type 0) (name : List ℕ) where
   -- an answer about their value
-  value_by : (explains : Bool) (IsAnswer : V → Output → Type 0) (b : List ℕ) (v : V) (o : Output) → ReadsAs F most_bytes b (Ok v) → IsAnswer v o → FileBy F Reports name explains IsAnswer b (Some o)
+  pub value_by : (explains : Bool) (IsAnswer : V → Output → Type 0) (b : List ℕ) (v : V) (o : Output) → ReadsAs F most_bytes b (Ok v) → IsAnswer v o → FileBy F Reports name explains IsAnswer b (Some o)
   value_by explains IsAnswer b v o reads is =
       reasoned_by explains (FileOut F name IsAnswer b) (FileReasons F Reports b) (Some o) (Some o) [] (Ok v, reads, (o, is, refl)) (Ok v, reads, refl) (reported_alone explains (Some o))
 
@@ -89,10 +89,10 @@ module _ {V I S : Type 0} (F : Format V I S) (Reports : List ℕ → Fault → L
 
     module _ (explains : Bool) (IsAnswer : V → Output → Type 0) (b : List ℕ) (reads : (fault r).kind ≢ Memory → (fault r).kind ≢ Read → ReadsAs F most_bytes b (Err (fault r)))
         (explained : ConcernsText (fault r).kind → ExplainsRefusal F fault found Answer b r) where
-      some_out : (o : Output) → Some o ≡ refusal_by explains name (fault r) reasons → FileBy F Reports name explains IsAnswer b (Some o)
+      pub some_out : (o : Output) → Some o ≡ refusal_by explains name (fault r) reasons → FileBy F Reports name explains IsAnswer b (Some o)
       some_out o is = (let kind = reported_kind (fault r) reasons explains o is in refused_by (fault r) reasons explains IsAnswer b (reads kind.2 kind.0) o is (reasons_of b kind (explained kind)))
 
-      none_out : (fault r).kind ≡ TooLong → FileBy F Reports name explains IsAnswer b None
+      pub none_out : (fault r).kind ≡ TooLong → FileBy F Reports name explains IsAnswer b None
       none_out long = long_by (fault r) reasons explains IsAnswer b (reads (long_memory long) (long_read long)) long
 
       pub refusal_ends : (Sent : List ℕ → Type 0) (result : Result Status ToolFault) → Ends (λ o. o ≡ refusal_by explains name (fault r) reasons) Sent result
@@ -143,33 +143,33 @@ module _ {D V I S A W : Type 0} (left : D → Option (List ℕ)) (F : Format V I
     plain : ReadsAll left F Gives old new (Err (fault r))
     plain = h.plain
 
-    taken_out : (o : Output) → Some o ≡ refusal_by explains name (fault r) reasons → (b : List ℕ) × Consumes (left old.device) (left new.device) b × FileOutput b (Some o)
+    pub taken_out : (o : Output) → Some o ≡ refusal_by explains name (fault r) reasons → (b : List ℕ) × Consumes (left old.device) (left new.device) b × FileOutput b (Some o)
     taken_out o is =
         let kind = reported_kind F Reports name (fault r) reasons explains o is in
         let x = h.explained kind in
         (x.0, x.1, refused_by F Reports name (fault r) reasons explains IsAnswer x.0 (reading_of_refusal F x.0 (IsAtEnd (left new.device)) (fault r) x.2 kind.0) o is (reasons_of F Reports name fault found Answer r reasons reports x.0 kind x.3))
 
-    taken_long : (fault r).kind ≡ TooLong → (b : List ℕ) × Consumes (left old.device) (left new.device) b × FileOutput b None
+    pub taken_long : (fault r).kind ≡ TooLong → (b : List ℕ) × Consumes (left old.device) (left new.device) b × FileOutput b None
     taken_long long =
         let x = plain.fault (too_long_else (fault r).kind Memory long (λ e. absurd cc)) in
         (x.0, x.1, long_by F Reports name (fault r) reasons explains IsAnswer x.0 (reading_of_refusal F x.0 (IsAtEnd (left new.device)) (fault r) x.2 (too_long_else (fault r).kind Read long (λ e. absurd cc))) long)
 
-    abbrev ReportsFault : (List ℕ → Type 0) → Result Status ToolFault → Type 0
-    ReportsFault = Ends (λ o. o ≡ refusal_by explains name (fault r) reasons)
+    abbrev RefusesFault : (List ℕ → Type 0) → Result Status ToolFault → Type 0
+    RefusesFault = Ends (λ o. o ≡ refusal_by explains name (fault r) reasons)
 
-    known_ends : (Sent : List ℕ → Type 0) (result : Result Status ToolFault) → ReportsFault Sent result → (IsErrOf result tool_fault.TooLong → (fault r).kind ≡ TooLong) → (b : List ℕ) → left old.device ≡ Some b → EndsCounting (FileOutput b) Sent result
+    known_ends : (Sent : List ℕ → Type 0) (result : Result Status ToolFault) → RefusesFault Sent result → (IsErrOf result tool_fault.TooLong → (fault r).kind ≡ TooLong) → (b : List ℕ) → left old.device ≡ Some b → EndsCounting (FileOutput b) Sent result
     known_ends Sent result ends long b known =
         refusal_ends F Reports name fault found Answer r reasons reports explains IsAnswer b (λ memory read. known_fault left F Gives old new (fault r) b plain known memory read)
         (λ kind. known_explained left F fault found Answer Gives old new r b reporting h known kind) Sent result ends long
 
-    taken_ends : (Sent : List ℕ → Type 0) (result : Result Status ToolFault) → ReportsFault Sent result → (IsErrOf result tool_fault.TooLong → (fault r).kind ≡ TooLong) → IsDecided result
+    taken_ends : (Sent : List ℕ → Type 0) (result : Result Status ToolFault) → RefusesFault Sent result → (IsErrOf result tool_fault.TooLong → (fault r).kind ≡ TooLong) → IsDecided result
         → (b : List ℕ) × Consumes (left old.device) (left new.device) b × EndsCounting (FileOutput b) Sent result
     taken_ends h1 h2 h3 long decided = grind (arith, taken_out, less, taken_long)
 
     -- a fault is refused, or the run ends at it
     pub answers_refused : (result : Result Status ToolFault) → (IsErrOf result tool_fault.TooLong → (fault r).kind ≡ TooLong) → IsErrOf result tool_fault.Read ↔ ((fault r).kind ≡ Read)
-        → Answers contents ReportsFault out_old out_new result → Answers contents (EndsFile left FileOutput old new) out_old out_new result
-    answers_refused result long reads = answers_by contents out_old out_new result ReportsFault (EndsFile left FileOutput old new) (λ Sent ends. record {
+        → Answers contents RefusesFault out_old out_new result → Answers contents (EndsFile left FileOutput old new) out_old out_new result
+    answers_refused result long reads = answers_by contents out_old out_new result RefusesFault (EndsFile left FileOutput old new) (λ Sent ends. record {
       output = λ b known. known_ends Sent result ends long b known;
       taken = λ decided. taken_ends Sent result ends long decided;
       reads = (λ e. plain.note.0 (reads.0 e), λ t. reads.1 (plain.note.1 t));
@@ -219,6 +219,28 @@ module _ {D A W : Type 0} (left : D → Option (List ℕ)) (Gives : List ℕ →
       → Answers contents (EndsFile left (PlanBy explains IsAnswer) old new) out_old out_new result
   plan_refused IsAnswer r result h refused long reads =
       answers_refused left plan_format ArePlanReasons Gives (codes "plan") explains IsAnswer old new contents out_old out_new plan_reporting fault_of found_of TellsLacks r (plan_refusal_lines r) (plan_refusal_shows r) h result long.0 reads refused
+
+-- what is reported of a plan file that is refused, for its bytes where they are known, and for those that were read
+module _ {D A : Type 0} (left : D → Option (List ℕ)) (Gives : List ℕ → A → Type 0) (explains : Bool) (old new : Device D) (IsAnswer : PlanParts → Output → Type 0) (r : PlanRefusal) (h : ReadsPlan left Gives old new (Err r)) where
+  reads_known : (b : List ℕ) → left old.device ≡ Some b → (r.fault).kind ≢ Memory → (r.fault).kind ≢ Read → ReadsAs plan_format most_bytes b (Err r.fault)
+  reads_known b known memory read = known_fault left plan_format Gives old new r.fault b h.plain known memory read
+
+  explained_known : (b : List ℕ) → left old.device ≡ Some b → ConcernsText (r.fault).kind → ExplainsPlan b r
+  explained_known b known kind = known_explained left plan_format fault_of found_of TellsLacks Gives old new r b plan_reporting h known kind
+
+  pub plan_refused_as : (o : Output) → Some o ≡ refusal_by explains (codes "plan") r.fault (plan_refusal_lines r) → HoldsOf (left old.device) (λ c. PlanBy explains IsAnswer c (Some o))
+  plan_refused_as o is = (
+    λ c known. some_out plan_format ArePlanReasons (codes "plan") fault_of found_of TellsLacks r (plan_refusal_lines r) (plan_refusal_shows r) explains IsAnswer c (reads_known c known) (explained_known c known) o is,
+    (let x = taken_out left plan_format ArePlanReasons Gives (codes "plan") explains IsAnswer old new left old new plan_reporting fault_of found_of TellsLacks r (plan_refusal_lines r) (plan_refusal_shows r) h o is in
+        (x.0, (left new.device, x.1), x.2)),
+  )
+
+  pub plan_too_long : (r.fault).kind ≡ TooLong → HoldsOf (left old.device) (λ c. PlanBy explains IsAnswer c None)
+  plan_too_long long = (
+    λ c known. none_out plan_format ArePlanReasons (codes "plan") fault_of found_of TellsLacks r (plan_refusal_lines r) (plan_refusal_shows r) explains IsAnswer c (reads_known c known) (explained_known c known) long,
+    (let x = taken_long left plan_format ArePlanReasons Gives (codes "plan") explains IsAnswer old new left old new plan_reporting fault_of found_of TellsLacks r (plan_refusal_lines r) (plan_refusal_shows r) h long in
+        (x.0, (left new.device, x.1), x.2)),
+  )
 
 -- a plan in memory is refused
 pub plan_bytes_refused : {W : Type 0} (contents : W → Option (List ℕ)) (out_old out_new : Device W) (explains : Bool) (IsAnswer : PlanParts → Output → Type 0) (b : List ℕ) (r : PlanRefusal) (result : Result Status ToolFault)

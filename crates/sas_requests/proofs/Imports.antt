@@ -137,7 +137,7 @@ pub use Rattle.sas_task_reasons.proofs.TaskAnswers.{not_memory, one_why_check, s
 pub use Rattle.sas_task_reasons.specs.WhyGroups.{IsReasonIfAny, reason_at, AreReasons, reason_lines, explained_group_lines, why_lines_from, why_lines, WhyGroupsAnswer, GroupsAnswerWith}
 pub use Rattle.sas_task_reasons.specs.WhyLayers.{layer_reasons, why_refusal, WhyAnswer, WhyMutexAnswer, with_reasons, WhyCheckAnswer}
 pub use Rattle.sas_task_reasons.specs.declared.reason.Reason.{Reason}
-pub use Rattle.sas_requests.specs.Answering.{FileBy, TaskBy, PlanBy, UnlayeredBy, refusal_by, task_refusal_lines, plan_refusal_lines, reported_by}
+pub use Rattle.sas_requests.specs.Answering.{FileBy, TaskBy, PlanBy, UnlayeredBy, refusal_by, task_refusal_lines, plan_refusal_lines, explained_by}
 pub use Rattle.sas_requests.specs.EndsRequest.{EndsFile, EndsRequest}
 pub use Rattle.sas_requests.specs.FileLine.{At, Counted, Expected, ExpectedInPlan, FileLine, Found, Hinted, NumberMustBe, due_words, empty_words, ended_line, file_line_bytes, file_text, found_word, least_words, line_if, location_words, plan_due_words, what_words}
 pub use Rattle.sas_requests.specs.Hint.{hint_words, hint_for}
@@ -147,8 +147,8 @@ pub use Rattle.sas_requests.specs.Headline.{Solves, Headline}
 pub use Rattle.sas_requests.specs.Invariants.{HasInvariant, Invariants}
 pub use Rattle.sas_requests.specs.InTurn.{IsRightlyLong, OpensFirst, OpensInTurn, EndsAt, IsOpened, IsOpenedBut}
 pub use Rattle.sas_requests.specs.Inputs.{HaveBytes, tool_result, judge_result, IsLabel, WasRead, WereRead, tool_fault}
-pub use Rattle.sas_requests.specs.Judged.{EachIsThatOfPlan, HasBest, HasCost, IsBest, IsJudged, IsOneLong, JudgeOut, Judged, PlansOut, RefusesAsPlan, Tallies, is_valid, labelled, plans_answer, summary_of, PlansHeadline}
-pub use Rattle.sas_requests.specs.Judging.{HoldsOf, judged_of, cost_if, Judges, IsUnsaid, unjudged, is_lower, better, tally_with, AreReported, JudgesPlans}
+pub use Rattle.sas_requests.specs.Judged.{EachIsThatOfPlan, HasBest, HasCost, IsBest, IsJudged, IsOneLong, JudgeOut, Judged, PlansOut, RefusesAsPlan, Tallies, AreNoReasons, EndsPlans, PlanSaid, SamePlans, best_words, costs_of, labelled, plans_answer, summary_of, unexplained, untraced, PlansHeadline}
+pub use Rattle.sas_requests.specs.Judging.{HoldsOf, judged_of, cost_if, Judges, IsUnsaid, unjudged, is_lower, better, tally_with, AreAnswered, JudgesPlans}
 pub use Rattle.sas_requests.specs.Output.{word_of, refusal, refusal_line, IsAnswerOrRefusal, UnlayeredAnswer, VerdictOut, PlanOutBy, FileOut, TaskOut, HasOneOutput, ShowAnswer, PrintAnswer, LayeredOut, OutOf, plain_refusal, IsLayeredText, IsLong, AreInputs, reads_task, Out, ShortOutput}
 pub use Rattle.sas_requests.specs.Slices.{bytes_of, labels_of}
 pub use Rattle.sas_requests.specs.Summary.{number_lines, goal_fact_lines, summary_lines, derived_count, number_line}
@@ -163,4 +163,5 @@ pub use Rattle.sas_plan_reasons.specs.declared.detail.Detail.{Detail}
 pub use Rattle.sas_requests.specs.declared.slices.PlanBytes.{PlanBytes}
 pub use Rattle.sas_requests.specs.declared.tally.BestPlan.{BestPlan}
 pub use Rattle.sas_requests.specs.declared.tally.Tally.{Tally}
-pub use Rattle.sas_requests.specs.declared.verdicts.PlanReport.{PlanReport}
+pub use Rattle.sas_requests.specs.declared.verdicts.PlanAnswer.{PlanAnswer}
+pub use Rattle.sas_requests.specs.declared.verdicts.Judge.{Judge}

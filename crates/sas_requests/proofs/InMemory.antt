@@ -1,5 +1,6 @@
 -- Plans whose bytes are all in memory, and the answer about them in a text.
-use Rattle.sas_requests.proofs.Imports.{arith, ◌≡◌, ℕ, List, [], length, refl, sym, subst, ◌∙◌, Option, Some, None, Ok, Err, All, slice_index_or, Appends, get_or-map, length-map, Status, ToolFault, Ends, Output, PlanBytes, HaveBytes, bytes_of, labels_of}
+use Rattle.sas_requests.proofs.Imports.{arith, ◌≡◌, ℕ, List, [], length, refl, sym, subst, ◌∙◌, Option, Some, None, Ok, Err, All, slice_index_or, Appends, get_or-map, length-map, Status, ToolFault, Ends, EndsPlans, Bool, Output, PlanBytes, HaveBytes, bytes_of, labels_of}
+use Rattle.sas_requests.proofs.Endings.{plans_end_long}
 use Rattle.sas_answers.specs.declared.ending.ToolFault.TheVariants as tool_fault
 
 -- there are as many labels as files
@@ -24,5 +25,5 @@ module _ (old : Option (List ℕ)) (new text : List ℕ) (empty : old ≡ Some [
   reported_output h1 status ends = grind (arith, sent_text)
 
 -- an input that is too long has no answer
-pub reported_none : (Out : Option Output → Type 0) (Sent : List ℕ → Type 0) (why : ToolFault) → why ≡ tool_fault.TooLong → Ends Out Sent (Err why) → Out None
-reported_none Out Sent why long ends = let there : Ends Out Sent (Err tool_fault.TooLong) = subst (λ (e : ToolFault). Ends Out Sent (Err e)) long ends in there
+pub reported_none : (reasons : Bool) (Out : Option Output → Type 0) (Sent : List ℕ → Type 0) (why : ToolFault) → why ≡ tool_fault.TooLong → EndsPlans reasons Out Sent (Err why) → Out None
+reported_none reasons Out Sent why long ends = plans_end_long reasons Sent Out (subst (λ (e : ToolFault). EndsPlans reasons Out Sent (Err e)) long ends)

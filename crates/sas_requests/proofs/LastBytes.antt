@@ -1,5 +1,5 @@
 -- The last byte of a line: a number ends in a digit, and a refusal in a letter.
-use Rattle.sas_requests.proofs.Imports.{◌≡◌, ℕ, zero, suc, ◌<◌, ◌≤◌, Bool, true, false, cond, eqb, List, [], ◌∷◌, ◌++◌, codes, refl, sym, subst, arith, Some, ◌/◌, ◌%◌, nat_lt, digits, digits_onto, digit_glyph, lt-ltb, none-some, LayerFault, Kind, layer_words, words_at_part, word_of}
+use Rattle.sas_requests.proofs.Imports.{◌≡◌, ℕ, zero, suc, ◌<◌, ◌≤◌, Bool, true, false, cond, eqb, List, [], ◌∷◌, ◌++◌, codes, refl, sym, subst, arith, get_or, Some, ◌/◌, ◌%◌, nat_lt, digits, digits_onto, digit_glyph, lt-ltb, none-some, LayerFault, Kind, layer_words, words_at_part, word_of}
 use Rattle.std.proofs.lemmas.Grind.{common_steps}
 use Rattle.std.specs.Fmt.{decimal}
 use Rattle.sas_meaning.specs.declared.layered.LayerFault.TheVariants as layer_fault
@@ -34,6 +34,10 @@ last_onto (suc k) n byte bytes =
 glyph_digit : (d : ℕ) → d < 10 → IsDigit (digit_glyph false d)
 glyph_digit d less = grind (arith, nat_lt, lt-ltb, true, cond, false)
 
+first_of : (here : Bool) (a b : List ℕ) → IsDigit (get_or a 0 0) → IsDigit (get_or b 0 0) → IsDigit (get_or (cond here a b) 0 0)
+first_of true a b e f = e
+first_of false a b e f = f
+
 -- a decimal ends in one
 pub decimal_digit : (n : ℕ) → IsDigit (last (decimal n))
 unfolding digits
@@ -41,6 +45,17 @@ decimal_digit n =
     subst IsDigit (sym (last_either (eqb (n / 10) 0) (digit_glyph false (n % 10) ∷ []) (digits_onto 63 10 false (n / 10) (digit_glyph false (n % 10) ∷ []))
     (digit_glyph false (n % 10)) refl (last_onto 63 (n / 10) (digit_glyph false (n % 10)) [])))
     (glyph_digit (n % 10) (omega arith))
+
+-- and begins with one
+first_onto : (k n : ℕ) (ds : List ℕ) → IsDigit (get_or ds 0 0) → IsDigit (get_or (digits_onto k 10 false n ds) 0 0)
+first_onto zero n ds digit = digit
+first_onto (suc k) n ds digit = first_of (eqb (n / 10) 0) (digit_glyph false (n % 10) ∷ ds) (digits_onto k 10 false (n / 10) (digit_glyph false (n % 10) ∷ ds))
+    (glyph_digit (n % 10) (omega arith)) (first_onto k (n / 10) (digit_glyph false (n % 10) ∷ ds) (glyph_digit (n % 10) (omega arith)))
+
+pub decimal_first : (n : ℕ) → IsDigit (get_or (decimal n) 0 0)
+unfolding digits
+decimal_first n = first_of (eqb (n / 10) 0) (digit_glyph false (n % 10) ∷ []) (digits_onto 63 10 false (n / 10) (digit_glyph false (n % 10) ∷ []))
+    (glyph_digit (n % 10) (omega arith)) (first_onto 63 (n / 10) (digit_glyph false (n % 10) ∷ []) (glyph_digit (n % 10) (omega arith)))
 
 -- what ends in a byte above 0 ends so behind others
 last_behind : (a b : List ℕ) → 0 < last b → last (a ++ b) ≡ last b

@@ -36,3 +36,5 @@ pub mod PlanLines
 mod PlansHeadlines
 mod InMemory
 mod Imports
+mod PlansSaid
+mod SamePlans

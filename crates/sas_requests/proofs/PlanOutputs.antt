@@ -1,5 +1,5 @@
 -- A request has exactly one output.
-use Rattle.sas_requests.proofs.Imports.{arith, ◌≡◌, ◌≢◌, ℕ, ◌<◌, Bool, true, false, ◌⊎◌, List, ◌++◌, length, codes, append-nil, refl, sym, subst, ◌∙◌, inl, inr, Option, Some, None, Result, Ok, Err, ◌↔◌, ◌||◌, IsTrue, none-some, Parts, PlanParts, first_fault, WellRanged, LayerFault, IsLayered, layer_checks, checks_are_rules, Fault, most_bytes, ReadsAs, plan_format, task_format, task_laws_hold, refusal, ShowAnswer, PrintAnswer, TaskOut, UnlayeredAnswer, LayeredOut, VerdictOut, PlanOutBy, OutOf, plain_refusal, IsLayeredText, IsLong, HasOneOutput, Request, Show, Print, Steps, Check, Plan, Mutex, layers_refusal, layers_verdict, Output, some_check_answer, OneAnswer, SomeAnswer}
+use Rattle.sas_requests.proofs.Imports.{arith, ◌≡◌, ◌≢◌, ℕ, ◌<◌, Bool, true, false, ◌⊎◌, List, ◌++◌, length, codes, append-nil, refl, sym, subst, ◌∙◌, inl, inr, Option, Some, None, Result, Ok, Err, ◌↔◌, ◌||◌, IsTrue, none-some, Parts, PlanParts, first_fault, WellRanged, LayerFault, IsLayered, layer_checks, checks_are_rules, Fault, most_bytes, ReadsAs, plan_format, task_format, task_laws_hold, refusal, ShowAnswer, PrintAnswer, TaskOut, UnlayeredAnswer, LayeredOut, VerdictOut, PlanOutBy, OutOf, plain_refusal, why_refusal, TaskBy, UnlayeredBy, IsLayeredText, IsLong, HasOneOutput, Request, Show, Print, Steps, Check, Plan, Mutex, layers_refusal, layers_verdict, Output, some_check_answer, OneAnswer, SomeAnswer}
 use Rattle.sas_meaning.specs.declared.layered.LayerFault.TheVariants as layer_fault
 use Rattle.sas_requests.proofs.Outputs.{one_file, long_file, task_worded, one_made, some_made, task_output, plan_output}
 
@@ -51,6 +51,11 @@ not_refused refused b o (Ok q, reads_q, (out, (fault, is, reported), same)) (p, 
     let equal : p ≡ q = cc in
     let none : None ≡ Some fault = sym ((checks_are_rules q).1 (subst IsLayered equal layered)) ∙ is in
     absurd cc
+
+-- with reasons or without
+pub not_refused_by : (reasons : Bool) (b : List ℕ) (o : Option Output) → TaskBy reasons (UnlayeredBy reasons) b o → IsLayeredText b → ⊥
+not_refused_by true b o out layered = not_refused why_refusal b out.of_read out.is_out layered
+not_refused_by false b o out layered = not_refused plain_refusal b o out layered
 
 module _ (refused : Parts → LayerFault → Option Output) (refuses : Refuses refused) (IsOut : Parts → Option Output → Type 0) (Long : Type 0) (b : List ℕ) (each : (p : Parts) → WellRanged p → IsLayered p → HasOneOutput (IsOut p) Long) where
   one_unlayered : OneAnswer (UnlayeredAnswer refused)

@@ -18,7 +18,7 @@ module _ (IsOut : Option Output → Type 0) (Long : Type 0) (AreReasons : List F
   one_reasoned : (o p : Option Output) → WithReasons IsOut AreReasons o → WithReasons IsOut AreReasons p → o ≡ p
   one_reasoned o p x y = grind (arith, option_map, with_reasons, file_text)
 
-  reasoned_output : HasOneOutput (WithReasons IsOut AreReasons) Long
+  pub reasoned_output : HasOneOutput (WithReasons IsOut AreReasons) Long
   reasoned_output = record {
     one = one_reasoned;
     some = λ none. output.some (λ q out. list.some (λ reasons why.

@@ -1,5 +1,5 @@
 -- Why a file is refused: one set of lines, and always some; and behind which refusal they stand.
-use Rattle.sas_requests.proofs.Imports.{arith, ◌≡◌, ◌⊎◌, ℕ, Bool, List, [], codes, append-nil, ap, sym, subst, inl, inr, Option, Some, Result, Ok, Err, option_map, none-some, Parts, PlanParts, Fault, Format, Laws, most_bytes, plan_format, plan_laws_hold, task_format, task_laws_hold, FileLine, Output, with_reasons, why_refusal, WhyCheckAnswer, WhyMutexAnswer, VerdictWith, Request, Show, Print, ReadReasons, FileReasons, AreTaskReasons, ArePlanReasons, TaskFileReasons, PlanFileReasons, RefusalReasons, true, false, reported_by, ReasonedBy, OutOfRead, Steps, Check, Plan, Mutex, refusal, IsAnswerOrRefusal, FileOut, TaskOut, UnlayeredAnswer, ShowAnswer, PrintAnswer}
+use Rattle.sas_requests.proofs.Imports.{arith, ◌≡◌, ◌⊎◌, ℕ, Bool, List, [], codes, append-nil, ap, sym, subst, inl, inr, Option, Some, Result, Ok, Err, option_map, none-some, Parts, PlanParts, Fault, Format, Laws, most_bytes, plan_format, plan_laws_hold, task_format, task_laws_hold, FileLine, Output, with_reasons, why_refusal, WhyCheckAnswer, WhyMutexAnswer, VerdictWith, Request, Show, Print, ReadReasons, FileReasons, AreTaskReasons, ArePlanReasons, TaskFileReasons, PlanFileReasons, RefusalReasons, true, false, explained_by, ReasonedBy, OutOfRead, Steps, Check, Plan, Mutex, refusal, IsAnswerOrRefusal, FileOut, TaskOut, UnlayeredAnswer, ShowAnswer, PrintAnswer}
 use Rattle.sas_requests.proofs.PlanOutputs.{not_refused}
 
 -- ---- an output with reasons behind
@@ -12,7 +12,7 @@ pub some_of : (reasons : List ℕ) (p : Option Output) (o : Output) → Some o �
 some_of reasons h1 o e = grind (arith, none-some, with_reasons)
 
 -- an output with such reasons behind it, at each explains
-pub reasoned_by : (explains : Bool) (IsOut : Option Output → Type 0) (AreReasons : List FileLine → Type 0) (q o : Option Output) (reasons : List FileLine) → IsOut q → AreReasons reasons → o ≡ reported_by explains reasons q → ReasonedBy explains IsOut AreReasons o
+pub reasoned_by : (explains : Bool) (IsOut : Option Output → Type 0) (AreReasons : List FileLine → Type 0) (q o : Option Output) (reasons : List FileLine) → IsOut q → AreReasons reasons → o ≡ explained_by explains reasons q → ReasonedBy explains IsOut AreReasons o
 reasoned_by true IsOut AreReasons q o reasons out why is = record { of_read = q; reasons = reasons; is_out = out; are_reasons = why; whole = is }
 reasoned_by false IsOut AreReasons q o reasons out why is = subst IsOut (sym is) out
 
@@ -28,7 +28,7 @@ more_reasoned true A B R S to behind o out = record {
 more_reasoned false A B R S to behind o out = to o out
 
 -- no reasons change nothing
-pub reported_alone : (explains : Bool) (o : Option Output) → o ≡ reported_by explains [] o
+pub reported_alone : (explains : Bool) (o : Option Output) → o ≡ explained_by explains [] o
 reported_alone h1 h2 = grind (arith, no_reasons)
 
 -- ---- behind which refusal they stand

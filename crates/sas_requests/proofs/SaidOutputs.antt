@@ -1,6 +1,6 @@
 -- What an output says of a plan and of groups, with reasons and traces, is what it says without them.
 use Rattle.std.proofs.lemmas.List.Elements.{Contains-append_left, Contains-append_right}
-use Rattle.sas_requests.proofs.Imports.{◌≡◌, ℕ, Bool, true, false, List, [], ◌∷◌, ◌++◌, codes, decimal, refl, sym, ap, subst, ◌∙◌, inl, inr, Option, Some, append-nil, if◌then◌else◌, not, filter, Contains, contains_none, contains_cases, contains_head, contains_tail, same_from_push, Appends, lines, lines-append, lines-one, unfinished-end, text, Plain, plain, Exclusive, group_line, valid_line, Status, Yes, No, Output, VerdictAnswer, MutexAnswer, Detail, Plan, Mutex, plain_refusal, Out, OutBy, EndsInLine, SaysLine, SendsLine, is_reason, without_reasons, IsSameAnswer, Solves, Headline, Invariants}
+use Rattle.sas_requests.proofs.Imports.{◌≡◌, ℕ, Bool, true, false, List, [], ◌∷◌, ◌++◌, codes, decimal, refl, sym, ap, subst, ◌∙◌, inl, inr, Option, Some, if◌then◌else◌, not, filter, Contains, contains_none, contains_cases, contains_head, contains_tail, same_from_push, Appends, lines, lines-append, lines-one, unfinished-end, text, Plain, plain, Exclusive, group_line, valid_line, Status, Yes, No, Output, VerdictAnswer, Detail, Plan, Mutex, plain_refusal, Out, OutBy, EndsInLine, SaysLine, SendsLine, is_reason, without_reasons, IsSameAnswer, Solves, Headline, Invariants}
 use Rattle.sas_requests.proofs.Headlines.{headline_of, reports_valid, sent_same}
 use Rattle.sas_requests.proofs.InvariantGroups.{invariants_of}
 use Rattle.sas_requests.proofs.PlanLines.{IsLine, valid_plain, verdict_line, task_refused}

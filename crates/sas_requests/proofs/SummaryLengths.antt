@@ -1,5 +1,5 @@
 -- How long a summary is. What is read of a task is at most 4 GiB, and so a `usize` holds the length of its summary.
-use Rattle.sas_requests.proofs.Imports.{◌≡◌, ℕ, suc, zero, ◌+◌, ◌*◌, ◌^◌, ◌<◌, ◌≤◌, List, [], ◌∷◌, ◌++◌, length, map, codes, length-append, arith, sym, ap, subst, ◌∙◌, Some, ◌⊎◌, decimal, slice_get, enumerate_from, length-map, length-enumerate_from, AllByRecursion, flat_map-append, map-append, cases_lt, none-some, mul-le-mul_left, Fact, Variable, Parts, text, ValueOf, TaskLine, word, name, signed, fact, task_line_bytes, single_line, between, counted, version_lines, metric_lines, variable_lines, group_lines, state_lines, operator_lines, rule_lines, task_layout, task_format, Outline, OutlineOf, outline_of, value_name, unwrap_or, joined, fact_line, number_lines, initial_lines, goal_fact_lines, summary_lines}
+use Rattle.sas_requests.proofs.Imports.{◌≡◌, ℕ, suc, zero, ◌+◌, ◌*◌, ◌^◌, ◌<◌, ◌≤◌, List, [], ◌∷◌, ◌++◌, length, map, codes, length-append, arith, sym, ap, subst, ◌∙◌, Some, decimal, slice_get, enumerate_from, length-map, length-enumerate_from, AllByRecursion, flat_map-append, map-append, cases_lt, none-some, mul-le-mul_left, Fact, Variable, Parts, text, ValueOf, TaskLine, word, name, signed, fact, task_line_bytes, single_line, between, counted, version_lines, metric_lines, variable_lines, group_lines, state_lines, operator_lines, rule_lines, task_layout, task_format, Outline, OutlineOf, outline_of, value_name, unwrap_or, joined, fact_line, number_lines, initial_lines, goal_fact_lines, summary_lines}
 use Rattle.std.specs.List.{flat_map}
 use Rattle.sas_task_file.specs.TaskFormat.{number}
 use Rattle.sas_requests.proofs.Lengths.{decimal_short, text_short}

@@ -1,5 +1,5 @@
 -- Behind a trace stands the output of `plan`.
-use Rattle.sas_requests.proofs.Imports.{◌≡◌, ℕ, Bool, true, false, List, [], ◌++◌, append_assoc, codes, refl, ap, subst, ◌∙◌, inl, inr, Some, option_map, Result, Ok, Err, lines, lines-append, unfinished-text, Parts, PlanParts, text, Fault, Output, with_reasons, file_text, IsAnswerOrRefusal, OutOfRead, VerdictWith, run_lines, TraceVerdict, ends_with_answer, EndsAsPlan, Plan}
+use Rattle.sas_requests.proofs.Imports.{◌≡◌, ℕ, Bool, true, false, List, [], ◌++◌, append_assoc, codes, refl, ap, subst, ◌∙◌, inl, inr, Some, Result, Ok, Err, lines, lines-append, unfinished-text, Parts, PlanParts, text, Fault, Output, with_reasons, file_text, IsAnswerOrRefusal, OutOfRead, VerdictWith, run_lines, TraceVerdict, ends_with_answer, EndsAsPlan, Plan}
 use Rattle.sas_requests.proofs.RefusalReasons.{some_of}
 
 -- the lines of a text behind some lines

@@ -1,7 +1,7 @@
 -- Which plans were opened, one after another, up to the end of a run.
 use Rattle.std.proofs.lemmas.Grind.{common_steps}
-use Rattle.sas_requests.proofs.Imports.{◌≡◌, ℕ, suc, ◌+◌, ◌<◌, List, add-one, refl, sym, subst, arith, ◌⊎◌, inr, Option, Some, Result, Ok, Err, IfErr, IsErrOf, IsErrAnd, ◌↔◌, Status, ToolFault, IsWrite, EndsCounting, TaskOut, UnlayeredAnswer, plain_refusal, JudgeFault, Tool, tool_fault, tool_result, judge_result, IsRightlyLong, OpensFirst, OpensInTurn, EndsAt, IsOpened, IsOpenedBut}
-use Rattle.sas_requests.proofs.PlanOutputs.{not_refused}
+use Rattle.sas_requests.proofs.Imports.{◌≡◌, ℕ, suc, ◌+◌, ◌<◌, List, add-one, refl, sym, subst, arith, ◌⊎◌, inr, Option, Some, Result, Ok, Err, IfErr, IsErrOf, IsErrAnd, ◌↔◌, Status, ToolFault, IsWrite, EndsCounting, Bool, TaskBy, UnlayeredBy, JudgeFault, Tool, tool_fault, tool_result, judge_result, IsRightlyLong, OpensFirst, OpensInTurn, EndsAt, IsOpened, IsOpenedBut}
+use Rattle.sas_requests.proofs.PlanOutputs.{not_refused_by}
 use Rattle.sas_answers.specs.declared.ending.ToolFault.TheVariants as faults
 use Rattle.sas_requests.specs.declared.inputs.JudgeFault.TheVariants.{Plan}
 
@@ -20,13 +20,13 @@ module _ {S I : Type 0} (gives : S → ℕ → Option I → S → Type 0) where
   in_turn_written task count old new r write first = grind (arith, common_steps)
 
   -- where the task is refused, or wasn't read
-  pub in_turn_refused : (task : Option (List ℕ)) (count : ℕ) (plans : S) (Sent : List ℕ → Type 0) (r : Result Status ToolFault) → ((b : List ℕ) → task ≡ Some b → EndsCounting (TaskOut (UnlayeredAnswer plain_refusal) b) Sent r)
+  pub in_turn_refused : (reasons : Bool) (task : Option (List ℕ)) (count : ℕ) (plans : S) (Sent : List ℕ → Type 0) (r : Result Status ToolFault) → ((b : List ℕ) → task ≡ Some b → EndsCounting (TaskBy reasons (UnlayeredBy reasons) b) Sent r)
       → OpensInTurn gives task count plans plans (judge_result r)
-  in_turn_refused task count plans Sent (Ok status) ends = inr (λ b known. let (o, out, same, sent) = ends b known in not_refused plain_refusal b (Some o) out, refl)
-  in_turn_refused task count plans Sent (Err (faults.Write written)) ends = inr (λ b known. let (number, counts, (o, out, less, sent)) = ends b known in not_refused plain_refusal b (Some o) out, refl)
-  in_turn_refused task count plans Sent (Err faults.Memory) ends = (0, omega arith, refl)
-  in_turn_refused task count plans Sent (Err faults.Read) ends = refl
-  in_turn_refused task count plans Sent (Err faults.TooLong) ends = refl
+  in_turn_refused reasons task count plans Sent (Ok status) ends = inr (λ b known. let (o, out, same, sent) = ends b known in not_refused_by reasons b (Some o) out, refl)
+  in_turn_refused reasons task count plans Sent (Err (faults.Write written)) ends = inr (λ b known. let (number, counts, (o, out, less, sent)) = ends b known in not_refused_by reasons b (Some o) out, refl)
+  in_turn_refused reasons task count plans Sent (Err faults.Memory) ends = (0, omega arith, refl)
+  in_turn_refused reasons task count plans Sent (Err faults.Read) ends = refl
+  in_turn_refused reasons task count plans Sent (Err faults.TooLong) ends = refl
 
 -- ---- the end of a call, as one of a run over many plans
 

@@ -1,5 +1,5 @@
 -- What is said of a plan with reasons: one thing, and always something. And what is said of a task that isn't layered.
-use Rattle.sas_requests.proofs.Imports.{◌≡◌, List, [], refl, sym, ap, subst, ◌∙◌, inl, inr, Some, true, Parts, LayerFault, PlanFault, some_verdict, valid_has_no_fault, fault_is_one, Output, layers_refusal, valid_answer, layer_reasons, with_reasons, why_refusal, refused_why, reasons_text, some_fault_answer, one_fault_answer, FaultAnswer, WhyVerdict}
+use Rattle.sas_requests.proofs.Imports.{◌≡◌, [], refl, sym, ap, subst, ◌∙◌, inl, inr, Some, true, Parts, LayerFault, PlanFault, some_verdict, valid_has_no_fault, fault_is_one, Output, layers_refusal, valid_answer, layer_reasons, with_reasons, why_refusal, refused_why, reasons_text, some_fault_answer, one_fault_answer, FaultAnswer, WhyVerdict}
 use Rattle.sas_requests.proofs.RefusalReasons.{some_of}
 use Rattle.sas_requests.proofs.PlanOutputs.{OneVerdictAnswer, SomeVerdictAnswer, IsRefusal, Refuses}
 
@@ -15,7 +15,7 @@ one_why_verdict p layered plan o q (inr x) (inr y) =
 pub some_why_verdict : SomeVerdictAnswer WhyVerdict
 some_why_verdict p ranged layered plan none = elim (some_verdict p plan ranged layered) [
   | inl valid ↦ none (valid_answer plan) (inl (valid, refl))
-  | inr fault ↦ (let it = some_fault_answer true p plan fault.0 layered fault.1 in none it.0 (inr (fault.0, fault.1, it.1.0, it.1.1)))
+  | inr fault ↦ (let it = some_fault_answer true p plan fault.0 ranged layered fault.1 in none it.0 (inr (fault.0, fault.1, it.1.0, it.1.1)))
 ]
 
 -- ---- a task that isn't layered

@@ -1,4 +1,4 @@
--- What the private steps of a run promise.
+-- Outputs about files, with reasons or without; and what the private steps of a run promise.
 use Rattle.std.specs.Prelude.{ℕ, Bool, true, false, List, codes, Option, option_map, Result, ⊤}
 use Rattle.sas_core.specs.declared.parts.Parts.{Parts}
 use Rattle.sas_core.specs.PlanParts.{PlanParts}
@@ -27,13 +27,13 @@ abbrev pub UnlayeredBy : (reasons : Bool) → Parts → Output → Type 0
 UnlayeredBy reasons = UnlayeredAnswer (layers_by reasons)
 
 -- an output, which these reasons may follow
-abbrev pub reported_by : Bool → List FileLine → Option Output → Option Output
-reported_by true reasons output = option_map (with_reasons (file_text reasons)) output
-reported_by false reasons output = output
+abbrev pub explained_by : Bool → List FileLine → Option Output → Option Output
+explained_by true reasons output = option_map (with_reasons (file_text reasons)) output
+explained_by false reasons output = output
 
 -- the refusal of the file of this name for its fault
 abbrev pub refusal_by : Bool → List ℕ → Fault → List FileLine → Option Output
-refusal_by explains name fault reasons = reported_by explains reasons (refusal name fault)
+refusal_by explains name fault reasons = explained_by explains reasons (refusal name fault)
 
 -- the reasons why a task is refused, and a plan
 abbrev pub task_refusal_lines : TaskRefusal → List FileLine

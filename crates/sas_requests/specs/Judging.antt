@@ -7,17 +7,15 @@ use Rattle.sas_answers.specs.declared.ending.Status.TheVariants.{Yes, No}
 use Rattle.sas_answers.specs.declared.ending.ToolFault.{ToolFault}
 use Rattle.sas_answers.specs.declared.ending.ToolFault.TheVariants as fault
 use Rattle.sas_answers.specs.Ending.{Ends, IsDecided, output_of}
-use Rattle.sas_answers.specs.Answers.{VerdictAnswer}
-use Rattle.sas_requests.specs.Output.{VerdictOut}
 use Rattle.sas_requests.specs.declared.inputs.InputFault.TheVariants.{NotOpened, TooLong}
 use Rattle.sas_requests.specs.declared.inputs.JudgeFault.{JudgeFault}
 use Rattle.sas_requests.specs.declared.inputs.JudgeFault.TheVariants as judge_fault
 use Rattle.sas_requests.specs.declared.tally.BestPlan.{BestPlan}
 use Rattle.sas_requests.specs.declared.tally.Tally.{Tally}
-use Rattle.sas_requests.specs.declared.verdicts.PlanReport.{PlanReport}
+use Rattle.sas_requests.specs.declared.verdicts.PlanAnswer.{PlanAnswer}
 use Rattle.sas_requests.specs.Inputs.{HaveBytes, WasRead, WereRead, tool_result}
 use Rattle.sas_requests.specs.InTurn.{IsRightlyLong}
-use Rattle.sas_requests.specs.Judged.{Judged, IsJudged, PlansOut, Tallies, labelled}
+use Rattle.sas_requests.specs.Judged.{Judged, IsJudged, PlanSaid, PlansOut, Tallies, costs_of, labelled}
 
 -- ---- one plan
 
@@ -26,30 +24,32 @@ abbrev pub HoldsOf : Option (List ℕ) → (List ℕ → Type 0) → Type 0
 HoldsOf known Holds = ((c : List ℕ) → known ≡ Some c → Holds c)
     × ((c : List ℕ) × WasRead known c × Holds c)
 
--- what a report says of a plan
-abbrev pub judged_of : PlanReport → Judged
-judged_of report = record { output = output_of report.answer; cost = report.cost }
+-- what an answer says of a plan
+abbrev pub judged_of : PlanAnswer → Judged
+judged_of answered = record { output = output_of answered.answer; cost = answered.cost }
 
 -- the cost of a plan, if the answer about it is yes
 abbrev pub cost_if : Status → ℕ → Option ℕ
 cost_if Yes cost = Some cost
 cost_if No cost = None
 
--- what the report on a plan promises that is read to its end or to its first fault; `known` are
+-- what the answer about a plan promises that is read to its end or to its first fault; `known` are
 -- its bytes, where they are known
-abbrev pub Judges : Parts → Option (List ℕ) → Result PlanReport ToolFault → Type 0
-Judges p known (Ok report) = HoldsOf known (λ c. IsJudged p c (judged_of report))
-Judges p known (Err fault.TooLong) = HoldsOf known (λ c. VerdictOut VerdictAnswer p c None)
-Judges p known (Err (fault.Write written)) = ⊥
-Judges p known (Err fault.Memory) = ⊤
-Judges p known (Err fault.Read) = ⊤
+abbrev pub Judges : (reasons : Bool) → Parts → Option (List ℕ) → Result PlanAnswer ToolFault
+    → Type 0
+Judges reasons p known (Ok report) =
+    HoldsOf known (λ c. IsJudged reasons p c (judged_of report))
+Judges reasons p known (Err fault.TooLong) = HoldsOf known (λ c. PlanSaid reasons p c None)
+Judges reasons p known (Err (fault.Write written)) = ⊥
+Judges reasons p known (Err fault.Memory) = ⊤
+Judges reasons p known (Err fault.Read) = ⊤
 
 -- why nothing is reported of a plan: where it is too long, that is right for its bytes
-abbrev pub IsUnsaid : Parts → (ℕ → Option (List ℕ)) → JudgeFault → Type 0
-IsUnsaid p known (judge_fault.Plan number TooLong) =
-    HoldsOf (known number) (λ c. VerdictOut VerdictAnswer p c None)
-IsUnsaid p known (judge_fault.Plan number what) = ⊤
-IsUnsaid p known (judge_fault.Tool why) = why ≡ fault.Memory
+abbrev pub IsUnsaid : (reasons : Bool) → Parts → (ℕ → Option (List ℕ)) → JudgeFault → Type 0
+IsUnsaid reasons p known (judge_fault.Plan number TooLong) =
+    HoldsOf (known number) (λ c. PlanSaid reasons p c None)
+IsUnsaid reasons p known (judge_fault.Plan number what) = ⊤
+IsUnsaid reasons p known (judge_fault.Tool why) = why ≡ fault.Memory
 
 -- the fault of a plan that was opened, the one with this number; or another fault, at which no plan
 -- is to be reported
@@ -80,27 +80,28 @@ tally_with number (Some cost) tally =
     record { valid = tally.valid + 1; best = better number cost tally.best }
 
 -- this text is what is printed of so many first plans, and this their tally
-pub record AreReported (p : Parts) (known : ℕ → Option (List ℕ)) (labels : List (List ℕ))
-    (count : ℕ) (text : List ℕ) (tally : Tally) : Type 0 where
+pub record AreAnswered (reasons : Bool) (p : Parts) (known : ℕ → Option (List ℕ))
+    (labels : List (List ℕ)) (count : ℕ) (text : List ℕ) (tally : Tally) : Type 0 where
   pub all : List Judged
   pub many : length all ≡ count
   pub each : (number : ℕ) → number < count
-      → HoldsOf (known number) (λ c. IsJudged p c (slice_index_or all number unjudged))
+      → HoldsOf (known number) (λ c. IsJudged reasons p c (slice_index_or all number unjudged))
   pub whole : text ≡ flat_map labelled (zip labels all)
-  pub counts : Tallies all tally
+  pub counts : Tallies (costs_of all) tally
 
 -- ---- all plans
 
 -- What the judging of the plans of a layered task promises. `known` maps a plan's number to its
 -- bytes, where these are known. `Sent` holds of the bytes of the answer, as far as it went out.
-pub record JudgesPlans (p : Parts) (known : ℕ → Option (List ℕ)) (labels : List (List ℕ))
-    (Sent : List ℕ → Type 0) (result : Result Status JudgeFault) : Type 0 where
+pub record JudgesPlans (reasons : Bool) (p : Parts) (known : ℕ → Option (List ℕ))
+    (labels : List (List ℕ)) (Sent : List ℕ → Type 0) (result : Result Status JudgeFault)
+    : Type 0 where
   -- of plans whose bytes are known, the answer is their output
   pub output : (cs : List (List ℕ)) → HaveBytes known (length labels) cs
-      → Ends (PlansOut p labels cs) Sent (tool_result result)
+      → Ends (PlansOut reasons p labels cs) Sent (tool_result result)
   -- and of any plans, the output for the bytes that were read of them
   pub taken : IsDecided (tool_result result) → (cs : List (List ℕ))
       × WereRead known (length labels) cs
-      × Ends (PlansOut p labels cs) Sent (tool_result result)
+      × Ends (PlansOut reasons p labels cs) Sent (tool_result result)
   pub long : IfErr result (IsRightlyLong known)
   pub reads : IsErrOf result (judge_fault.Tool fault.Read) → ⊥

@@ -149,7 +149,8 @@ pub(crate) fn push_wrong_word(out: &mut Vec<u8>, wrong: Option<WrongWord>) -> Re
 
 /// Appends the line with the number of a list's items, if there is one.
 pub(crate) fn push_count(out: &mut Vec<u8>, count: Option<ListCount>) -> Result<(), AllocError>
-    ensures { OnOk result (out.new.items ≡ out.old.items ++ file_text (line_if line.Counted count)) }
+    ensures { OnOk result
+        (out.new.items ≡ out.old.items ++ file_text (line_if line.Counted count)) }
 {
     let Some(count) = count else {
         return Ok(());

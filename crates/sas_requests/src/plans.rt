@@ -57,7 +57,8 @@ fn answer_plan_file<P: Read, W: Write>(
     requires plan { plan.old.failed ≡ false }
     requires out { out.old.failed ≡ false }
     ensures { Answers W.contents
-        (EndsFile P.remaining (PlanBy detail.reasons (VerdictBy detail layered.now)) plan.old plan.new)
+        (EndsFile P.remaining (PlanBy detail.reasons (VerdictBy detail layered.now))
+        plan.old plan.new)
         out.old out.new result }
 {
     match read_flat_plan(alloc, plan) {

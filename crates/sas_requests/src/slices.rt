@@ -57,25 +57,27 @@ impl<'p> PlanInputs for PlanSlices<'p> {
 /// its text.
 pub fn judge_slices(
     alloc: Global,
+    reasons: bool,
     task: &[u8],
     plans: &[PlanBytes<'_>],
 ) -> Result<Answer, JudgeFault>
     requires { All IsLabel (labels_of plans.now) }
-    ensures output { IfOk result (λ reported. JudgeOut (labels_of plans.now) task.now
+    ensures output { IfOk result (λ reported. JudgeOut reasons (labels_of plans.now) task.now
         (bytes_of plans.now) (Some (output_of reported))) }
     ensures long { IfErr result (λ e. tool_fault e ≡ ToolFault.TooLong
-        → JudgeOut (labels_of plans.now) task.now (bytes_of plans.now) None) }
+        → JudgeOut reasons (labels_of plans.now) task.now (bytes_of plans.now) None) }
     // A plan that is reported to be too long is, and none is reported as not opened.
     ensures rightly { IfErr result (IsRightlyLong (known_bytes plans.now)) }
     ensures opened { IfErr result IsOfOpened }
     // `LABEL: plan valid` is in the text exactly if the plan solves the task at that cost.
-    ensures headline { IfOk result (λ reported. PlansHeadline (labels_of plans.now) task.now
-        (bytes_of plans.now) (λ text. reported.text.items ≡ text) reported.status) }
+    ensures headline { IfOk result (λ reported.
+        PlansHeadline reasons (labels_of plans.now) task.now (bytes_of plans.now)
+        (λ text. reported.text.items ≡ text) reported.status) }
 {
     let mut device = Watched::new(task);
     let mut slices = PlanSlices { plans };
     let mut text = Watched::new(Vec::new(alloc));
-    match judge(alloc, &mut device, &mut slices, &mut text) {
+    match judge(alloc, reasons, &mut device, &mut slices, &mut text) {
         Ok(status) => Ok(Answer {
             text: text.into_device(),
             status,

@@ -43,7 +43,8 @@ pub fn read_layered<R: Read, W: Write>(
     ensures layered { IfLayered result IsLayered }
     ensures silent { IfLayered result (λ p. out.new ≡ out.old) }
     ensures refused { IfEnded result (Answers W.contents
-        (EndsFile R.remaining (TaskBy detail.reasons (UnlayeredBy detail.reasons)) task.old task.new)
+        (EndsFile R.remaining (TaskBy detail.reasons (UnlayeredBy detail.reasons))
+        task.old task.new)
         out.old out.new) }
 {
     let read = match read_flat_task(alloc, task) {
@@ -72,7 +73,8 @@ fn refuse_unlayered<W: Write>(
 ) -> Result<Status, ToolFault>
     requires { out.old.failed ≡ false }
     ensures { Writes W.contents (EndsCounting
-        (λ output. IsSomeAnd output (λ reported. layers_by detail.reasons task.now fault ≡ Some reported)))
+        (λ output. IsSomeAnd output
+        (λ reported. layers_by detail.reasons task.now fault ≡ Some reported)))
         out.old out.new result }
 {
     if detail.reasons {

@@ -1,6 +1,6 @@
 -- It is decidable which operator a name means, and which fact is the first that doesn't hold.
 use Rattle.std.proofs.lemmas.Grind.{common_steps}
-use Rattle.sas_run.proofs.Imports.{◌≡◌, ℕ, zero, suc, ◌<◌, ◌⊎◌, List, [], ◌∷◌, length, slice_index, slice_index_or, bytes_eq, subst, inl, inr, arith, cases_eq, cases_lt, cases_Bool, bytes_eq-Decides, All-nil, All-cons, Fact, Parts, operator_at, Holds, AllHold, preconditions, hold_or_not, IsNamed, IsApplicable, NoneApplicable, IsChosen, IsFirstMissed}
+use Rattle.sas_run.proofs.Imports.{◌≡◌, ℕ, zero, suc, ◌<◌, ◌⊎◌, List, [], ◌∷◌, length, slice_index, slice_index_or, bytes_eq, subst, inl, inr, arith, cases_eq, cases_lt, cases_Bool, bytes_eq-Decides, All-nil, All-cons, Fact, Parts, operator_at, Holds, AllHold, preconditions, hold_or_not, IsNamed, IsLowestNamed, IsApplicable, NoneApplicable, IsChosen, IsFirstMissed}
 
 -- whether an operator has the name
 pub named_or_not : (p : Parts) (name : List ℕ) (operator : ℕ) → IsNamed p name operator ⊎ (IsNamed p name operator → ⊥)
@@ -31,6 +31,16 @@ named_or_none p name = elim (least_below (IsNamed p name) (named_or_not p name) 
   | inl w ↦ inl (w.0, w.1)
   | inr none ↦ inr (λ operator is. none operator is.exists is)
 ]
+
+-- then there is a lowest one
+pub some_lowest : (p : Parts) (name : List ℕ) (operator : ℕ) → IsNamed p name operator → (lowest : ℕ) × IsLowestNamed p name 0 lowest
+some_lowest p name operator named = elim (least_below (IsNamed p name) (named_or_not p name) (suc operator)) [
+  | inl w ↦ (w.0, record { from_on = omega arith; of_name = w.1; first = λ lower from below is. w.2 lower below is })
+  | inr none ↦ absurd (none operator (omega arith) named)
+]
+
+pub one_lowest : (p : Parts) (name : List ℕ) (a b : ℕ) → IsLowestNamed p name 0 a → IsLowestNamed p name 0 b → a ≡ b
+one_lowest p name a b x y = grind (arith, common_steps, cases_lt)
 
 -- whether an operator has the name and is applicable
 can_or_not : (p : Parts) (s name : List ℕ) (operator : ℕ) → (IsNamed p name operator × IsApplicable s (operator_at p operator))

@@ -1,5 +1,5 @@
 -- The operators of a chain, from its first one on.
-use Rattle.sas_run.proofs.Imports.{◌≡◌, ◌≢◌, ◌⊎◌, ℕ, ◌+◌, ◌<◌, List, [], ◌∷◌, ◌++◌, length, get_or, Option, None, Some, IfSome, inl, inr, refl, sym, subst, arith, none-some, cases_eq, same_Some, unwrap_or, Vec, All-nil, All-push, All-weaker, Contains-push, Contains-append_left, Parts, nat_cmp, operator_at, IsNamed, IsNextNamed, LongChain, Requires, operators_with, IsPushed, IsIn, ArePart, IsLongChain}
+use Rattle.sas_run.proofs.Imports.{◌≡◌, ◌≢◌, ◌⊎◌, ℕ, ◌+◌, ◌<◌, List, [], ◌∷◌, ◌++◌, length, Option, None, Some, IfSome, inl, inr, refl, sym, subst, arith, none-some, cases_eq, same_Some, unwrap_or, Vec, All-push, All-weaker, Contains-push, Contains-append_left, Parts, nat_cmp, operator_at, IsNextNamed, LongChain, Requires, operators_with, IsPushed, IsIn, ArePart, IsLongChain}
 use Rattle.std.proofs.lemmas.Bool.{cases_order}
 use Rattle.std.proofs.lemmas.List.Quantifiers.{all_pairs_push}
 use Rattle.std.specs.BTreeMap.{is_at}

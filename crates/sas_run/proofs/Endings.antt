@@ -1,5 +1,5 @@
 -- How a plan ends: at a step that fails, or after the last step.
-use Rattle.sas_run.proofs.Imports.{◌≡◌, ℕ, ◌+◌, ◌-◌, ◌<◌, List, [], length, take, drop, get_or, Option, Some, None, sym, ◌∙◌, ap, subst, arith, take_all, Parts, PlanParts, PlanFault, Memory, NoOperator, NotApplicable, Conflict, GoalMissed, CostDiffers, LeadsTo, IsValid, IsFinalVerdict, IsChoice, StepFailsBy, IsRunOf, IsEnding, Run, steps_before, RunEndsWith, ComesTo, IsFaultOf}
+use Rattle.sas_run.proofs.Imports.{◌≡◌, ℕ, ◌+◌, ◌-◌, ◌<◌, List, [], length, take, drop, get_or, Option, Some, None, sym, ◌∙◌, ap, subst, arith, take_all, Parts, PlanParts, PlanFault, Memory, NoOperator, NotApplicable, Conflict, GoalMissed, CostDiffers, LeadsTo, IsValid, IsFinalVerdict, IsChoice, StepFailsBy, IsEnding, Run, steps_before, RunEndsWith, ComesTo, IsFaultOf}
 use Rattle.sas_run.proofs.Going.{around, length_of_take}
 use Rattle.sas_run.proofs.Runs.{some_run}
 

@@ -1,7 +1,6 @@
 -- Operators, by their numbers, go through in at most one way. What they were chosen for.
-use Rattle.sas_run.proofs.Imports.{◌≡◌, ℕ, zero, suc, ◌<◌, List, [], ◌∷◌, ◌++◌, length, take, get_or, refl, sym, ◌∙◌, ap, subst, inl, inr, arith, cases_eq, take-append_seam, get_or-append_seam, get_or_append_left, length-append, All, All-nil, All-cons, Operator, Parts, operator_at, IsLayered, Step, IsInitial, step_is_one, IsChosen, LeadFrom, LeadsTo, Choice, Found, OperatorsLead, GoThrough, GoesThrough, Makes}
+use Rattle.sas_run.proofs.Imports.{◌≡◌, ℕ, zero, suc, ◌<◌, List, [], ◌∷◌, ◌++◌, length, take, get_or, refl, sym, ◌∙◌, ap, subst, inl, inr, arith, cases_eq, take-append_seam, get_or-append_seam, get_or_append_left, length-append, All, All-nil, All-cons, Operator, Parts, operator_at, IsLayered, Step, Settles, settled_is_one, step_is_one, IsChosen, LeadFrom, LeadsTo, Choice, Found, OperatorsLead, GoThrough, GoesThrough, GoesThroughFrom, Makes}
 use Rattle.std.proofs.lemmas.List.{take-append-le}
-use Rattle.sas_run.proofs.Determined.{initial_is_one}
 
 module _ (p : Parts) where
   -- one more operator
@@ -10,20 +9,21 @@ module _ (p : Parts) where
   go_one_more s [] mid operator next goes exists step = (next, exists, subst (λ z. Step p z (operator_at p operator) next) goes step, refl)
   go_one_more s (o ∷ os) mid operator next (there, its, by, rest) exists step = (there, its, by, go_one_more there os mid operator next rest exists step)
 
-  pub goes_one_more : (operators mid : List ℕ) (operator : ℕ) (next : List ℕ) → GoesThrough p operators mid → operator < length p.operators → Step p mid (operator_at p operator) next
-      → GoesThrough p (operators ++ operator ∷ []) next
-  goes_one_more operators mid operator next through exists step = grind (arith, go_one_more)
+  pub goes_one_more : {start : List ℕ} (operators mid : List ℕ) (operator : ℕ) (next : List ℕ) → GoesThroughFrom p start operators mid → operator < length p.operators → Step p mid (operator_at p operator) next
+      → GoesThroughFrom p start (operators ++ operator ∷ []) next
+  goes_one_more operators mid operator next through exists step =
+      record { initial = through.initial; starts = through.starts; goes = go_one_more through.initial operators mid operator next through.goes exists step }
 
   -- the operators exist
   go_by : (s operators last : List ℕ) → GoThrough p s operators last → All (λ (o : ℕ). o < length p.operators) operators
   go_by s [] last goes = All-nil (λ (o : ℕ). o < length p.operators)
   go_by s (o ∷ os) last (there, its, by, rest) = All-cons (λ (o : ℕ). o < length p.operators) o os its (go_by there os last rest)
 
-  pub goes_by : (operators last : List ℕ) → GoesThrough p operators last → All (λ (o : ℕ). o < length p.operators) operators
+  pub goes_by : {start : List ℕ} (operators last : List ℕ) → GoesThroughFrom p start operators last → All (λ (o : ℕ). o < length p.operators) operators
   goes_by operators last through = go_by through.initial operators last through.goes
 
   -- no operators lead nowhere
-  pub goes_none : (s : List ℕ) → IsInitial p s → GoesThrough p [] s
+  pub goes_none : {start : List ℕ} (s : List ℕ) → Settles p start s → GoesThroughFrom p start [] s
   goes_none s starts = record { initial = s; starts = starts; goes = refl }
 
   -- the first of some operators lead to a state
@@ -32,7 +32,7 @@ module _ (p : Parts) where
   go_front s [] last (suc k) goes = (s, refl)
   go_front s (o ∷ os) last (suc k) (there, its, by, rest) = let w = go_front there os last k rest in (w.0, (there, its, by, w.1))
 
-  pub goes_front : (operators last : List ℕ) (k : ℕ) → GoesThrough p operators last → (there : List ℕ) × GoesThrough p (take k operators) there
+  pub goes_front : {start : List ℕ} (operators last : List ℕ) (k : ℕ) → GoesThroughFrom p start operators last → (there : List ℕ) × GoesThroughFrom p start (take k operators) there
   goes_front operators last k through =
       let w = go_front through.initial operators last k through.goes in
       (w.0, record { initial = through.initial; starts = through.starts; goes = w.1 })
@@ -75,16 +75,16 @@ module _ (p : Parts) where
   -- ---- in a layered task
 
   module _ (layered : IsLayered p) where
-    go_one_way : (s operators x y : List ℕ) → GoThrough p s operators x → GoThrough p s operators y → x ≡ y
+    pub go_one_way : (s operators x y : List ℕ) → GoThrough p s operators x → GoThrough p s operators y → x ≡ y
     go_one_way s [] x y g h = g ∙ sym h
     go_one_way s (o ∷ os) x y g h =
         go_one_way g.0 os x y g.3 (subst (λ z. GoThrough p z os y) (step_is_one p s (operator_at p o) h.0 g.0 layered h.2 g.2) h.3)
 
-    -- from the initial state
-    from : (operators last start : List ℕ) → IsInitial p start → GoesThrough p operators last → GoThrough p start operators last
-    from operators last start starts through = grind (arith, initial_is_one)
+    -- from the state of the start
+    pub from : {start : List ℕ} (operators last s : List ℕ) → Settles p start s → GoesThroughFrom p start operators last → GoThrough p s operators last
+    from {start = start} operators last s starts through = subst (λ z. GoThrough p z operators last) (settled_is_one p start through.initial s layered through.starts starts) through.goes
 
-    pub goes_one_way : (operators x y : List ℕ) → GoesThrough p operators x → GoesThrough p operators y → x ≡ y
+    pub goes_one_way : {start : List ℕ} (operators x y : List ℕ) → GoesThroughFrom p start operators x → GoesThroughFrom p start operators y → x ≡ y
     goes_one_way operators x y g h = go_one_way g.initial operators x y g.goes (from operators y g.initial g.starts h)
 
     -- each named step means its operator
@@ -100,7 +100,7 @@ module _ (p : Parts) where
 
     pub leads_chosen : (names : List (List ℕ)) (operators last : List ℕ) (k : ℕ) (there : List ℕ) → LeadsTo p names operators last → k < length operators
         → GoesThrough p (take k operators) there → IsChosen p there (get_or names k []) (get_or operators k 0)
-    leads_chosen names operators last k there leads lt through = search (arith, chosen_at, from)
+    leads_chosen names operators last k there leads lt through = chosen_at leads.initial names operators last k there leads.goes lt (from (take k operators) there leads.initial leads.starts through)
 
     -- operators that go through have a step at each of their numbers
     go_on : (s operators last : List ℕ) (k : ℕ) (there : List ℕ) → GoThrough p s operators last → k < length operators → GoThrough p s (take k operators) there
@@ -110,30 +110,30 @@ module _ (p : Parts) where
     go_on s (o ∷ os) last (suc k) there g lt h =
         go_on g.0 os last k there g.3 (omega arith) (subst (λ z. GoThrough p z (take k os) there) (step_is_one p s (operator_at p o) h.0 g.0 layered h.2 g.2) h.3)
 
-    pub goes_on : (operators last : List ℕ) (k : ℕ) (there : List ℕ) → GoesThrough p operators last → k < length operators → GoesThrough p (take k operators) there
+    pub goes_on : {start : List ℕ} (operators last : List ℕ) (k : ℕ) (there : List ℕ) → GoesThroughFrom p start operators last → k < length operators → GoesThroughFrom p start (take k operators) there
         → (get_or operators k 0 < length p.operators) × ((next : List ℕ) × Step p there (operator_at p (get_or operators k 0)) next)
     goes_on operators last k there g lt h = go_on g.initial operators last k there g.goes lt (from (take k operators) there g.initial g.starts h)
 
     -- ---- one more step is made
 
-    module _ (Means : ℕ → List ℕ → Choice → Type 0) (operators s : List ℕ) (makes : Makes p Means operators s) (operator : ℕ) (next : List ℕ)
+    module _ (start : List ℕ) (Means : ℕ → List ℕ → Choice → Type 0) (operators s : List ℕ) (makes : Makes p start Means operators s) (operator : ℕ) (next : List ℕ)
         (exists : operator < length p.operators) (means : Means (length operators) s (Found operator)) (step : Step p s (operator_at p operator) next) where
       abbrev more : List ℕ
       more = operators ++ operator ∷ []
 
-      each : (k : ℕ) (before : List ℕ) → k < length more → GoesThrough p (take k more) before → Means k before (Found (get_or more k 0))
+      each : (k : ℕ) (before : List ℕ) → k < length more → GoesThroughFrom p start (take k more) before → Means k before (Found (get_or more k 0))
       each k before lt goes = elim (cases_eq k (length operators)) [
         | inl is ↦
             let front : take k more ≡ operators = ap (λ n. take n more) is ∙ take-append_seam operators (operator ∷ []) in
-            let there : before ≡ s = goes_one_way operators before s (subst (λ os. GoesThrough p os before) front goes) makes.through in
+            let there : before ≡ s = goes_one_way operators before s (subst (λ os. GoesThroughFrom p start os before) front goes) makes.through in
             let its : get_or more k 0 ≡ operator = ap (λ n. get_or more n 0) is ∙ get_or-append_seam operators operator [] 0 in
             subst (λ o. Means k before (Found o)) (sym its) (subst (λ n. Means n before (Found operator)) (sym is) (subst (λ z. Means (length operators) z (Found operator)) (sym there) means))
         | inr other ↦
             let within : k < length operators = (let long = length-append operators (operator ∷ []) in omega arith) in
             let front : take k more ≡ take k operators = take-append-le k operators (operator ∷ []) (omega arith) in
             let its : get_or more k 0 ≡ get_or operators k 0 = get_or_append_left operators (operator ∷ []) 0 k within in
-            subst (λ o. Means k before (Found o)) (sym its) (makes.each k before within (subst (λ os. GoesThrough p os before) front goes))
+            subst (λ o. Means k before (Found o)) (sym its) (makes.each k before within (subst (λ os. GoesThroughFrom p start os before) front goes))
       ]
 
-      pub makes_one_more : Makes p Means more next
-      makes_one_more = grind (arith, goes_one_more, each)
+      pub makes_one_more : Makes p start Means more next
+      makes_one_more = record { through = goes_one_more operators s operator next makes.through exists step; each = each }

@@ -1,5 +1,5 @@
 -- The search in a long chain, in two lists, of which the first begins with the lower operator.
-use Rattle.sas_run.proofs.Imports.{◌≡◌, ℕ, ◌+◌, ◌<◌, ◌≤◌, ◌⊎◌, List, [], ◌∷◌, length, zero, suc, get_or, slice_index, Option, None, Some, refl, sym, ap, ◌∙◌, subst, inl, inr, arith, cases_lt, eq-or-lt_of_le, All-tail, All-head, All-contains, Contains-get_or, Fact, Parts, operator_at, Holds, preconditions, IsApplicable, IsFirstChosen, LongChain, Requires, operators_with, IsIn, ArePart, IsLongChain, AreEither, BeginsLower}
+use Rattle.sas_run.proofs.Imports.{◌≡◌, ℕ, ◌<◌, ◌≤◌, ◌⊎◌, List, [], ◌∷◌, zero, suc, slice_index, Option, None, Some, sym, ◌∙◌, subst, inl, inr, arith, cases_lt, All-tail, All-contains, Parts, operator_at, Holds, preconditions, IsApplicable, IsFirstChosen, LongChain, Requires, operators_with, IsIn, ArePart, IsLongChain, AreEither, BeginsLower}
 use Rattle.std.proofs.lemmas.Grind.{get_or_default_zero}
 use Rattle.std.proofs.lemmas.List.Elements.{Contains-append_cases}
 use Rattle.std.proofs.lemmas.List.Quantifiers.{all_pairs_remove}

@@ -1,7 +1,8 @@
 -- Executable steps are those of exactly one run. Laws about runs.
 use Rattle.std.proofs.lemmas.Grind.{common_steps}
-use Rattle.sas_run.proofs.Imports.{◌≡◌, ℕ, zero, suc, ◌+◌, ◌-◌, ◌<◌, ◌≤◌, List, [], ◌∷◌, ◌++◌, length, take, get_or, refl, sym, ◌∙◌, ap, subst, arith, All, take-append_seam, get_or-append_seam, same_lists, take_all, take_more, get_or_default, get_or-take, Parts, PlanParts, IsState, IsLayered, IsInitial, IsSettled, LeadFrom, LeadsTo, PlanFault, Memory, NoOperator, NotApplicable, Conflict, GoalMissed, CostDiffers, Run, state_at, last_state, StepsSucceed, steps_before, ComesTo, IsFaultOf, SomeRun, OneRun}
+use Rattle.sas_run.proofs.Imports.{◌≡◌, ℕ, zero, suc, ◌+◌, ◌-◌, ◌<◌, ◌≤◌, List, [], ◌∷◌, ◌++◌, length, take, get_or, refl, sym, ◌∙◌, ap, subst, arith, All, take-append_seam, get_or-append_seam, same_lists, take_all, take_more, get_or_default, get_or-take, Parts, PlanParts, IsState, IsLayered, IsInitial, IsSettled, LeadFrom, LeadsTo, PlanFault, Memory, NoOperator, NotApplicable, Conflict, GoalMissed, CostDiffers, Run, state_at, last_state, StepsSucceed, IsRunFrom, names_of, operator_at, GoThrough, GoesThroughFrom, length-map, steps_before, ComesTo, IsFaultOf, SomeRun, OneRun}
 use Rattle.sas_run.proofs.Determined.{leads_on, leads_one_way, initial_is_one}
+use Rattle.sas_run.proofs.GoingByNumbers.{leads_on_numbers}
 use Rattle.sas_run.proofs.Going.{MakesStep, leads_one_more, length_of_take}
 use Rattle.sas_run.proofs.PlanStates.{leads_to_rest, leads_by}
 
@@ -107,6 +108,70 @@ module _ (p : Parts) (run : Run) (through : StepsSucceed p run) where
 
   pub operators_exist : All (λ (o : ℕ). o < length p.operators) run.operators
   operators_exist = leads_by p run.steps run.operators (last_state run) leads_to_last
+
+-- ---- a run by names is one by numbers
+
+names_led : (p : Parts) (s : List ℕ) (names : List (List ℕ)) (operators last : List ℕ) → LeadFrom p s names operators last → names ≡ names_of p operators
+names_led p s [] [] last goes = refl
+names_led p s [] (o ∷ os) last goes = absurd goes
+names_led p s (n ∷ ns) [] last goes = absurd goes
+names_led p s (n ∷ ns) (o ∷ os) last (there, chosen, by, rest) =
+    ap (λ (name : List ℕ). name ∷ ns) (sym chosen.of_name.named) ∙ ap (λ (names : List (List ℕ)). (operator_at p o).name ∷ names) (names_led p there ns os last rest)
+
+pub run_from : (p : Parts) (run : Run) → StepsSucceed p run → IsRunFrom p p.init run
+run_from p run through = record {
+  operators = through.operators;
+  states = through.states;
+  leads = λ k le.
+      let leads = through.leads k le in
+      (leads_on_numbers p (take k run.steps) (take k run.operators) (state_at run k) leads, names_led p leads.initial (take k run.steps) (take k run.operators) (state_at run k) leads.goes);
+}
+
+-- ---- operators that go through are those of a run
+
+-- the states to which they lead
+record WentTo (p : Parts) (s operators last : List ℕ) : Type 0 where
+  states : List (List ℕ)
+  one_more : length states ≡ length operators + 1
+  each : (k : ℕ) → k ≤ length operators → GoThrough p s (take k operators) (get_or states k [])
+  ends : get_or states (length operators) [] ≡ last
+
+went : (p : Parts) (s operators last : List ℕ) → GoThrough p s operators last → WentTo p s operators last
+went p s [] last g = record { states = s ∷ []; one_more = refl; each = λ k le. at k (omega arith); ends = sym g }
+  where
+    at : (k : ℕ) → k ≡ 0 → GoThrough p s (take k []) (get_or (s ∷ []) k [])
+    at zero e = refl
+    at (suc k) e = absurd (omega arith)
+went p s (o ∷ os) last g = more (went p g.0 os last g.3)
+  where
+    more : WentTo p g.0 os last → WentTo p s (o ∷ os) last
+    more c = record { states = s ∷ c.states; one_more = (let e = c.one_more in omega arith); each = at; ends = c.ends }
+      where
+        at : (k : ℕ) → k ≤ length (o ∷ os) → GoThrough p s (take k (o ∷ os)) (get_or (s ∷ c.states) k [])
+        at zero le = refl
+        at (suc k) le = (g.0, g.1, g.2, c.each k (omega arith))
+
+names_of_first : (p : Parts) (operators : List ℕ) (k : ℕ) → take k (names_of p operators) ≡ names_of p (take k operators)
+names_of_first p operators zero = refl
+names_of_first p [] (suc k) = refl
+names_of_first p (o ∷ os) (suc k) = ap (λ (names : List (List ℕ)). (operator_at p o).name ∷ names) (names_of_first p os k)
+
+pub some_run_from : (p : Parts) (start operators last : List ℕ) → GoesThroughFrom p start operators last → (run : Run) × IsRunFrom p start run × (run.operators ≡ operators) × (last_state run ≡ last)
+some_run_from p start operators last through =
+    let c = went p through.initial operators last through.goes in
+    let many : length (names_of p operators) ≡ length operators = length-map operators (λ (o : ℕ). (operator_at p o).name) in (
+      record { steps = names_of p operators; operators = operators; states = c.states },
+      record {
+        operators = sym many;
+        states = c.one_more ∙ ap (λ n. n + 1) (sym many);
+        leads = λ k le. (
+          record { initial = through.initial; starts = through.starts; goes = c.each k (omega (arith, many)) },
+          names_of_first p operators k,
+        );
+      },
+      refl,
+      ap (λ k. get_or c.states k []) many ∙ c.ends,
+    )
 
 -- ---- its steps
 

@@ -1,11 +1,12 @@
--- Plans by numbers: each step is the operator with that number. No name is looked up.
+-- Plans by numbers: each step is the operator with that number. No name is looked up. They start in
+-- the initial state, or in any other.
 use Rattle.std.specs.Prelude.{◌≡◌, ℕ, ◌<◌, List, [], ◌∷◌, length, slice_index}
 use Rattle.sas_core.specs.declared.parts.Operator.{Operator}
 use Rattle.sas_core.specs.declared.parts.Parts.{Parts}
 use Rattle.sas_core.specs.Grounded.{operator_at}
 use Rattle.sas_meaning.specs.States.{AllHold}
 use Rattle.sas_meaning.specs.Steps.{Step}
-use Rattle.sas_meaning.specs.InitialStates.{IsInitial}
+use Rattle.sas_meaning.specs.Settled.{Settles}
 use Rattle.sas_run.specs.Plans.{cost_of_all}
 
 -- the operators with these numbers exist, and lead from the state s, one after another, to `last`;
@@ -22,16 +23,24 @@ OperatorsLead p IsStep s (operator ∷ operators) last = (next : List ℕ)
 abbrev pub GoThrough : Parts → List ℕ → List ℕ → List ℕ → Type 0
 GoThrough p = OperatorsLead p (Step p)
 
--- they lead from the initial state to `last`
-pub record GoesThrough (p : Parts) (operators last : List ℕ) : Type 0 where
+-- they lead to `last` from the settled state with the basic values of the state s
+pub record GoesThroughFrom (p : Parts) (s operators last : List ℕ) : Type 0 where
   pub initial : List ℕ
-  pub starts : IsInitial p initial
+  pub starts : Settles p s initial
   pub goes : GoThrough p initial operators last
 
--- The operators with these numbers are a valid plan of this cost if they lead from the initial
--- state to a state in which the goal holds, and their costs add up to it.
-pub record IsValidByNumbers (p : Parts) (operators : List ℕ) (cost : ℕ) : Type 0 where
+-- they lead to `last` from the initial state
+abbrev pub GoesThrough : Parts → List ℕ → List ℕ → Type 0
+GoesThrough p = GoesThroughFrom p p.init
+
+-- Valid by numbers from the state s: from the settled state with its basic values, the operators
+-- with these numbers lead to a state in which the goal holds, and their costs add up to this cost.
+pub record IsValidFrom (p : Parts) (s operators : List ℕ) (cost : ℕ) : Type 0 where
   pub last : List ℕ
-  pub through : GoesThrough p operators last
+  pub through : GoesThroughFrom p s operators last
   pub goal : AllHold (slice_index last) p.goal
   pub costs : cost_of_all p operators ≡ cost
+
+-- valid by numbers: from the initial state
+abbrev pub IsValidByNumbers : Parts → List ℕ → ℕ → Type 0
+IsValidByNumbers p = IsValidFrom p p.init

@@ -11,7 +11,7 @@ use Rattle.sas_run.specs.declared.choice.Choice.{Choice}
 use Rattle.sas_run.specs.declared.choice.Choice.TheVariants.{Unknown, Blocked, Found}
 use Rattle.sas_names.specs.Chains.{AreStepOperators}
 use Rattle.sas_run.specs.declared.long_chains.LongChains.{LongChains}
-use Rattle.sas_run.specs.ByNumbers.{GoesThrough}
+use Rattle.sas_run.specs.ByNumbers.{GoesThroughFrom}
 use Rattle.sas_run.specs.LongChains.{AreLongChains}
 use Rattle.sas_run.specs.Plans.{IsApplicable}
 use Rattle.sas_run.specs.Running.{IsFinalVerdict, StepFailsBy}
@@ -46,13 +46,14 @@ MakesStepBy p Means s step s' (Ok operator) = Means (Found operator)
     × Step p s (operator_at p operator) s'
 MakesStepBy p Means s step s' (Err fault) = StepFailsBy p Means s step fault × (s' ≡ s)
 
--- `Means` holds for what a step, by its number from 0, means in a state.
-module _ (p : Parts) (Means : ℕ → List ℕ → Choice → Type 0) where
+-- `Means` holds for what a step, by its number from 0, means in a state. The first step is made in
+-- the settled state with the basic values of `start`.
+module _ (p : Parts) (start : List ℕ) (Means : ℕ → List ℕ → Choice → Type 0) where
   -- the first steps lead to the state s by these operators, and each means its operator
   pub record Makes (operators s : List ℕ) : Type 0 where
-    pub through : GoesThrough p operators s
+    pub through : GoesThroughFrom p start operators s
     pub each : (step : ℕ) (before : List ℕ) → step < length operators
-        → GoesThrough p (take step operators) before
+        → GoesThroughFrom p start (take step operators) before
         → Means step before (Found (slice_index operators step))
 
   -- the step after those of these operators fails in the state s

@@ -1,16 +1,18 @@
 -- What follows from the definitions: a plan of a layered task is valid in one way, or has exactly
 -- one fault. Its steps lead to a reachable state, and are those of exactly one run. A plan by names
--- is one by numbers, of the operators that the names mean.
-use Rattle.std.specs.Prelude.{◌≡◌, ◌↔◌, ◌⊎◌, ℕ, ◌<◌, List, [], length, take, slice_index, slice_index_or}
+-- is one by numbers, of the operators that the names mean. What is left of a plan by numbers is
+-- valid where it has come to, exactly if the plan is.
+use Rattle.std.specs.Prelude.{◌≡◌, ◌↔◌, ◌⊎◌, ℕ, ◌-◌, ◌<◌, ◌≤◌, List, [], ◌++◌, length, take, slice_index, slice_index_or}
 use Rattle.sas_core.specs.declared.parts.Parts.{Parts}
 use Rattle.sas_core.specs.PlanParts.{PlanParts}
+use Rattle.sas_core.specs.Variables.{IsState}
 use Rattle.sas_core.specs.WellRanged.{WellRanged}
 use Rattle.sas_meaning.specs.Layers.{IsLayered}
 use Rattle.sas_meaning.specs.Reachable.{Reachable}
 use Rattle.sas_run.specs.declared.plan_check.PlanFault.{PlanFault}
-use Rattle.sas_run.specs.ByNumbers.{GoesThrough, IsValidByNumbers}
-use Rattle.sas_run.specs.NumberFaults.{IsFaultByNumbers}
-use Rattle.sas_run.specs.Plans.{IsChosen, LeadsTo, IsValid}
+use Rattle.sas_run.specs.ByNumbers.{GoesThrough, GoesThroughFrom, IsValidByNumbers, IsValidFrom}
+use Rattle.sas_run.specs.NumberFaults.{IsFaultFrom}
+use Rattle.sas_run.specs.Plans.{IsChosen, LeadsTo, IsValid, cost_of_all}
 use Rattle.sas_run.specs.Runs.{Run, last_state, StepsSucceed}
 use Rattle.sas_run.specs.Verdicts.{IsFaultOf}
 
@@ -70,18 +72,27 @@ ValidByNumbers = (p : Parts) (plan : PlanParts) (operators : List ℕ) → IsLay
     → IsValid p plan operators
     ↔ (AreChosen p plan.steps operators × IsValidByNumbers p operators plan.cost)
 
--- by numbers, too, a plan is valid or has a fault
+-- by numbers, too, a plan is valid or has a fault, from the initial state and from any other
 abbrev pub SomeVerdictByNumbers : Type 0
-SomeVerdictByNumbers = (p : Parts) (operators : List ℕ) (cost : ℕ) → WellRanged p → IsLayered p
-    → IsValidByNumbers p operators cost
-    ⊎ ((fault : PlanFault) × IsFaultByNumbers p operators cost fault)
+SomeVerdictByNumbers = (p : Parts) (s operators : List ℕ) (cost : ℕ) → WellRanged p → IsLayered p
+    → IsState p.variables s
+    → IsValidFrom p s operators cost ⊎ ((fault : PlanFault) × IsFaultFrom p s operators cost fault)
 
 -- not both
 abbrev pub NumbersHaveNoFault : Type 0
-NumbersHaveNoFault = (p : Parts) (operators : List ℕ) (cost : ℕ) (fault : PlanFault) → IsLayered p
-    → IsValidByNumbers p operators cost → IsFaultByNumbers p operators cost fault → ⊥
+NumbersHaveNoFault = (p : Parts) (s operators : List ℕ) (cost : ℕ) (fault : PlanFault)
+    → IsLayered p → IsValidFrom p s operators cost → IsFaultFrom p s operators cost fault → ⊥
 
 -- and at most one fault
 abbrev pub FaultByNumbersIsOne : Type 0
-FaultByNumbersIsOne = (p : Parts) (operators : List ℕ) (cost : ℕ) (a b : PlanFault) → IsLayered p
-    → IsFaultByNumbers p operators cost a → IsFaultByNumbers p operators cost b → a ≡ b
+FaultByNumbersIsOne = (p : Parts) (s operators : List ℕ) (cost : ℕ) (a b : PlanFault)
+    → IsLayered p → IsFaultFrom p s operators cost a → IsFaultFrom p s operators cost b → a ≡ b
+
+-- The theorem of execution monitoring: where the operators that were made lead from `start` to the
+-- state s, they and the rest are valid from `start` at a cost exactly if the rest is valid from s
+-- at what is left of the cost.
+abbrev pub RestIsValid : Type 0
+RestIsValid = (p : Parts) (start made rest s : List ℕ) (cost : ℕ) → IsLayered p
+    → GoesThroughFrom p start made s
+    → IsValidFrom p start (made ++ rest) cost
+    ↔ ((cost_of_all p made ≤ cost) × IsValidFrom p s rest (cost - cost_of_all p made))

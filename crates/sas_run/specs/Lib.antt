@@ -1,7 +1,9 @@
 -- The modules that public contracts cite.
 pub mod LongChains
 pub mod Plans
+pub mod Anyway
 pub mod ByNumbers
+pub mod Starts
 pub mod Verdicts
 pub mod Laws
 pub mod OtherSenses

@@ -1,5 +1,5 @@
 -- Chains with many operators, by a value that they require of one variable.
-use Rattle.std.specs.Prelude.{◌≡◌, ◌≢◌, ◌⊎◌, ℕ, ◌<◌, ◌≤◌, List, [], ◌∷◌, ◌++◌, length, All, Contains, Option, None, Some, IfSome, slice_index, ⊤}
+use Rattle.std.specs.Prelude.{◌≡◌, ◌≢◌, ◌⊎◌, ℕ, ◌<◌, ◌≤◌, List, [], ◌∷◌, ◌++◌, length, All, Contains, Option, None, Some, IfSome, slice_index}
 use Rattle.std.specs.BTreeMap as tree
 use Rattle.std.specs.Global.{Vec}
 use Rattle.std.specs.List.{AllPairs}

@@ -1,9 +1,12 @@
--- Runs: steps that are executable from the initial state, with their operators and states.
-use Rattle.std.specs.Prelude.{◌≡◌, ℕ, ◌+◌, ◌-◌, ◌≤◌, List, [], length, take, slice_index_or, Option, Some, None}
+-- Runs: steps that are executable from the initial state, or from another one, with their operators
+-- and states.
+use Rattle.std.specs.Prelude.{◌≡◌, ℕ, ◌+◌, ◌-◌, ◌≤◌, List, [], length, map, take, slice_index_or, Option, Some, None}
 use Rattle.sas_core.specs.declared.parts.Parts.{Parts}
+use Rattle.sas_core.specs.Grounded.{operator_at}
 use Rattle.sas_core.specs.PlanParts.{PlanParts}
 use Rattle.sas_run.specs.declared.plan_check.PlanFault.{PlanFault}
 use Rattle.sas_run.specs.declared.plan_check.PlanFault.TheVariants.{Memory, NoOperator, NotApplicable, Conflict, GoalMissed, CostDiffers}
+use Rattle.sas_run.specs.ByNumbers.{GoesThroughFrom}
 use Rattle.sas_run.specs.Plans.{LeadsTo, IsValid}
 use Rattle.sas_run.specs.Verdicts.{IsFaultOf}
 
@@ -22,12 +25,26 @@ state_at run number = slice_index_or run.states number []
 abbrev pub last_state : Run → List ℕ
 last_state run = state_at run (length run.steps)
 
--- the run is executable: for each k its first k steps lead from the initial state to state k
-pub record StepsSucceed (p : Parts) (run : Run) : Type 0 where
+-- the run is executable: for each k its first k steps lead by their operators to state k; `Lead`
+-- says which steps lead where
+pub record StepsLead (Lead : List (List ℕ) → List ℕ → List ℕ → Type 0) (run : Run) : Type 0 where
   pub operators : length run.operators ≡ length run.steps
   pub states : length run.states ≡ length run.steps + 1
   pub leads : (k : ℕ) → k ≤ length run.steps
-      → LeadsTo p (take k run.steps) (take k run.operators) (state_at run k)
+      → Lead (take k run.steps) (take k run.operators) (state_at run k)
+
+-- it is executable from the initial state
+abbrev pub StepsSucceed : Parts → Run → Type 0
+StepsSucceed p = StepsLead (LeadsTo p)
+
+-- the names of these operators
+abbrev pub names_of : Parts → List ℕ → List (List ℕ)
+names_of p operators = map (λ operator. (operator_at p operator).name) operators
+
+-- it is executable by numbers from the state s, and its steps have the names of their operators
+abbrev pub IsRunFrom : Parts → List ℕ → Run → Type 0
+IsRunFrom p s = StepsLead (λ steps operators last. GoesThroughFrom p s operators last
+    × (steps ≡ names_of p operators))
 
 -- the run is executable, and its steps are the first steps of the plan
 pub record IsRunOf (p : Parts) (plan : PlanParts) (run : Run) : Type 0 where

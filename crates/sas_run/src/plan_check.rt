@@ -1,12 +1,14 @@
 // Checks whether a plan is valid.
 ghost use Rattle.std.specs.Prelude.{◌≡◌, ◌^◌, ◌+◌, ◌<◌, IfOk, IfErr};
 ghost use Rattle.sas_run.specs.Choosers.{EndsPlan, IsFaultByOrMemory, IsSolutionBy};
+ghost use Rattle.sas_run.specs.Starts.{start_of};
 ghost use Rattle.sas_run.specs.Stepping.{IsPrepared};
 
 use crate::choosers::Chooser;
 use crate::executor::make_steps;
 use crate::goal_and_cost::last_fault;
-use crate::stepper::{Stepper, initial_of};
+use crate::starts::starting_state;
+use crate::stepper::Stepper;
 use sas_core::Grounded;
 use sas_meaning::{Layered, Settle};
 use std::alloc::{AllocError, Global};
@@ -62,10 +64,12 @@ pub fn check<E: Settle<T> + Drop, T: Grounded, C: Chooser<T>>(
     requires prepared { IsPrepared E.ready layered.now stepper.old }
     requires ready { C.ready chooser.now layered.now }
     ensures prepared { IsPrepared E.ready layered.now stepper.new }
-    ensures valid { IfOk result (IsSolutionBy layered.now (C.means chooser.now layered.now)
-        (C.count chooser.now) (C.costs chooser.now)) }
-    ensures fault { IfErr result (IsFaultByOrMemory layered.now (C.means chooser.now layered.now)
-        (C.count chooser.now) (C.costs chooser.now)) }
+    ensures valid { IfOk result (IsSolutionBy layered.now
+        (start_of layered.now (C.starts chooser.now))
+        (C.means chooser.now layered.now) (C.count chooser.now) (C.costs chooser.now)) }
+    ensures fault { IfErr result (IsFaultByOrMemory layered.now
+        (start_of layered.now (C.starts chooser.now))
+        (C.means chooser.now layered.now) (C.count chooser.now) (C.costs chooser.now)) }
 {
     let end = find_end(alloc, layered, stepper, chooser)?;
     match end.fault {
@@ -87,11 +91,13 @@ pub fn find_end<E: Settle<T> + Drop, T: Grounded, C: Chooser<T>>(
     requires prepared { IsPrepared E.ready layered.now stepper.old }
     requires ready { C.ready chooser.now layered.now }
     ensures prepared { IsPrepared E.ready layered.now stepper.new }
-    ensures ends { IfOk result (λ end. EndsPlan layered.now (C.means chooser.now layered.now)
+    ensures ends { IfOk result (λ end. EndsPlan layered.now
+        (start_of layered.now (C.starts chooser.now)) (C.means chooser.now layered.now)
         (C.count chooser.now) (C.costs chooser.now) end.operators.items end.fault) }
 {
     let mut operators = Vec::with_capacity(alloc, chooser.steps())?;
-    let mut state = initial_of(alloc, layered, stepper)?;
+    let start = chooser.start(layered);
+    let mut state = starting_state(alloc, layered, stepper, start)?;
     let fault = match make_steps(layered, stepper, chooser, &mut state, &mut operators) {
         Some(fault) => Some(fault),
         None => last_fault(layered, operators.as_slice(), &state, chooser.cost()),

@@ -2,6 +2,7 @@
 ghost use Rattle.std.specs.Prelude.{◌≡◌, ◌<◌, ◌≤◌, ℕ, List, length, IfOk, OnOk, IfErr, IfSome, IsFalse};
 ghost use Rattle.sas_core.specs.Grounded.{operator_at};
 ghost use Rattle.sas_core.specs.Variables.{IsState};
+ghost use Rattle.sas_meaning.specs.FastDownward.{ForcedStep};
 ghost use Rattle.sas_meaning.specs.Following.{ListsDerived};
 ghost use Rattle.sas_meaning.specs.Layers.{IsBasic, IsLayered};
 ghost use Rattle.sas_meaning.specs.InitialStates.{IsInitial};
@@ -12,9 +13,9 @@ ghost use Rattle.sas_run.specs.Running.{Steps};
 ghost use Rattle.sas_run.specs.Stepping.{HasChanged, IsAt, IsPrepared};
 
 use crate::deletions::DeletedFacts;
-use crate::steps::{StepFault, apply};
+use crate::steps::{StepFault, apply, give_last, write_given};
 use sas_core::{Grounded, Items};
-use sas_meaning::{Layered, Settle, State};
+use sas_meaning::{Layered, Settle, State, has_derived};
 use std::alloc::{AllocError, Global};
 
 /// An evaluator, and the memory for a step.
@@ -72,7 +73,7 @@ fn memory_for<T: Grounded>(
     ensures basic { IfOk result (λ m. IsFalse m.1.noted → (var : ℕ) → IsBasic layered.now var) }
 {
     let task = layered.task();
-    let noted = has_derived(layered);
+    let noted = has_derived(task);
     let room = if noted { most_effects(layered) } else { 0 };
     let facts = Vec::with_capacity(alloc, room)?;
     let given = vec![in alloc; None; task.variables() as usize]?;
@@ -139,6 +140,31 @@ pub fn go_on_from<E: Settle<T> + Drop, T: Grounded>(
     Ok(())
 }
 
+/// Makes the step of an operator from the state that the evaluator settled last, whether its preconditions hold or not. Where its effects
+/// conflict, the last one counts.
+pub fn force<E: Settle<T> + Drop, T: Grounded>(
+    layered: &Layered<T>,
+    stepper: &mut Stepper<E>,
+    operator: u32,
+    state: &mut State,
+)
+    requires at { IsAt E.ready E.follows layered.now stepper.old state.old }
+    requires operator { operator < length layered.now.operators }
+    ensures at { IsAt E.ready E.follows layered.now stepper.new state.new }
+    ensures forced { ForcedStep layered.now state.old (operator_at layered.now operator) state.new }
+{
+    // By its contract the task is well ranged and layered.
+    let _ = layered.task();
+    let given = &mut stepper.given;
+    let deleted = &mut stepper.deleted;
+    give_last(layered, operator, state, given);
+    write_given(layered, operator, given, deleted, state);
+    if stepper.deleted.noted {
+        let gone = stepper.deleted.facts.as_slice();
+        stepper.evaluator.settle_on(layered, gone, state);
+    }
+}
+
 /// Returns a list of derived variables that has all that the last step changed. Returns `None` if the evaluator doesn't have it.
 #[inline(always)]
 pub fn changed_by<E: Settle<T> + Drop, T: Grounded>(stepper: &Stepper<E>) -> Option<&[u32]>
@@ -161,16 +187,4 @@ fn most_effects<T: Grounded>(task: &Layered<T>) -> usize
         most = most.max(task.effects(operator) as usize);
     }
     most
-}
-
-/// Returns whether a variable of the task is derived.
-fn has_derived<T: Grounded>(task: &Layered<T>) -> bool
-    ensures { IsFalse result → (var : ℕ) → IsBasic task.now var }
-{
-    for var in 0..task.variables() {
-        if task.layer(var).is_some() {
-            return true;
-        }
-    }
-    false
 }

@@ -3,6 +3,7 @@ ghost use Rattle.std.specs.Prelude.{◌≡◌, ℕ, ◌<◌, length, IsTrue, IsF
 ghost use Rattle.sas_core.specs.Changes.{plain_effects};
 ghost use Rattle.sas_core.specs.Grounded.{operator_at};
 ghost use Rattle.sas_core.specs.Variables.{IsState};
+ghost use Rattle.sas_meaning.specs.StepLaws.{written};
 ghost use Rattle.sas_run.specs.PlainSteps.{DeletedHasRoom, NotesOn, NotesGone};
 ghost use Rattle.sas_run.specs.Plans.{IsApplicable};
 ghost use Rattle.sas_run.specs.Running.{IsFirstConflict, IsStepFault, Applies};
@@ -168,6 +169,31 @@ fn give_each<T: Grounded>(
     None
 }
 
+/// Stores, for each variable, the value to which the last effect that fires on it sets it.
+pub fn give_last<T: Grounded>(
+    task: &Layered<T>,
+    operator: u32,
+    state: &State,
+    given: &mut Items<Option<u32>>,
+)
+    requires operator { operator < length task.now.operators }
+    requires state { IsState task.now.variables state.now }
+    requires clean { NothingGiven task.now given.old }
+    ensures given { (var : ℕ) → value_after given.new state.now var ≡ slice_index
+        (written state.now (operator_at task.now operator).effects state.now) var }
+    ensures given_to { IsGivenTo task.now (operator_at task.now operator) given.new }
+{
+    // By its contract the task is well ranged and layered.
+    let _ = task.task();
+    for effect in 0..task.effects(operator) {
+        if !state.holds_all(task.effect_conditions(operator, effect)) {
+            continue;
+        }
+        let change = task.effect_change(operator, effect);
+        given.set(change.var as usize, Some(change.new));
+    }
+}
+
 /// Stores the value for the variable. If another value is already stored, changes nothing and returns false.
 fn give(given: &mut Items<Option<u32>>, var: u32, value: u32) -> bool
     requires { var < length given.old }
@@ -201,7 +227,7 @@ fn take_back<T: Grounded>(task: &Layered<T>, operator: u32, given: &mut Items<Op
 /// Moves the values that are stored for the variables of the effects into the state. If deleted facts are noted, `deleted` then contains
 /// those that became false.
 #[inline(always)]
-fn write_given<T: Grounded>(
+pub fn write_given<T: Grounded>(
     task: &Layered<T>,
     operator: u32,
     given: &mut Items<Option<u32>>,

@@ -8,7 +8,7 @@ use Rattle.sas_core.specs.declared.parts.Effect.{Effect}
 use Rattle.sas_core.specs.declared.parts.Parts.{Parts}
 use Rattle.sas_task_file.specs.declared.places.Event.{Event}
 use Rattle.sas_task_file.specs.declared.places.Event.TheVariants as event
-use Rattle.sas_task_file.specs.declared.task_events.LineValues.{LineValues}
+use Rattle.sas_task_file.specs.declared.line_values.LineValues.{LineValues}
 use Rattle.sas_task_file.specs.declared.so_far.SoFar.{SoFar}
 
 -- no parts were read yet

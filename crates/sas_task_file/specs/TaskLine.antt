@@ -11,7 +11,7 @@ use Rattle.sas_task_file.specs.Marks.{fixed_word_bytes, slot_of_due}
 use Rattle.sas_task_file.specs.TaskFormat.{TaskLine, word, name, number, signed, fact, effect, head, TaskSlot, task_line_bytes, task_format, TaskLineFits}
 use Rattle.sas_task_file.specs.TaskValues.{is_from, name_in, number_in, fact_in, effect_in, head_in}
 use Rattle.sas_task_file.specs.TaskRanges.{fact_in_ranges, effect_in_ranges, head_in_ranges}
-use Rattle.sas_task_file.specs.declared.task_events.LineValues.{LineValues}
+use Rattle.sas_task_file.specs.declared.line_values.LineValues.{LineValues}
 
 -- a fault of a line itself: not an early end, a failed read or out of memory
 abbrev pub IsOfLine : Kind → Type 0

@@ -11,7 +11,7 @@ use Rattle.sas_task_file.specs.TaskFormat.{TaskLine, TaskSlot}
 use Rattle.sas_task_file.specs.TaskValues.{name_in, number_in, signed_in, fact_in, effect_in, head_in}
 use Rattle.sas_task_file.specs.Tracker.{tracker_start, track_line, row_in}
 use Rattle.sas_task_file.specs.declared.so_far.SoFar.{SoFar}
-use Rattle.sas_task_file.specs.declared.task_events.LineValues.{LineValues}
+use Rattle.sas_task_file.specs.declared.line_values.LineValues.{LineValues}
 use Rattle.sas_task_file.specs.TaskEvents.{after, nothing_yet}
 use Rattle.sas_task_file.specs.TaskLine.{test_of_due}
 

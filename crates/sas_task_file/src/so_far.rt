@@ -1,11 +1,11 @@
 // Stores the content of a task file while it is read.
 ghost use Rattle.std.specs.Prelude.{◌≡◌, [], OnOk};
 ghost use Rattle.sas_task_file.specs.declared.places.Event.TheVariants as event;
-ghost use Rattle.sas_task_file.specs.declared.task_events.LineValues.{LineValues};
+ghost use Rattle.sas_task_file.specs.declared.line_values.LineValues.{LineValues};
 ghost use Rattle.sas_task_file.specs.TaskEvents.{nothing_yet, after};
 
+use crate::line_values::LineValues;
 use crate::places::Event;
-use crate::task_events::LineValues;
 use sas_core::{Effect, Fact, Items, Operator, Parts, Rule, Variable};
 use std::alloc::{AllocError, Global};
 use std::mem;

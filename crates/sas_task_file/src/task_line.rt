@@ -10,7 +10,7 @@ ghost use Rattle.sas_task_file.specs.TaskWords.{Spells, TakesNumber, TakesSigned
 
 use crate::Due;
 use crate::ahead::read_fact_to;
-use crate::task_events::LineValues;
+use crate::line_values::LineValues;
 use sas_core::{Change, Effect, Fact, Items, is_name};
 use sas_lines::{Numbers, number, signed};
 use sas_reader::{Kind, Lf};

@@ -91,9 +91,9 @@ pub use Rattle.sas_task_file.specs.declared.places.Move.{Move}
 pub use Rattle.sas_task_file.specs.declared.places.Place.{Place}
 pub use Rattle.sas_task_file.specs.declared.places.Row.{Row}
 pub use Rattle.sas_task_file.specs.declared.so_far.SoFar.{SoFar}
-pub use Rattle.sas_task_file.specs.declared.task_events.LineValues.{LineValues}
+pub use Rattle.sas_task_file.specs.declared.line_values.LineValues.{LineValues}
 pub use Rattle.sas_task_file.specs.declared.tracker.Tracker.{Tracker}
-pub use Rattle.sas_task_reader.specs.Marks.{due_slot, mark_of, WrongWordIn, count_of, IsLastLine}
+pub use Rattle.sas_task_reader.specs.NextLine.{due_slot, mark_of, WrongWordIn, count_of, IsLastLine}
 pub use Rattle.sas_task_reader.specs.Sections.{ContentOf, section_lines, behind_section, SectionAhead, KeepsSection, AddsSection}
 pub use Rattle.sas_task_reader.specs.TaskJudge.{state_of, row_of, HasEnded, SectionDue, past_section, RejectsLine, JudgesLine, MovesAhead, HasRow, NotesLine}
 pub use Rattle.sas_task_reader.specs.TaskMachine.{LedBy, MachineStopped, task_behavior, reader_behavior, counts_behind, HasNoted}

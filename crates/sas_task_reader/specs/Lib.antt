@@ -1,7 +1,7 @@
 pub mod TaskJudge
 pub mod TaskMachine
 pub mod Sections
-pub mod Marks
+pub mod NextLine
 pub mod TaskOutline
 pub mod TaskReader
 pub mod TaskRefusal

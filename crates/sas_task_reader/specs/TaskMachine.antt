@@ -14,7 +14,7 @@ use Rattle.sas_task_file.specs.Tracker.{tracker_start, counts_start, counts_afte
 use Rattle.sas_task_reader.specs.declared.task_judge.TaskJudge.{TaskJudge}
 use Rattle.sas_task_reader.specs.TaskJudge.{state_of, HasEnded, RejectsLine, StandsAsBefore}
 use Rattle.sas_task_file.specs.TaskStates.{table_node, table_start}
-use Rattle.sas_task_reader.specs.Marks.{count_of, WrongWordIn}
+use Rattle.sas_task_reader.specs.NextLine.{count_of, WrongWordIn}
 
 -- the counts after the first lines of a task
 abbrev pub counts_behind : List TaskLine → Counts

@@ -2,7 +2,7 @@
 ghost use Rattle.std.specs.Prelude.{◌≡◌, ℕ, List, [], OnOk};
 ghost use Rattle.sas_core.specs.WellRanged.{WellRanged};
 ghost use Rattle.sas_task_file.specs.declared.places.Event.TheVariants as event;
-ghost use Rattle.sas_task_file.specs.declared.task_events.LineValues.{LineValues};
+ghost use Rattle.sas_task_file.specs.declared.line_values.LineValues.{LineValues};
 ghost use Rattle.sas_task_file.specs.TaskEvents.{nothing_yet, after};
 ghost use Rattle.sas_task_reader.specs.Sections.{AddsSection};
 ghost use Rattle.sas_task_reader.specs.TaskOutline.{outline_with};

@@ -4,7 +4,7 @@ ghost use Rattle.sas_task_file.specs.Tracker.{tracker_start, counts_start};
 ghost use Rattle.sas_task_reader.specs.TaskJudge.{JudgesLine, NotesLine, HasEnded};
 
 mod ahead;
-mod marks;
+mod next_line;
 mod sections;
 
 use sas_reader::Kind;

@@ -7,7 +7,7 @@ use Rattle.sas_answers.specs.declared.ending.ToolFault.TheVariants.{Memory, Read
 use Rattle.sas_requests.specs.declared.question.Question.{Question}
 use Rattle.sas_words.specs.declared.calls.WordsFault.{WordsFault}
 use Rattle.sas_words.specs.declared.calls.WordsFault.TheVariants as fault
-use Rattle.sas_tool.specs.Does.{Does, IsLast, IsUnanswered, Reports, words_held}
+use Rattle.sas_tool.specs.Does.{Does, IsLast, IsUnanswered, Refuses, words_held}
 use Rattle.sas_words.specs.Grammar.{plan_words, task_words}
 use Rattle.sas_tool.specs.Endings.{error_text, status_of}
 use Rattle.sas_tool.specs.Files.{source_held}
@@ -62,7 +62,7 @@ no_memory question task plan old Same same = record {
 }
 
 pub refused_does : (question : Question) (held : List (List ℕ) → Held) (task plan files : List (List ℕ)) (old : Option (List ℕ)) (Same : Type 0) (Put : List ℕ → Type 0)
-    (result : Result ℕ WordsFault) (f : WordsFault) → Same → files ≢ codes "-" ∷ codes "-" ∷ [] → IsRefusedFor files f → Reports Put result f → IsOkAnd result (Does question held task plan old old Same Put)
+    (result : Result ℕ WordsFault) (f : WordsFault) → Same → files ≢ codes "-" ∷ codes "-" ∷ [] → IsRefusedFor files f → Refuses Put result f → IsOkAnd result (Does question held task plan old old Same Put)
 refused_does question held task plan files old Same Put (Ok status) fault.Memory same once refused reports = record {
   end = ended.Answered (Err Memory);
   last = None;
@@ -81,7 +81,7 @@ refused_does question held task plan files old Same Put result (fault.Refused er
 refused_does question held task plan files old Same Put result (fault.Version error) same once refused reports = absurd refused
 
 pub refused_says : (b c : List ℕ) (Sent : List ℕ → Type 0) (files : List (List ℕ)) (Put : List ℕ → Type 0) (result : Result ℕ WordsFault) (f : WordsFault)
-    → IsRefusedFor files f → Reports Put result f → IsOkAnd result (Says b c Sent)
+    → IsRefusedFor files f → Refuses Put result f → IsOkAnd result (Says b c Sent)
 refused_says b c Sent files Put (Ok status) fault.Memory refused reports = says_none b c Sent status (omega (arith, reports.0))
 refused_says b c Sent files Put (Err e) fault.Memory refused reports = absurd reports
 refused_says b c Sent files Put (Ok status) fault.InputTwice refused reports = says_none b c Sent status (omega (arith, reports.0))
@@ -90,7 +90,7 @@ refused_says b c Sent files Put result (fault.Refused error) refused reports = a
 refused_says b c Sent files Put result (fault.Version error) refused reports = absurd refused
 
 -- two files that are standard input
-pub refused_twice : (files : List (List ℕ)) (Put : List ℕ → Type 0) (result : Result ℕ WordsFault) (f : WordsFault) → IsRefusedFor files f → Reports Put result f → IsOkAnd result (IsUnanswered Put)
+pub refused_twice : (files : List (List ℕ)) (Put : List ℕ → Type 0) (result : Result ℕ WordsFault) (f : WordsFault) → IsRefusedFor files f → Refuses Put result f → IsOkAnd result (IsUnanswered Put)
 refused_twice files Put (Ok status) fault.Memory refused reports = inl reports
 refused_twice files Put (Err e) fault.Memory refused reports = absurd reports
 refused_twice files Put (Ok status) fault.InputTwice refused reports = inr reports
@@ -99,7 +99,7 @@ refused_twice files Put result (fault.Refused error) refused reports = absurd re
 refused_twice files Put result (fault.Version error) refused reports = absurd refused
 
 -- groups
-pub refused_groups : (P : Type 0) (files : List (List ℕ)) (Put : List ℕ → Type 0) (result : Result ℕ WordsFault) (f : WordsFault) → IsRefusedFor files f → Reports Put result f → IsOkAnd result (λ status. status < 2 → P)
+pub refused_groups : (P : Type 0) (files : List (List ℕ)) (Put : List ℕ → Type 0) (result : Result ℕ WordsFault) (f : WordsFault) → IsRefusedFor files f → Refuses Put result f → IsOkAnd result (λ status. status < 2 → P)
 refused_groups P files Put (Ok status) fault.Memory refused reports = λ less. none_said P status (omega (arith, reports.0)) less
 refused_groups P files Put (Err e) fault.Memory refused reports = absurd reports
 refused_groups P files Put (Ok status) fault.InputTwice refused reports = λ less. none_said P status (omega (arith, reports.0)) less
@@ -108,7 +108,7 @@ refused_groups P files Put result (fault.Refused error) refused reports = absurd
 refused_groups P files Put result (fault.Version error) refused reports = absurd refused
 
 -- and words that are no call
-pub refused_words : (Put : List ℕ → Type 0) (result : Result ℕ WordsFault) (f : WordsFault) → Reports Put result f → IfOk result (λ status. 1 < status)
+pub refused_words : (Put : List ℕ → Type 0) (result : Result ℕ WordsFault) (f : WordsFault) → Refuses Put result f → IfOk result (λ status. 1 < status)
 refused_words Put (Ok status) fault.Memory reports = omega (arith, reports.0)
 refused_words Put (Ok status) fault.InputTwice reports = omega (arith, reports.0)
 refused_words Put (Ok status) (fault.Refused error) reports = absurd reports

@@ -1,5 +1,6 @@
 -- Which job a call asks for.
 use Rattle.std.proofs.lemmas.Option.{none-some, same_Some}
+use Rattle.std.specs.Prelude.{⊤}
 use Rattle.std.proofs.Common.{◌≡◌, ◌∙◌, ◌<◌, ℕ, Bool, true, false, cond, refl, sym, ap, subst, arith, inl, inr, List, [], ◌∷◌, length, drop, take, bytes_eq, codes, Option, Some, None, Result, Ok, Err, IfOk, MatchResult}
 use Rattle.sas_requests.specs.declared.question.Question.{Question}
 use Rattle.sas_words.specs.Calls.{IsMemory, name_of}
@@ -37,7 +38,7 @@ abbrev pub Few : List ℕ → List (List ℕ) → Type 0
 Few name files = length (plan_words name files) < 2
 
 abbrev Fits : Named → Bool → List (List ℕ) → Type 0
-Fits named.Plans why files = why ≡ false
+Fits named.Plans why files = ⊤
 Fits n why files = Few (name_of n) files
 
 two : (files : List (List ℕ)) → AreTwo files → length (drop 1 files) < 2
@@ -57,7 +58,7 @@ fits n name why files e accepted = go accepted
 
     go : IsAccepted name why files → Fits n why files
     go (inl a) = subst (λ m. Fits m why files) (is named.Plan a.0) (two files a.1)
-    go (inr (inl a)) = subst (λ m. Fits m why files) (is named.Plans a.0) a.1
+    go (inr (inl a)) = subst (λ m. Fits m why files) (is named.Plans a.0) tt
     go (inr (inr (inl a))) = subst (λ m. Fits m why files) (is named.Trace a.0) (two files a.1)
     go (inr (inr (inr (inl a)))) = subst (λ m. Fits m why files) (is named.Mutex a.0) (one files a.1)
     go (inr (inr (inr (inr (inl a))))) = subst (λ m. Fits m why files) (is named.Show a.0) (one files a.1)
@@ -76,18 +77,15 @@ few_of named.Print why files q few is = few
 few_of named.Steps why files q few is = few
 
 -- of a call without a question: it is `plans`
-abbrev IsMany : Named → Bool → Type 0
-IsMany n why = (codes "plans" ≡ name_of n) × (why ≡ false)
-
-many_of : (n : Named) (why : Bool) (files : List (List ℕ)) → Fits n why files → None ≡ asked n why → IsMany n why
-many_of named.Plans why files few is = (refl, few)
-many_of named.Plan why files few is = absurd (none-some _ is)
-many_of named.Trace why files few is = absurd (none-some _ is)
-many_of named.Mutex why files few is = absurd (none-some _ is)
-many_of named.Show why files few is = absurd (none-some _ is)
-many_of named.Check why files few is = absurd (none-some _ is)
-many_of named.Print why files few is = absurd (none-some _ is)
-many_of named.Steps why files few is = absurd (none-some _ is)
+many_of : (n : Named) (why : Bool) → None ≡ asked n why → codes "plans" ≡ name_of n
+many_of named.Plans why is = refl
+many_of named.Plan why is = absurd (none-some _ is)
+many_of named.Trace why is = absurd (none-some _ is)
+many_of named.Mutex why is = absurd (none-some _ is)
+many_of named.Show why is = absurd (none-some _ is)
+many_of named.Check why is = absurd (none-some _ is)
+many_of named.Print why is = absurd (none-some _ is)
+many_of named.Steps why is = absurd (none-some _ is)
 
 -- the same, by the name
 pub asks_files : (n : Named) (flag why : Bool) (q : Question) (name : List ℕ) (files : List (List ℕ)) → Some q ≡ asked n flag
@@ -96,11 +94,8 @@ asks_files n flag why q name files is e same accepted =
     let its : asked n why ≡ Some q = ap (asked n) (sym same) ∙ sym is in
     ((n, e, its), subst (λ m. Few m files) e (few_of n why files q (fits n name why files e accepted) its))
 
-pub asks_many : (n : Named) (flag why : Bool) (name : List ℕ) (files : List (List ℕ)) → None ≡ asked n flag
-    → name_of n ≡ name → flag ≡ why → IsAccepted name why files → (codes "plans" ≡ name) × (why ≡ false)
-asks_many n flag why name files is e same accepted =
-    let its = many_of n why files (fits n name why files e accepted) (is ∙ ap (asked n) same) in
-    (its.0 ∙ e, its.1)
+pub asks_many : (n : Named) (flag : Bool) (name : List ℕ) → None ≡ asked n flag → name_of n ≡ name → codes "plans" ≡ name
+asks_many n flag name is e = many_of n flag is ∙ e
 
 -- a name asks one question
 pub same_question : (n : Named) (why : Bool) (q r : Question) → asked n why ≡ Some q → IsQuestion (name_of n) why r → r ≡ q
@@ -131,7 +126,7 @@ joined false (x ∷ xs) task plan = ap (λ l. x ∷ l) plan ∙ ap (λ y. y ∷ 
 both_input : (name : List ℕ) (why : Bool) (files : List (List ℕ)) (job : Job) → Asks name why files job → IsInputTwice job → files ≡ codes "-" ∷ codes "-" ∷ []
 both_input name why files (Files question task plan) asks twice = joined (bytes_eq name (codes "steps")) files
     (subst (IsSource (task_words name files)) twice.0 asks.1) (subst (IsSource (plan_words name files)) twice.1 asks.2)
-both_input name why files (Plans task labels) asks twice = absurd twice
+both_input name why files (Plans task labels flag) asks twice = absurd twice
 
 pub checked : (name : List ℕ) (why : Bool) (files : List (List ℕ)) (job : Job) (result : Result Job WordsFault) → Asks name why files job
     → MatchResult result (λ other. (other ≡ job) × (IsInputTwice job → ⊥)) (λ f. (f ≡ fault.InputTwice) × IsInputTwice job)
@@ -156,7 +151,7 @@ memory_refused files (fault.Version error) is = absurd is
 
 -- a job isn't over two files that are standard input
 pub never_twice : (n : Named) (why : Bool) (q : Question) (job : Job) → asked n why ≡ Some q → Asks (name_of n) why (codes "-" ∷ codes "-" ∷ []) job → (IsInputTwice job → ⊥) → ⊥
-never_twice n why q (Plans task labels) is asks once = no_question n why q is asks.0
+never_twice n why q (Plans task labels flag) is asks once = no_question n why q is asks.0
 never_twice n why q (Files question task plan) is asks once = go (bytes_eq (name_of n) (codes "steps")) task plan asks.1 asks.2 once
   where
     named_input : (source : Option Source) → IsSource (codes "-" ∷ []) source → source ≡ Some Input

@@ -51,7 +51,7 @@ abbrev pub IsUnanswered : (List ℕ → Type 0) → ℕ → Type 0
 IsUnanswered Put status = IsStarved Put status ⊎ IsTwice Put status
 
 -- what the program does where a call has no job
-abbrev pub Reports : (List ℕ → Type 0) → Result ℕ WordsFault → WordsFault → Type 0
-Reports Put result fault.Memory = IsOkAnd result (IsStarved Put)
-Reports Put result fault.InputTwice = IsOkAnd result (IsTwice Put)
-Reports Put result _ = IfOk result (λ status. ⊥)
+abbrev pub Refuses : (List ℕ → Type 0) → Result ℕ WordsFault → WordsFault → Type 0
+Refuses Put result fault.Memory = IsOkAnd result (IsStarved Put)
+Refuses Put result fault.InputTwice = IsOkAnd result (IsTwice Put)
+Refuses Put result _ = IfOk result (λ status. ⊥)

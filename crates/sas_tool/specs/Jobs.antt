@@ -39,15 +39,15 @@ abbrev pub Asks : List ℕ → Bool → List (List ℕ) → Job → Type 0
 Asks name why files (Files question task plan) = IsQuestion name why question
     × IsSource (task_words name files) task
     × IsSource (plan_words name files) plan
-Asks name why files (Plans task labels) = (codes "plans" ≡ name)
-    × (why ≡ false)
+Asks name why files (Plans task labels flag) = (codes "plans" ≡ name)
+    × (flag ≡ why)
     × IsSource (task_words name files) task
     × (bytes_of_words labels.items ≡ plan_words name files)
 
 -- a task and a plan are both standard input
 abbrev pub IsInputTwice : Job → Type 0
 IsInputTwice (Files question task plan) = (task ≡ Some Input) × (plan ≡ Some Input)
-IsInputTwice (Plans task labels) = ⊥
+IsInputTwice (Plans task labels why) = ⊥
 
 -- why a call over these files has no job: memory was refused, or two files are standard input
 abbrev pub IsRefusedFor : List (List ℕ) → WordsFault → Type 0

@@ -1,5 +1,5 @@
 -- What a run over a task, a plan or both does.
-use Rattle.std.specs.Prelude.{◌≡◌, ◌⊎◌, ◌<◌, ⊤, ℕ, List, Option, Some, Result, Err, IfOk}
+use Rattle.std.specs.Prelude.{◌≡◌, ◌⊎◌, ◌<◌, ℕ, List, Option, Some, Result, Err, IfOk}
 use Rattle.std.specs.Io.KnownBytes.{Appends}
 use Rattle.sas_answers.specs.Ending.{EndsCounting}
 use Rattle.sas_answers.specs.declared.ending.Status.{Status}

@@ -54,6 +54,8 @@ pub enum Job {
     Plans {
         task: Option<Source>,
         labels: Vec<String>,
+        /// Whether the reasons for a no are reported.
+        why: bool,
     },
 }
 
@@ -112,6 +114,7 @@ fn job_of(call: Call) -> Job
         None => Job::Plans {
             task,
             labels: plans,
+            why,
         },
     }
 }

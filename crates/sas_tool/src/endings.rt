@@ -30,8 +30,6 @@ pub const INPUT_TWICE: &str = "sas: standard input used twice";
 
 pub const NOT_READY: &str = "sas: cannot open /dev/null";
 
-pub const TASK_NOT_OPENED: &str = "sas: cannot open the task";
-
 /// How a run over files ended.
 #[derive(Clone, Copy)]
 pub enum Ended {
@@ -50,7 +48,7 @@ impl Ended {
     {
         match self {
             Ended::NotReady => (FAULT, Some(NOT_READY)),
-            Ended::TaskNotOpened => (FAULT, Some(TASK_NOT_OPENED)),
+            Ended::TaskNotOpened => (FAULT, Some("sas: cannot open the task")),
             Ended::PlanNotOpened => (FAULT, Some("sas: cannot open the plan")),
             Ended::Answered(result) => ending(result),
         }

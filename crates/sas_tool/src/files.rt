@@ -69,7 +69,8 @@ impl<'s, N: NamedFiles, I: Read + Copy + Drop> Inputs<'s, N, I> {
     /// Opens the input that a word names: standard input, or a file.
     pub fn open_word(&self, word: &str) -> Option<OpenInput<N::File, I>>
         ensures { Opens (left_of N.File.remaining I.remaining)
-            (word_held (N.held self.now.files.now) (I.remaining self.now.standard) word.now) result }
+            (word_held (N.held self.now.files.now) (I.remaining self.now.standard) word.now)
+            result }
     {
         if word == "-" {
             return Some(OpenInput::Standard(self.standard));
@@ -85,7 +86,8 @@ impl<'s, N: NamedFiles, I: Read + Copy + Drop> Inputs<'s, N, I> {
     #[inline(never)]
     pub fn open(&self, source: &Option<Source>) -> Option<UntilEnd<OpenInput<N::File, I>>>
         ensures { Opens (input_left N.File.remaining I.remaining)
-            (source_held (N.held self.now.files.now) (I.remaining self.now.standard) source.now) result }
+            (source_held (N.held self.now.files.now) (I.remaining self.now.standard) source.now)
+            result }
     {
         match source {
             None => Some(UntilEnd::nothing()),

@@ -1,12 +1,12 @@
 // Many plan files, opened one after another.
-ghost use Rattle.std.specs.Prelude.{◌≡◌, ◌↔◌, ◌≤◌, ◌++◌, ℕ, List, [], Some, All, IfOk, IsTrue, false, codes, slice_index_or};
+ghost use Rattle.std.specs.Prelude.{◌≡◌, ◌↔◌, ◌≤◌, ◌++◌, ℕ, List, [], ◌∷◌, Some, All, IfOk, IsTrue, false, codes, slice_index_or};
 ghost use Rattle.std.specs.Io.KnownBytes.{Appends};
-ghost use Rattle.sas_answers.specs.Ending.{Ends};
 ghost use Rattle.sas_requests.specs.Inputs.{IsLabel, tool_result};
-ghost use Rattle.sas_requests.specs.Judged.{JudgeOut, PlansHeadline};
+ghost use Rattle.sas_requests.specs.Judged.{EndsPlans, JudgeOut, PlansHeadline};
 ghost use Rattle.sas_tool.specs.Files.{source_held};
 ghost use Rattle.sas_tool.specs.Held.{word_held};
 ghost use Rattle.sas_tool.specs.PlansRuns.{AllHold, PlansRan};
+ghost use Rattle.sas_tool.specs.Sources.{IsSource};
 ghost use Rattle.sas_words.specs.Calls.{bytes_of_words};
 ghost use Rattle.sas_tool.specs.Endings.{Puts};
 ghost use Rattle.sas_tool.specs.Labels.{is_input, times_named};
@@ -15,8 +15,7 @@ ghost use Rattle.std.specs.String.{string_bytes};
 
 use crate::arguments::Source;
 use crate::endings::{
-    Ended, FAULT, INPUT_TWICE, INVALID_ARGUMENTS, NOT_READY, TASK_NOT_OPENED, finish, put,
-    put_line, stop,
+    Ended, FAULT, INPUT_TWICE, INVALID_ARGUMENTS, NOT_READY, finish, put, put_line, stop,
 };
 use crate::files::{Inputs, NamedFiles};
 use crate::{Status, judge};
@@ -67,6 +66,14 @@ impl<'p, N: NamedFiles, I: Read + Copy + Drop> PlanInputs for PlanFiles<'p, N, I
     }
 }
 
+/// A task, the labels of its plans, and whether the reasons for a no are reported.
+#[derive(Clone, Copy)]
+pub struct ManyPlans<'p> {
+    pub task: &'p Option<Source>,
+    pub labels: &'p [String],
+    pub why: bool,
+}
+
 /// How a run over many plans ended.
 #[derive(Clone, Copy)]
 pub enum PlansEnded {
@@ -79,25 +86,25 @@ pub enum PlansEnded {
     Judged(Result<Status, JudgeFault>),
 }
 
-/// Opens a task, and judges the plans of these labels.
+/// Opens a task, and judges its plans.
 pub fn run_plans<N: NamedFiles, I: Read + Copy + Drop, W: Write>(
     alloc: Global,
     inputs: Inputs<'_, N, I>,
-    task: &Option<Source>,
-    labels: &[String],
+    plans: ManyPlans<'_>,
     out: &mut Watched<W>,
 ) -> PlansEnded
     requires out { out.old.failed ≡ false }
     ensures { let held = N.held inputs.entry.files.now in
         let standard = I.remaining inputs.entry.standard in
-        PlansRan (bytes_of_words labels.now) (2 ≤ times_named (is_input task.now) labels.now)
-        (source_held held standard task.now) (word_held held standard)
+        PlansRan plans.entry.why (bytes_of_words plans.entry.labels.now)
+        (2 ≤ times_named (is_input plans.entry.task.now) plans.entry.labels.now)
+        (source_held held standard plans.entry.task.now) (word_held held standard)
         (W.contents out.old.device) (W.contents out.new.device) (out.new ≡ out.old) result }
 {
     let Some(ready) = inputs.files.ready() else {
         return PlansEnded::NotReady;
     };
-    let ended = run_ready(alloc, inputs, task, labels, out);
+    let ended = run_ready(alloc, inputs, plans, out);
     drop(ready);
     ended
 }
@@ -106,27 +113,28 @@ pub fn run_plans<N: NamedFiles, I: Read + Copy + Drop, W: Write>(
 fn run_ready<N: NamedFiles, I: Read + Copy + Drop, W: Write>(
     alloc: Global,
     inputs: Inputs<'_, N, I>,
-    task: &Option<Source>,
-    labels: &[String],
+    plans: ManyPlans<'_>,
     out: &mut Watched<W>,
 ) -> PlansEnded
     requires out { out.old.failed ≡ false }
     ensures { let held = N.held inputs.entry.files.now in
         let standard = I.remaining inputs.entry.standard in
-        PlansRan (bytes_of_words labels.now) (2 ≤ times_named (is_input task.now) labels.now)
-        (source_held held standard task.now) (word_held held standard)
+        PlansRan plans.entry.why (bytes_of_words plans.entry.labels.now)
+        (2 ≤ times_named (is_input plans.entry.task.now) plans.entry.labels.now)
+        (source_held held standard plans.entry.task.now) (word_held held standard)
         (W.contents out.old.device) (W.contents out.new.device) (out.new ≡ out.old) result }
 {
+    let labels = plans.labels;
     if !are_label_texts(labels) {
         return PlansEnded::NoLabel;
     }
-    if name_input_twice(labels, is_standard_input(task)) {
+    if name_input_twice(labels, is_standard_input(plans.task)) {
         return PlansEnded::InputTwice;
     }
-    match inputs.open(task) {
+    match inputs.open(plans.task) {
         Some(task) => {
-            let plans = PlanFiles { inputs, labels };
-            PlansEnded::Judged(judge_plans(alloc, task, plans, out))
+            let files = PlanFiles { inputs, labels };
+            PlansEnded::Judged(judge_plans(alloc, plans.why, task, files, out))
         }
         None => PlansEnded::TaskNotOpened,
     }
@@ -135,6 +143,7 @@ fn run_ready<N: NamedFiles, I: Read + Copy + Drop, W: Write>(
 /// Judges plans of a task that is open.
 fn judge_plans<T: Read + Drop, N: NamedFiles, I: Read + Copy + Drop, W: Write>(
     alloc: Global,
+    why: bool,
     task: T,
     plans: PlanFiles<'_, N, I>,
     out: &mut Watched<W>,
@@ -145,28 +154,34 @@ fn judge_plans<T: Read + Drop, N: NamedFiles, I: Read + Copy + Drop, W: Write>(
         (b : List ℕ) (cs : List (List ℕ)) → T.remaining task ≡ Some b
         → AllHold (word_held (N.held plans.entry.inputs.files.now)
         (I.remaining plans.entry.inputs.standard)) labels cs
-        → Ends (JudgeOut labels b cs)
+        → EndsPlans why (JudgeOut why labels b cs)
         (Appends (W.contents out.old.device) (W.contents out.new.device)) (tool_result result) }
     ensures headline { let labels = bytes_of_words plans.entry.labels.now in
         IfOk result (λ status. (b before : List ℕ) (cs : List (List ℕ)) → T.remaining task ≡ Some b
         → AllHold (word_held (N.held plans.entry.inputs.files.now)
         (I.remaining plans.entry.inputs.standard)) labels cs
         → W.contents out.old.device ≡ Some before
-        → PlansHeadline labels b cs
+        → PlansHeadline why labels b cs
         (Appends (W.contents out.old.device) (W.contents out.new.device)) status) }
 {
     let mut task = Watched::new(task);
     let mut plans = plans;
-    let result = judge(alloc, &mut task, &mut plans, out);
+    let result = judge(alloc, why, &mut task, &mut plans, out);
     drop(task);
     result
 }
 
-/// Ends with the exit status of a run over plans with these labels, after its line on standard error, if there is one.
-pub fn finish_plans<E: Write>(errors: &mut Watched<E>, ended: PlansEnded, labels: &[String]) -> u8
+/// Ends with the exit status of a run over these plans, after its line on standard error, if there is one. With reasons a second line
+/// names the task, if the first one is about it.
+pub fn finish_plans<E: Write>(
+    errors: &mut Watched<E>,
+    ended: PlansEnded,
+    plans: ManyPlans<'_>,
+) -> u8
     ensures status { result ≡ plans_status ended }
-    ensures text { Puts E.contents (plans_text (bytes_of_words labels.now) ended)
-        errors.old errors.new }
+    ensures text { (task : List ℕ) → IsSource (task ∷ []) plans.entry.task.now
+        → Puts E.contents (plans_text plans.entry.why task
+        (bytes_of_words plans.entry.labels.now) ended) errors.old errors.new }
 {
     match ended {
         PlansEnded::NotReady => stop(errors, FAULT, NOT_READY),
@@ -178,13 +193,15 @@ pub fn finish_plans<E: Write>(errors: &mut Watched<E>, ended: PlansEnded, labels
             )
         }
         PlansEnded::InputTwice => stop(errors, INVALID_ARGUMENTS, INPUT_TWICE),
-        PlansEnded::TaskNotOpened => stop(errors, FAULT, TASK_NOT_OPENED),
-        PlansEnded::Judged(Ok(status)) => finish(errors, Ended::Answered(Ok(status)), false, &None),
+        PlansEnded::TaskNotOpened => finish(errors, Ended::TaskNotOpened, plans.why, plans.task),
+        PlansEnded::Judged(Ok(status)) => {
+            finish(errors, Ended::Answered(Ok(status)), plans.why, plans.task)
+        }
         PlansEnded::Judged(Err(JudgeFault::Tool(fault))) => {
-            finish(errors, Ended::Answered(Err(fault)), false, &None)
+            finish(errors, Ended::Answered(Err(fault)), plans.why, plans.task)
         }
         PlansEnded::Judged(Err(JudgeFault::Plan { number, fault })) => {
-            stop_at(errors, fault, labels, number)
+            stop_at(errors, fault, plans.labels, number)
         }
     }
 }

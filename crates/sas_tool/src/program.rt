@@ -8,7 +8,7 @@ ghost use Rattle.sas_words.specs.declared.calls.Named.{Named};
 ghost use Rattle.sas_words.specs.Grammar.{plan_words, task_words};
 ghost use Rattle.sas_words.specs.Usage.{IsCall};
 ghost use Rattle.sas_requests.specs.declared.question.Question.{Question};
-ghost use Rattle.sas_tool.specs.Does.{Does, IsUnanswered, Reports, words_held};
+ghost use Rattle.sas_tool.specs.Does.{Does, IsUnanswered, Refuses, words_held};
 ghost use Rattle.sas_tool.specs.Endings.{Puts};
 ghost use Rattle.sas_tool.specs.Held.{holds, word_held};
 ghost use Rattle.sas_tool.specs.Jobs.{Asks, asked};
@@ -20,7 +20,7 @@ use crate::endings::{
     FAULT, INPUT_TWICE, INVALID_ARGUMENTS, NO, OUT_OF_MEMORY, WRITE_FAILED, YES, finish, stop,
 };
 use crate::files::{Inputs, NamedFiles, SystemFiles};
-use crate::plan_files::{finish_plans, run_plans};
+use crate::plan_files::{ManyPlans, finish_plans, run_plans};
 use crate::runs::{Sources, run_files};
 use sas_lines::Watched;
 use sas_words::WordsFault;
@@ -115,22 +115,22 @@ pub fn answer_words<N: NamedFiles, I: Read + Copy + Drop, W: Write, E: Write>(
         → IsCall (bytes_of_words words.now) name why files → ⊥)
         → (out.new ≡ out.old) × IfOk result (λ status. 1 < status) }
     // At a call for `plans`, the plans are judged, unless standard input is named twice or a label has a line end.
-    ensures plans { (t : List ℕ) (labels : List (List ℕ))
-        → IsCall (bytes_of_words words.now) (codes "plans") false (t ∷ labels)
+    ensures plans { (why : Bool) (t : List ℕ) (labels : List (List ℕ))
+        → IsCall (bytes_of_words words.now) (codes "plans") why (t ∷ labels)
         → IsOkAnd result (PlansDo
-        (word_held (N.held inputs.entry.files.now) (I.remaining inputs.entry.standard)) t labels
-        (W.contents out.old.device) (W.contents out.new.device) (out.new ≡ out.old)
+        (word_held (N.held inputs.entry.files.now) (I.remaining inputs.entry.standard))
+        why t labels (W.contents out.old.device) (W.contents out.new.device) (out.new ≡ out.old)
         (λ text. Puts E.contents text errors.old errors.new)) }
 {
     match command(alloc, words) {
         Ok(job) => Ok(answer_job(alloc, &job, inputs, out, errors)),
-        Err(fault) => report_fault(fault, errors),
+        Err(fault) => say_fault(fault, errors),
     }
 }
 
 /// Ends where a call can't be answered. A fault of words that are none is handed back.
-fn report_fault<E: Write>(fault: WordsFault, errors: &mut Watched<E>) -> Result<u8, WordsFault>
-    ensures { Reports (λ text. Puts E.contents text errors.old errors.new) result fault }
+fn say_fault<E: Write>(fault: WordsFault, errors: &mut Watched<E>) -> Result<u8, WordsFault>
+    ensures { Refuses (λ text. Puts E.contents text errors.old errors.new) result fault }
 {
     match fault {
         WordsFault::Memory => Ok(stop(errors, FAULT, OUT_OF_MEMORY)),
@@ -156,10 +156,10 @@ fn answer_job<N: NamedFiles, I: Read + Copy + Drop, W: Write, E: Write>(
         (task_words (name_of named) files) (plan_words (name_of named) files)
         (W.contents out.old.device) (W.contents out.new.device) (out.new ≡ out.old)
         (λ text. Puts E.contents text errors.old errors.new) result }
-    ensures plans { (t : List ℕ) (labels : List (List ℕ))
-        → Asks (codes "plans") false (t ∷ labels) job.now
+    ensures plans { (why : Bool) (t : List ℕ) (labels : List (List ℕ))
+        → Asks (codes "plans") why (t ∷ labels) job.now
         → PlansDo (word_held (N.held inputs.entry.files.now) (I.remaining inputs.entry.standard))
-        t labels (W.contents out.old.device) (W.contents out.new.device) (out.new ≡ out.old)
+        why t labels (W.contents out.old.device) (W.contents out.new.device) (out.new ≡ out.old)
         (λ text. Puts E.contents text errors.old errors.new) result }
 {
     match job {
@@ -171,10 +171,14 @@ fn answer_job<N: NamedFiles, I: Read + Copy + Drop, W: Write, E: Write>(
             let run = run_files(alloc, inputs, *question, Sources { task, plan }, out);
             finish(errors, run.ended, question.detail.reasons, run.last)
         }
-        Job::Plans { task, labels } => {
-            let names = labels.as_slice();
-            let ended = run_plans(alloc, inputs, task, names, out);
-            finish_plans(errors, ended, names)
+        Job::Plans { task, labels, why } => {
+            let plans = ManyPlans {
+                task,
+                labels: labels.as_slice(),
+                why: *why,
+            };
+            let ended = run_plans(alloc, inputs, plans, out);
+            finish_plans(errors, ended, plans)
         }
     }
 }

@@ -35,11 +35,13 @@ pub fn run_files<'s, N: NamedFiles, I: Read + Copy + Drop, W: Write>(
     out: &mut Watched<W>,
 ) -> Run<'s>
     requires out { out.old.failed ≡ false }
-    ensures ran { let held = source_held (N.held inputs.entry.files.now) (I.remaining inputs.entry.standard) in
+    ensures ran { let held = source_held (N.held inputs.entry.files.now)
+        (I.remaining inputs.entry.standard) in
         Ran question (held sources.entry.task.now) (held sources.entry.plan.now)
         (W.contents out.old.device) (W.contents out.new.device) (out.new ≡ out.old)
         result.ended }
-    ensures last { IsLastOf sources.entry.task.now sources.entry.plan.now result.ended result.last.now }
+    ensures last { IsLastOf sources.entry.task.now sources.entry.plan.now
+        result.ended result.last.now }
 {
     let Some(ready) = inputs.files.ready() else {
         return Run {
@@ -61,11 +63,13 @@ fn run_ready<'s, N: NamedFiles, I: Read + Copy + Drop, W: Write>(
     out: &mut Watched<W>,
 ) -> Run<'s>
     requires out { out.old.failed ≡ false }
-    ensures ran { let held = source_held (N.held inputs.entry.files.now) (I.remaining inputs.entry.standard) in
+    ensures ran { let held = source_held (N.held inputs.entry.files.now)
+        (I.remaining inputs.entry.standard) in
         Ran question (held sources.entry.task.now) (held sources.entry.plan.now)
         (W.contents out.old.device) (W.contents out.new.device) (out.new ≡ out.old)
         result.ended }
-    ensures last { IsLastOf sources.entry.task.now sources.entry.plan.now result.ended result.last.now }
+    ensures last { IsLastOf sources.entry.task.now sources.entry.plan.now
+        result.ended result.last.now }
 {
     let Some(task) = inputs.open(sources.task) else {
         return Run {
@@ -96,7 +100,8 @@ fn answer_opened<T: Read + Drop, P: Read + Drop, W: Write>(
     out: &mut Watched<W>,
 ) -> (Result<Status, ToolFault>, bool)
     requires out { out.old.failed ≡ false }
-    ensures { IsAnswered question (left_until_end T.remaining task) (left_until_end P.remaining plan)
+    ensures { IsAnswered question (left_until_end T.remaining task)
+        (left_until_end P.remaining plan)
         (W.contents out.old.device) (W.contents out.new.device) result.0 }
 {
     let mut task = Watched::new(task);

@@ -1,5 +1,6 @@
 -- Machines that go over the words behind a request, as clap does.
-use Rattle.std.proofs.Common.{◌≡◌, ◌∙◌, ◌⊎◌, ◌≤◌, ◌||◌, inl, inr, ℕ, Bool, true, false, true≢false, cond, refl, sym, ap, subst, subst₂, arith, List, [], ◌∷◌, ◌++◌, length, append_assoc, append-nil, Option, Some, None, codes, bytes_eq, fold, option_map, option_and_then}
+use Rattle.std.proofs.Common.{◌≡◌, ◌∙◌, ◌⊎◌, ◌≤◌, ◌+◌, ◌||◌, inl, inr, ℕ, Bool, true, false, true≢false, cond, refl, sym, ap, subst, subst₂, arith, List, [], ◌∷◌, ◌++◌, length, length-append, append_assoc, append-nil, Option, Some, None, codes, bytes_eq, fold, option_map, option_and_then}
+use Rattle.std.specs.Prelude.{⊤}
 use Rattle.std.proofs.lemmas.Slice.Eq.{bytes_eq-Decides}
 use Rattle.clap.specs.Lexer.{usize_max}
 use Rattle.clap.specs.Walk.{Held, Row, Text, Walk, value, arg_by_index, finished, nothing_held, rows_after, settled, to_positional, walk, walk_from, walked}
@@ -84,7 +85,7 @@ pub record Follows {Seen : Type 0} (shape : Shape) (name : Text) (m : Machine Se
   pub harmless : AreHarmless shape shape.rules
   pub begins : (m.files m.start ≡ []) × (m.flag m.start ≡ false) × (walk_of shape m false m.start ≡ walk_from nothing_held)
   pub places : (s : Seen) (v : Text) (b : Bool) → Places shape m s v b
-  pub flags : (s : Seen) → Flags shape m s
+  pub flags : (s : Seen) → length (m.files s) ≤ usize_max → Flags shape m s
   pub takes : (s : Seen) (v : Text) → Takes m IsWell s v (m.taken s v)
   pub takes_flag : (s : Seen) → TakesFlag m IsWell s (m.flagged s)
   pub ends : (s : Seen) → Ends m IsWell shape name s
@@ -131,22 +132,45 @@ module _ {Seen : Type 0} (shape : Shape) (name : Text) (m : Machine Seen) (IsWel
   next true s v = with_trailing shape m true (m.taken s v)
   next false s v = next_word s v
 
-  word_sim : (s : Seen) (v : Text) → HasCharacter v → sim_of shape m (next_word s v) false s v
-  word_sim s v has = go (bytes_eq v (codes "--")) (is_option v) (bytes_eq v (codes "--why")) refl refl refl
+  word_sim : (s : Seen) (v : Text) → HasCharacter v → length (m.files s) ≤ usize_max → sim_of shape m (next_word s v) false s v
+  word_sim s v has few = go (bytes_eq v (codes "--")) (is_option v) (bytes_eq v (codes "--why")) refl refl refl
     where
       go : (a b c : Bool) → bytes_eq v (codes "--") ≡ a → is_option v ≡ b → bytes_eq v (codes "--why") ≡ c
           → sim_of shape m (cond a (Some (true, s)) (cond b (cond c (with_trailing shape m false (m.flagged s)) None) (with_trailing shape m false (m.taken s v)))) false s v
       go true b c ea eb ec = subst (λ u. sim_of shape m (Some (true, s)) false s u) (sym ((bytes_eq-Decides v (codes "--")).0 ea))
           (dashes_fault shape (m.more s) (m.position s) (held_of shape m s), dashes_walked shape.rules (m.more s) (m.position s) (held_of shape m s))
-      go false true true ea eb ec = subst (λ u. sim_of shape m (with_trailing shape m false (m.flagged s)) false s u) (sym ((bytes_eq-Decides v (codes "--why")).0 ec)) (is.flags s)
+      go false true true ea eb ec = subst (λ u. sim_of shape m (with_trailing shape m false (m.flagged s)) false s u) (sym ((bytes_eq-Decides v (codes "--why")).0 ec)) (is.flags s few)
       go false true false ea eb ec = option_refused shape is.harmless [] (m.more s) (m.position s) (held_of shape m s) refl v (none_met (m.more s) v) eb ea ec has
       go false false c ea eb ec = subst₂ (Sim shape m (with_trailing shape m false (m.taken s v))) (sym (value_fault shape (m.more s) (m.position s) (held_of shape m s) v (is_value v eb ea)))
           (sym (value_walked shape.rules (m.more s) (m.position s) (held_of shape m s) v (is_value v eb ea))) (is.places s v false)
 
-  next_sim : (b : Bool) (s : Seen) (v : Text) → HasCharacter v → sim_of shape m (next b s v) b s v
-  next_sim true s v has = subst (Sim shape m (with_trailing shape m true (m.taken s v)) (turn_fault shape [] (walk_of shape m true s) v))
+  next_sim : (b : Bool) (s : Seen) (v : Text) → HasCharacter v → length (m.files s) ≤ usize_max → sim_of shape m (next b s v) b s v
+  next_sim true s v has few = subst (Sim shape m (with_trailing shape m true (m.taken s v)) (turn_fault shape [] (walk_of shape m true s) v))
       (sym (trailing_walked shape.rules (m.more s) (m.position s) (held_of shape m s) v)) (is.places s v true)
-  next_sim false s v has = word_sim s v has
+  next_sim false s v has few = word_sim s v has few
+
+  -- a word is one file at most
+  abbrev OneMore : Seen → Option (State Seen) → Type 0
+  OneMore s None = ⊤
+  OneMore s (Some q) = length (m.files q.1) ≤ length (m.files s) + 1
+
+  file_more : (b : Bool) (s : Seen) (v : Text) (o : Option Seen) → Takes m IsWell s v o → OneMore s (with_trailing shape m b o)
+  file_more b s v None takes = tt
+  file_more b s v (Some r) takes = omega (arith, ap length takes.0, length-append (m.files s) (v ∷ []))
+
+  flag_more : (s : Seen) (o : Option Seen) → TakesFlag m IsWell s o → OneMore s (with_trailing shape m false o)
+  flag_more s None takes = tt
+  flag_more s (Some r) takes = omega (arith, ap length takes.0)
+
+  next_more : (b : Bool) (s : Seen) (v : Text) → OneMore s (next b s v)
+  next_more true s v = file_more true s v (m.taken s v) (is.takes s v)
+  next_more false s v = go (bytes_eq v (codes "--")) (is_option v) (bytes_eq v (codes "--why"))
+    where
+      go : (a b c : Bool) → OneMore s (cond a (Some (true, s)) (cond b (cond c (with_trailing shape m false (m.flagged s)) None) (with_trailing shape m false (m.taken s v))))
+      go true b c = omega arith
+      go false true true = flag_more s (m.flagged s) (is.takes_flag s)
+      go false true false = tt
+      go false false c = file_more false s v (m.taken s v) (is.takes s v)
 
   abbrev run : Bool → Seen → List Text → Option (State Seen)
   run b s [] = Some (b, s)
@@ -155,18 +179,19 @@ module _ {Seen : Type 0} (shape : Shape) (name : Text) (m : Machine Seen) (IsWel
   abbrev Goes : Option (State Seen) → Walk → List Text → Type 0
   Goes o z vs = Sim shape m o (walk_fault shape [] z vs) (fold (walked shape.rules []) z vs)
 
-  walk_sim : (vs : List Text) (b : Bool) (s : Seen) → HaveCharacters vs → Goes (run b s vs) (walk_of shape m b s) vs
+  walk_sim : (vs : List Text) (b : Bool) (s : Seen) → HaveCharacters vs → length (m.files s) + length vs ≤ usize_max → Goes (run b s vs) (walk_of shape m b s) vs
   unfolding walk_fault
-  walk_sim [] b s has = (refl, refl)
-  walk_sim (v ∷ vs) b s has = go (next b s v) (next_sim b s v has.0) (λ q. walk_sim vs q.0 q.1 has.1)
+  walk_sim [] b s has few = (refl, refl)
+  walk_sim (v ∷ vs) b s has few = go (next b s v) (next_sim b s v has.0 (omega (arith, few))) (next_more b s v) (λ q most. walk_sim vs q.0 q.1 has.1 (omega (arith, few, most)))
     where
-      go : (o : Option (State Seen)) → sim_of shape m o b s v → ((q : State Seen) → Goes (run q.0 q.1 vs) (walk_of shape m q.0 q.1) vs)
+      go : (o : Option (State Seen)) → sim_of shape m o b s v → OneMore s o
+          → ((q : State Seen) → length (m.files q.1) ≤ length (m.files s) + 1 → Goes (run q.0 q.1 vs) (walk_of shape m q.0 q.1) vs)
           → Sim shape m (option_and_then (λ q. run q.0 q.1 vs) o)
           (or_else (turn_fault shape [] (walk_of shape m b s) v) (walk_fault shape [] (walked shape.rules [] (walk_of shape m b s) v) vs))
           (fold (walked shape.rules []) (walked shape.rules [] (walk_of shape m b s) v) vs)
-      go None here below = λ e. here (first _ _ e)
-      go (Some q) here below = subst₂ (λ (k : Kinds) (z : Walk). Sim shape m (run q.0 q.1 vs) (or_else k (walk_fault shape [] z vs)) (fold (walked shape.rules []) z vs))
-          (sym here.0) (sym here.1) (below q)
+      go None here one below = λ e. here (first _ _ e)
+      go (Some q) here one below = subst₂ (λ (k : Kinds) (z : Walk). Sim shape m (run q.0 q.1 vs) (or_else k (walk_fault shape [] z vs)) (fold (walked shape.rules []) z vs))
+          (sym here.0) (sym here.1) (below q one)
 
   -- ---- what the machine sees
 
@@ -231,8 +256,8 @@ module _ {Seen : Type 0} (shape : Shape) (name : Text) (m : Machine Seen) (IsWel
   abbrev Begun : Option (State Seen) → List Text → Type 0
   Begun o vs = Goes o (walk_from nothing_held) vs
 
-  begun : (vs : List Text) → HaveCharacters vs → Begun (run false m.start vs) vs
-  begun vs has = subst (λ (z : Walk). Goes (run false m.start vs) z vs) is.begins.2 (walk_sim vs false m.start has)
+  begun : (vs : List Text) → HaveCharacters vs → length vs ≤ usize_max → Begun (run false m.start vs) vs
+  begun vs has few = subst (λ (z : Walk). Goes (run false m.start vs) z vs) is.begins.2 (walk_sim vs false m.start has (omega (arith, few, ap length is.begins.0)))
 
   -- the machine began with nothing
   seen_files : (q : State Seen) (vs : List Text) → Seeing m.start vs false (Some q) → m.files q.1 ≡ operands vs
@@ -242,9 +267,9 @@ module _ {Seen : Type 0} (shape : Shape) (name : Text) (m : Machine Seen) (IsWel
   seen_options q vs meets = meets.1 ∙ ap (λ b. options_of b ++ options vs) is.begins.1
 
   -- clap takes the words only if they are a call, and then it has its files
-  pub sound : (vs : List Text) → HaveCharacters vs → level vs ≡ []
+  pub sound : (vs : List Text) → HaveCharacters vs → length vs ≤ usize_max → level vs ≡ []
       → (why : Bool) × (options vs ≡ options_of why) × IsWell why (operands vs) × HasRows name why (operands vs) (rows_after shape.rules [] vs)
-  sound vs has e = go (run false m.start vs) (begun vs has) (run_meets vs false m.start)
+  sound vs has few e = go (run false m.start vs) (begun vs has few) (run_meets vs false m.start)
     where
       go : (o : Option (State Seen)) → Begun o vs → Seeing m.start vs false o
           → (why : Bool) × (options vs ≡ options_of why) × IsWell why (operands vs) × HasRows name why (operands vs) (rows_after shape.rules [] vs)
@@ -273,7 +298,7 @@ module _ {Seen : Type 0} (shape : Shape) (name : Text) (m : Machine Seen) (IsWel
 
   -- and it takes each call
   pub complete : (vs : List Text) → HaveCharacters vs → length vs ≤ usize_max → (why : Bool) → options vs ≡ options_of why → IsWell why (operands vs) → level vs ≡ []
-  complete vs has few why eo well = go (run false m.start vs) (begun vs has) (run_meets vs false m.start)
+  complete vs has few why eo well = go (run false m.start vs) (begun vs has few) (run_meets vs false m.start)
     where
       go : (o : Option (State Seen)) → Begun o vs → Seeing m.start vs false o → level vs ≡ []
       go None sim meets = absurd (meets why (ap (λ b. options_of b ++ options vs) is.begins.1 ∙ eo) (subst (IsWell why) (sym (ap (λ l. l ++ operands vs) is.begins.0)) well))

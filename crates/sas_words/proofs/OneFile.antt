@@ -167,7 +167,7 @@ module _ (name : Text) (known : Among request_names name) (other : bytes_eq name
     harmless = (inr (inl refl), (inl refl, (inr (inr (refl, λ h e. cons≢nil _ _ (second _ _ e))), tt)));
     begins = (refl, refl, refl);
     places = task_places name;
-    flags = task_flags name;
+    flags = λ s few. task_flags name s;
     takes = takes (codes "TASK");
     takes_flag = takes_flag (codes "TASK");
     ends = task_ends;
@@ -186,7 +186,7 @@ plan_follows = record {
   harmless = (inr (inl refl), (inl refl, (inr (inr (refl, λ h e. cons≢nil _ _ (second _ _ e))), tt)));
   begins = (refl, refl, refl);
   places = plan_places;
-  flags = plan_flags;
+  flags = λ s few. plan_flags s;
   takes = takes (codes "PLAN");
   takes_flag = takes_flag (codes "PLAN");
   ends = plan_ends;

@@ -26,10 +26,10 @@ task_here = with_index 1 (filled (file_rule (codes "TASK")))
 abbrev plan_here : Rule
 plan_here = with_index 2 (filled (file_rule (codes "PLAN")))
 
-abbrev with_task : Text → List Row → List Row
+abbrev pub with_task : Text → List Row → List Row
 with_task x rows = used task_here (x ∷ []) rows
 
-abbrev with_why : List Row → List Row
+abbrev pub with_why : List Row → List Row
 with_why rows = used why_here [] rows
 
 abbrev held : Seen → List Row × Option (Text × List Text)
@@ -184,7 +184,7 @@ module _ (name : Text) (known : Among request_names name) (other : bytes_eq name
     harmless = (inr (inl refl), (inl refl, (inl refl, (inr (inr (refl, λ h e. cons≢nil _ _ (second _ _ e))), tt))));
     begins = (refl, refl, refl);
     places = plan_places name;
-    flags = plan_flags name;
+    flags = λ s few. plan_flags name s;
     takes = plan_takes;
     takes_flag = plan_takes_flag;
     ends = plan_ends;

@@ -26,9 +26,9 @@ module _ {Seen : Type 0} (name : Text) (shape : Shape) (m : Machine Seen) (IsWel
       → fault_of sas_app (w0 ∷ name ∷ vs) ≡ []
   takes_well w0 vs has few why eo well = request_faults name shape is w0 vs ∙ complete shape name m IsWell follows vs has few why eo well
 
-  is_sound : ((why : Bool) (files : List Text) → IsWell why files → IsAccepted name why files) → (w0 : Text) (vs : List Text) → HaveCharacters vs → Sound w0 name vs
-  is_sound accepts w0 vs has e =
-      let s = sound shape name m IsWell follows vs has (sym (request_faults name shape is w0 vs) ∙ e) in
+  is_sound : ((why : Bool) (files : List Text) → IsWell why files → IsAccepted name why files) → (w0 : Text) (vs : List Text) → HaveCharacters vs → length vs ≤ usize_max → Sound w0 name vs
+  is_sound accepts w0 vs has few e =
+      let s = sound shape name m IsWell follows vs has few (sym (request_faults name shape is w0 vs) ∙ e) in
       (s.0, s.1, accepts s.0 (operands vs) s.2, subst (HasFound name s.0 (operands vs)) (sym (request_rows name shape is w0 vs)) (refl, s.3))
 
 plan_request : IsRequest (codes "plan") (plan_shape (codes "plan"))
@@ -83,28 +83,28 @@ print_known = inr (inr (inr (inr (inr (inr (inl refl))))))
 
 -- ---- calls that name a request
 
-sound_at : (w0 v : Text) (vs : List Text) → HaveCharacters vs → Among request_names v → Sound w0 v vs
-sound_at w0 v vs has (inl e) = subst (λ n. Sound w0 n vs) e (is_sound _ _ _ _ plan_request (plan_follows _ plan_known refl) (λ why files well. inl (refl, well)) w0 vs has)
-sound_at w0 v vs has (inr (inl e)) = subst (λ n. Sound w0 n vs) e (is_sound _ _ _ _ plans_request plans_follows (λ why files well. inr (inl (refl, well.0, well.1))) w0 vs has)
-sound_at w0 v vs has (inr (inr (inl e))) = subst (λ n. Sound w0 n vs) e (is_sound _ _ _ _ trace_request (plan_follows _ trace_known refl) (λ why files well. inr (inr (inl (refl, well)))) w0 vs has)
-sound_at w0 v vs has (inr (inr (inr (inl e)))) = subst (λ n. Sound w0 n vs) e
-    (is_sound _ _ _ _ mutex_request (task_follows _ mutex_known refl) (λ why files well. inr (inr (inr (inl (refl, well))))) w0 vs has)
-sound_at w0 v vs has (inr (inr (inr (inr (inl e))))) = subst (λ n. Sound w0 n vs) e
-    (is_sound _ _ _ _ show_request (task_follows _ show_known refl) (λ why files well. inr (inr (inr (inr (inl (refl, well)))))) w0 vs has)
-sound_at w0 v vs has (inr (inr (inr (inr (inr (inl e)))))) = subst (λ n. Sound w0 n vs) e
-    (is_sound _ _ _ _ check_request (task_follows _ check_known refl) (λ why files well. inr (inr (inr (inr (inr (inl (refl, well))))))) w0 vs has)
-sound_at w0 v vs has (inr (inr (inr (inr (inr (inr (inl e))))))) = subst (λ n. Sound w0 n vs) e
-    (is_sound _ _ _ _ print_request (task_follows _ print_known refl) (λ why files well. inr (inr (inr (inr (inr (inr (inl (refl, well)))))))) w0 vs has)
-sound_at w0 v vs has (inr (inr (inr (inr (inr (inr (inr (inl e)))))))) = subst (λ n. Sound w0 n vs) e
-    (is_sound _ _ _ _ steps_request steps_follows (λ why files well. inr (inr (inr (inr (inr (inr (inr (refl, well)))))))) w0 vs has)
-sound_at w0 v vs has (inr (inr (inr (inr (inr (inr (inr (inr e)))))))) = absurd e
+sound_at : (w0 v : Text) (vs : List Text) → HaveCharacters vs → length vs ≤ usize_max → Among request_names v → Sound w0 v vs
+sound_at w0 v vs has few (inl e) = subst (λ n. Sound w0 n vs) e (is_sound _ _ _ _ plan_request (plan_follows _ plan_known refl) (λ why files well. inl (refl, well)) w0 vs has few)
+sound_at w0 v vs has few (inr (inl e)) = subst (λ n. Sound w0 n vs) e (is_sound _ _ _ _ plans_request plans_follows (λ why files well. inr (inl (refl, well))) w0 vs has few)
+sound_at w0 v vs has few (inr (inr (inl e))) = subst (λ n. Sound w0 n vs) e (is_sound _ _ _ _ trace_request (plan_follows _ trace_known refl) (λ why files well. inr (inr (inl (refl, well)))) w0 vs has few)
+sound_at w0 v vs has few (inr (inr (inr (inl e)))) = subst (λ n. Sound w0 n vs) e
+    (is_sound _ _ _ _ mutex_request (task_follows _ mutex_known refl) (λ why files well. inr (inr (inr (inl (refl, well))))) w0 vs has few)
+sound_at w0 v vs has few (inr (inr (inr (inr (inl e))))) = subst (λ n. Sound w0 n vs) e
+    (is_sound _ _ _ _ show_request (task_follows _ show_known refl) (λ why files well. inr (inr (inr (inr (inl (refl, well)))))) w0 vs has few)
+sound_at w0 v vs has few (inr (inr (inr (inr (inr (inl e)))))) = subst (λ n. Sound w0 n vs) e
+    (is_sound _ _ _ _ check_request (task_follows _ check_known refl) (λ why files well. inr (inr (inr (inr (inr (inl (refl, well))))))) w0 vs has few)
+sound_at w0 v vs has few (inr (inr (inr (inr (inr (inr (inl e))))))) = subst (λ n. Sound w0 n vs) e
+    (is_sound _ _ _ _ print_request (task_follows _ print_known refl) (λ why files well. inr (inr (inr (inr (inr (inr (inl (refl, well)))))))) w0 vs has few)
+sound_at w0 v vs has few (inr (inr (inr (inr (inr (inr (inr (inl e)))))))) = subst (λ n. Sound w0 n vs) e
+    (is_sound _ _ _ _ steps_request steps_follows (λ why files well. inr (inr (inr (inr (inr (inr (inr (refl, well)))))))) w0 vs has few)
+sound_at w0 v vs has few (inr (inr (inr (inr (inr (inr (inr (inr e)))))))) = absurd e
 
 abbrev Well : Text → List Text → Text → Type 0
 Well w0 vs v = fault_of sas_app (w0 ∷ v ∷ vs) ≡ []
 
 well_at : (w0 v : Text) (vs : List Text) → HaveCharacters vs → length vs ≤ usize_max → (why : Bool) → options vs ≡ options_of why → IsAccepted v why (operands vs) → Well w0 vs v
 well_at w0 v vs has few why eo (inl a) = subst (Well w0 vs) (sym a.0) (takes_well _ _ _ _ plan_request (plan_follows _ plan_known refl) w0 vs has few why eo a.1)
-well_at w0 v vs has few why eo (inr (inl a)) = subst (Well w0 vs) (sym a.0) (takes_well _ _ _ _ plans_request plans_follows w0 vs has few why eo (a.1, a.2))
+well_at w0 v vs has few why eo (inr (inl a)) = subst (Well w0 vs) (sym a.0) (takes_well _ _ _ _ plans_request plans_follows w0 vs has few why eo a.1)
 well_at w0 v vs has few why eo (inr (inr (inl a))) = subst (Well w0 vs) (sym a.0) (takes_well _ _ _ _ trace_request (plan_follows _ trace_known refl) w0 vs has few why eo a.1)
 well_at w0 v vs has few why eo (inr (inr (inr (inl a)))) = subst (Well w0 vs) (sym a.0) (takes_well _ _ _ _ mutex_request (task_follows _ mutex_known refl) w0 vs has few why eo a.1)
 well_at w0 v vs has few why eo (inr (inr (inr (inr (inl a))))) = subst (Well w0 vs) (sym a.0) (takes_well _ _ _ _ show_request (task_follows _ show_known refl) w0 vs has few why eo a.1)
@@ -178,13 +178,13 @@ steps_call words e = record {
 }
 
 -- what clap takes is a call, and clap has found what it says
-pub taken_is_call : (words : List Text) → HaveCharacters words → fault_of sas_app words ≡ []
+pub taken_is_call : (words : List Text) → HaveCharacters words → length words ≤ usize_max → fault_of sas_app words ≡ []
     → (request : List ℕ) × (why : Bool) × (files : List Text) × IsCall words request why files × Met words request why files
-taken_is_call [] has e = (codes "steps", false, codes "-" ∷ [], steps_call [] refl, none_named)
-taken_is_call (w0 ∷ []) has e = (codes "steps", false, codes "-" ∷ [], steps_call (w0 ∷ []) refl, name_alone w0)
-taken_is_call (w0 ∷ v ∷ vs) has e = elim (first_word w0 v vs has.1 e) [
+taken_is_call [] has few e = (codes "steps", false, codes "-" ∷ [], steps_call [] refl, none_named)
+taken_is_call (w0 ∷ []) has few e = (codes "steps", false, codes "-" ∷ [], steps_call (w0 ∷ []) refl, name_alone w0)
+taken_is_call (w0 ∷ v ∷ vs) has few e = elim (first_word w0 v vs has.1 e) [
   | inl among ↦
-      let s = sound_at w0 v vs has.1.1 among e in
+      let s = sound_at w0 v vs has.1.1 (omega (arith, few)) among e in
       (v, s.0, operands vs, record { rest = vs; named = spelled_so v vs (not_dashes v among); optional = s.1; names = refl; accepted = s.2 }, s.3)
   | inr alone ↦ subst₂ (λ n l. (request : List ℕ) × (why : Bool) × (files : List Text) × IsCall (w0 ∷ n ∷ l) request why files × Met (w0 ∷ n ∷ l) request why files) (sym alone.0) (sym alone.1)
       (codes "steps", false, codes "-" ∷ [], steps_call (w0 ∷ codes "--" ∷ []) refl, dashes_alone w0)
@@ -212,7 +212,7 @@ named_taken w0 v vs has few request why files rest named optional names accepted
     let files_are : operands vs ≡ files = ap operands rest_is ∙ names in
     let accepted' : IsAccepted v why (operands vs) = subst₂ (λ n l. IsAccepted n why l) (sym request_is) (sym files_are) accepted in
     let well = well_at w0 v vs has few why optional' accepted' in
-    let s = sound_at w0 v vs has (accepted_name v why (operands vs) accepted') well in
+    let s = sound_at w0 v vs has few (accepted_name v why (operands vs) accepted') well in
     let why_is : s.0 ≡ why = same_why s.0 why (sym s.1 ∙ optional') in
     (well, subst (λ b. Met (w0 ∷ v ∷ vs) request b files) why_is (subst₂ (λ n l. Met (w0 ∷ v ∷ vs) n s.0 l) request_is files_are s.3))
 

@@ -49,7 +49,7 @@ with_request app request = with_subcommand app request.top
 abbrev pub checks_app : App
 checks_app = with_request (with_request (with_request top_app
     (over_plan (over_task (explained (codes "plan")))))
-    (over_plans (over_task (new_app (codes "plans")))))
+    (over_plans (over_task (explained (codes "plans")))))
     (over_plan (over_task (explained (codes "trace"))))
 
 abbrev pub sas_app : App

@@ -36,7 +36,7 @@ AreTwoOrMore files = (task plan : List ℕ) × (more : List (List ℕ)) × (file
 -- the request has this name, and takes these files, with `--why` or without
 abbrev pub IsAccepted : List ℕ → Bool → List (List ℕ) → Type 0
 IsAccepted request why files = ((request ≡ codes "plan") × AreTwo files)
-    ⊎ ((request ≡ codes "plans") × (why ≡ false) × AreTwoOrMore files)
+    ⊎ ((request ≡ codes "plans") × AreTwoOrMore files)
     ⊎ ((request ≡ codes "trace") × AreTwo files)
     ⊎ ((request ≡ codes "mutex") × IsOne files)
     ⊎ ((request ≡ codes "show") × IsOne files)

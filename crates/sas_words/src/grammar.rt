@@ -94,12 +94,9 @@ fn plan_request<'a>(alloc: Global, name: &'a str, about: &'a str) -> Result<Comm
 }
 
 fn plans_request<'a>(alloc: Global) -> Result<Command<'a>, AllocError>
-    ensures { IfOk result (IsCommand (over_plans (over_task (new_app (codes "plans"))))) }
+    ensures { IfOk result (IsCommand (over_plans (over_task (explained (codes "plans"))))) }
 {
-    with_plans(
-        alloc,
-        with_task(alloc, command_named(alloc, "plans", ABOUT_PLANS))?,
-    )
+    with_plans(alloc, task_request(alloc, "plans", ABOUT_PLANS)?)
 }
 
 fn steps_request<'a>(alloc: Global) -> Result<Command<'a>, AllocError>

@@ -67,7 +67,7 @@ fn plans_in(alloc: Global, words: &[u8]) -> Option<Vec<PlanBytes<'_>>> {
 
 /// Calls `judge` over readers that follow texts: `WRITER|PLANS|TASK`. Detects a call that is always out of memory, or that writes before
 /// its answer is complete; a read that is repeated after it failed; and a read after the end, or into a larger buffer than documented.
-pub fn judge_listed(rt: &HostRuntime, bytes: &[u8]) -> Option<()> {
+pub fn judge_listed(rt: &HostRuntime, reasons: bool, bytes: &[u8]) -> Option<()> {
     let (writer, inputs) = cut(bytes, b'|');
     let (words, task) = cut(inputs, b'|');
     let plans = plans_in(rt.alloc(), words)?;
@@ -77,20 +77,21 @@ pub fn judge_listed(rt: &HostRuntime, bytes: &[u8]) -> Option<()> {
     }
     let mut task = Watched::new(ScriptedReader::new(task, LONGEST_READ));
     let mut out = Watched::new(narrow_of(rt.alloc(), writer)?);
-    let answer = judge(rt.alloc(), &mut task, &mut PlanList { rt, plans }, &mut out);
+    let mut list = PlanList { rt, plans };
+    let answer = judge(rt.alloc(), reasons, &mut task, &mut list, &mut out);
     say_answer(rt, &answer, &OUT_OF_MEMORY, out.into_device().kept());
     Some(())
 }
 
 /// Calls `judge_slices` over bytes: `PLANS|TASK`. Detects a call that is always out of memory, and exchanged inputs.
-pub fn judge_in_memory(rt: &HostRuntime, bytes: &[u8]) -> Option<()> {
+pub fn judge_in_memory(rt: &HostRuntime, reasons: bool, bytes: &[u8]) -> Option<()> {
     let (words, task) = cut(bytes, b'|');
     let plans = plans_in(rt.alloc(), words)?;
     let plans = plans.as_slice();
     if !are_labels(plans) {
         return None;
     }
-    match judge_slices(rt.alloc(), task, plans) {
+    match judge_slices(rt.alloc(), reasons, task, plans) {
         Ok(answer) => say_answer(
             rt,
             &Ok(answer.status),

@@ -20,8 +20,8 @@ const LONGEST_READ: usize = 65_536;
 fn call(rt: &HostRuntime, asked: TestCall<'_>) -> Option<()> {
     match asked.call {
         "run" => answer_question(rt, asked.kind, asked.bytes)?,
-        "judge" => judge_listed(rt, asked.bytes)?,
-        "judge-slices" => judge_in_memory(rt, asked.bytes)?,
+        "judge" => judge_listed(rt, asked.kind == "why", asked.bytes)?,
+        "judge-slices" => judge_in_memory(rt, asked.kind == "why", asked.bytes)?,
         "messages" => say_messages(rt),
         "words" => say_job(rt, asked.bytes)?,
         "endings" => say_endings(rt),

@@ -46,8 +46,8 @@ fn say_parts(rt: &HostRuntime, job: &Job) {
             say_source(rt, "task", task);
             say_source(rt, "plan", plan);
         }
-        Job::Plans { task, labels } => {
-            say(rt, "Plans");
+        Job::Plans { task, labels, why } => {
+            say(rt, if *why { "Plans with reasons" } else { "Plans" });
             say_source(rt, "task", task);
             for label in labels.as_slice() {
                 let _ = println!(rt; "label {label}");

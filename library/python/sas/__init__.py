@@ -1,26 +1,41 @@
 """Proved validator of Fast Downward's task files and plans, by libsas.so.
 
-    import sas
+    sas.plan(task, plan)              whether a plan solves a task
+    sas.plan_why(task, plan)          the same, with the reasons for a no
+    sas.trace(task, plan)             the same, after what each step changes
+    sas.plan_files(task, plan)        whether a plan solves a task, by the paths of their files
+    sas.Task(task)                    a task that is read once, for many plans: it has plan, plans, plan_operators, plan_why, trace, and run,
+                                      run_trace and run_state, which start in any state
+    sas.Task.from_file(path)          the same, by the path of its file
+    sas.check(task)                   whether a task is layered; sas.check_why(task) adds the reasons for a no
+    sas.mutex(task)                   which mutex groups are exclusive; sas.mutex_why(task) adds the reasons
+    sas.show(task)                    what a task is about
+    sas.print_task(task)              a task in its canonical form; sas.steps(plan) a plan
+
+Each returns a sas.Answer, which is true if the answer is yes:
 
     answer = sas.plan(task, plan)
     if answer:
         print(answer.steps, answer.cost)
     else:
-        print(answer.verdict, answer.refused_file, answer.reason)
+        print(answer.verdict, answer.failure, answer.refused_file, answer.reason)
 
-    with sas.Task(task) as held:                # read once, for many plans
+    with sas.Task(task) as held:
         answers = held.plans(plans)
         print(held.plan_why(plan).reasons)
         for step in held.trace(plan).trace_steps:
             print(step.name, step.changes)
 
+help(sas.Answer) describes what else an answer has, and help(sas.Reasons), sas.Step, sas.Summary, sas.Group and sas.Refusal its values.
+
 Tasks and plans are bytes, or objects that have bytes, such as a bytearray, a memoryview or an mmap. Only read-only objects that aren't
 bytes are copied. `plan_files` and `Task.from_file` read files, also those of gzip, bzip2, xz and, by a program, zstd. Threads may call at
 the same time: a call releases the interpreter's lock, and a Task makes one call after another.
 
-Each call raises MemoryError if it is out of memory, and InputTooLong if an input has more than 4,294,967,296 bytes. The reasons or the
-trace of a small task may have gigabytes. So calls whose answer may have more than one line take `max_answer_bytes`: if the text of the
-answer has more bytes, they raise AnswerTooLong. Then it isn't copied from the library, which holds it until the call returns.
+Each call raises MemoryError if it is out of memory, and sas.InputTooLong if an input has more than 4,294,967,296 bytes. sas.Task raises
+sas.Refused, and sas.NoTask after it was closed. The reasons or the trace of a small task may have gigabytes. So calls whose answer may have
+more than one line take `max_answer_bytes`: if the text of the answer has more bytes, they raise sas.AnswerTooLong. Then it isn't copied
+from the library, which holds it until the call returns.
 
 The library is libsas.so beside this package or in a folder above, else libsas.so.1 where the system's loader finds it. The environment
 variable LIBSAS can name another file.
@@ -29,6 +44,8 @@ variable LIBSAS can name another file.
 """
 from __future__ import annotations
 
+import array
+import ctypes
 import os
 import sys
 import threading
@@ -43,37 +60,56 @@ if getattr(sys, "argv", [])[:1] == ["-m"]:
     sys.excepthook = _streams.end_import
 
 from . import _files, _library
-from ._answers import Answer, AnswerTooLong, File, InputTooLong, NoTask, Refused, Verdict
+# these are public, too; `help` has those that __all__ names
+from ._answers import (
+    Answer as Answer,
+    AnswerTooLong as AnswerTooLong,
+    Failure as Failure,
+    File as File,
+    InputTooLong as InputTooLong,
+    NoTask as NoTask,
+    Refused as Refused,
+    State as State,
+    Verdict as Verdict,
+)
 from ._files import LIMIT, Path
-from ._library import LINE_ROOM, USUAL_ROOM, Data, answer_of, given, given_cost, given_numbers
+from ._library import LINE_ROOM, USUAL_ROOM, Data, answer_of, given, given_cost, given_numbers, given_run, state_of
+from ._task_values import (
+    Found as Found,
+    Group as Group,
+    GroupVerdict as GroupVerdict,
+    ListCount as ListCount,
+    Refusal as Refusal,
+    Summary as Summary,
+    WrongNumber as WrongNumber,
+)
 from ._values import (
-    BlockedOperator,
-    Cause,
-    Change,
-    Conflict,
-    CostFacts,
-    CouldAlsoBe,
-    Effect,
-    Fact,
-    GoalFact,
-    NamedStep,
-    Reasons,
-    Rule,
-    SimilarOperator,
-    Step,
-    UnknownStep,
+    BlockedOperator as BlockedOperator,
+    Cause as Cause,
+    Change as Change,
+    Conflict as Conflict,
+    CostFacts as CostFacts,
+    CouldAlsoBe as CouldAlsoBe,
+    Effect as Effect,
+    Fact as Fact,
+    GoalFact as GoalFact,
+    MadeAnyway as MadeAnyway,
+    NamedStep as NamedStep,
+    Reasons as Reasons,
+    Rule as Rule,
+    SimilarOperator as SimilarOperator,
+    Step as Step,
+    UnknownStep as UnknownStep,
 )
 
 __version__ = "1.1.0"
 __all__ = [
-    "Answer", "AnswerTooLong", "BlockedOperator", "Cause", "Change", "Conflict", "CostFacts", "CouldAlsoBe", "Effect", "Fact", "File",
-    "GoalFact", "InputTooLong", "NamedStep", "NoTask", "Reasons", "Refused", "Rule", "SimilarOperator", "Step", "Task", "UnknownStep", "Verdict",
-    "check", "check_why", "mutex", "mutex_why", "plan", "plan_files", "plan_why", "print_task", "show", "steps", "trace", "version",
+    "Task", "check", "check_why", "mutex", "mutex_why", "plan", "plan_files", "plan_why", "print_task", "show", "steps", "trace", "version",
 ]  # fmt: skip
 # tracebacks and pickles name the module that users import
-for _name in __all__:
-    if isinstance(globals().get(_name), type):
-        globals()[_name].__module__ = __name__
+for _its in list(globals().values()):
+    if isinstance(_its, type) and _its.__module__.startswith(f"{__name__}._"):
+        _its.__module__ = __name__
 
 
 def version() -> str:
@@ -121,8 +157,20 @@ def plan_why(task: Data, plan: Data, *, max_answer_bytes: Optional[int] = None) 
 def trace(task: Data, plan: Data, *, max_answer_bytes: Optional[int] = None) -> Answer:
     """Checks a plan as `plan` does, and prints what each of its steps changes: `sas trace`."""
     (task_at, task_length), (plan_at, plan_length) = given(task), given(plan)
-    room = USUAL_ROOM + 10 * plan_length + task_length // 8
+    room = _trace_room(_initial_size_of(task), plan_length)
     return answer_of(_library.TRACE, task_at, task_length, plan_at, plan_length, room=room, max_answer_bytes=max_answer_bytes)
+
+
+def _initial_size_of(task: Data) -> int:
+    """Returns a guess of how many bytes the initial state of a task has in a trace: 64 for each variable, whose number is on line 7."""
+    held = memoryview(task).cast("B")
+    line = bytes(held[:200]).split(b"\n")[6:7]
+    return min(64 * int(line[0]), len(held)) if line and line[0].strip().isdigit() else 0
+
+
+def _trace_room(initial_size: int, plan_length: int) -> int:
+    """Returns the room that most traces fit in."""
+    return USUAL_ROOM + initial_size + 10 * plan_length
 
 
 def check(task: Data) -> Answer:
@@ -175,10 +223,23 @@ class Task:
 
     It is freed at the end of a `with`, by `close`, or with its last reference. If a process forks while another thread is inside a call of
     the task, the task is closed in the child.
+
+    Attributes:
+        metric: 1 if the operators' cost lines are used, else 0.
+        variables, derived, groups, operators, rules: How many the task has; `derived` are those of the variables that rules derive.
+        goal_facts: How many facts the goal has.
     """
 
+    metric: int
+    variables: int
+    derived: int
+    groups: int
+    operators: int
+    rules: int
+    goal_facts: int
+
     def __init__(self, task: Data) -> None:
-        """Reads a task.
+        """Reads a task, and by `show` its numbers.
 
         Args:
             task: The bytes of a task file, `output.sas`.
@@ -188,11 +249,24 @@ class Task:
             MemoryError: Out of memory.
             InputTooLong: The file has more than 4,294,967,296 bytes.
         """
+        self._read(task)
+        self._count(show(task).text)
+
+    @classmethod
+    def _uncounted(cls, task: Data) -> Task:
+        """Reads a task without its numbers, in less time."""
+        it = cls.__new__(cls)
+        it._read(task)
+        return it
+
+    def _read(self, task: Data) -> None:
         self._path: Optional[Path] = None
         self._hold(_library.Held())
         answer = answer_of(_library.TASK_READ, self._held, *given(task))
         if not answer:
             raise Refused(answer.text)
+        # how many bytes the initial state has in each trace, which is a guess until the first one is there
+        self._initial_size, self._is_measured = _initial_size_of(task), False
         _TASKS.add(self)
 
     @classmethod
@@ -211,6 +285,14 @@ class Task:
         task = cls(_files.read(path, max_bytes))
         task._path = path
         return task
+
+    def _count(self, summary: bytes) -> None:
+        """Reads the numbers of a summary of the task."""
+        numbers = {word: int(number) for word, number in (line.split() for line in summary[:200].split(b"\n")[:6])}
+        self.metric, self.variables, self.derived = numbers[b"metric"], numbers[b"variables"], numbers[b"derived"]
+        self.groups, self.operators, self.rules = numbers[b"groups"], numbers[b"operators"], numbers[b"rules"]
+        # their lines follow that of the last variable
+        self.goal_facts = summary.count(b"\n", summary.rfind(b"\ninitial ") + 1) - 1
 
     def _hold(self, held: _library.Held) -> None:
         self._held, self._one_call = held, threading.Lock()
@@ -252,6 +334,42 @@ class Task:
         with self._one_call:
             return answer_of(_library.TASK_PLAN_OPERATORS, self._held, at, count, given_cost(cost))
 
+    def run(self, operators: Iterable[int], cost: int, start: Optional[Iterable[int]] = None) -> Answer:
+        """Checks whether the steps that are these operators solve the task at this cost, from a state on.
+
+        Args:
+            operators: The numbers of the operators, as in `plan_operators`.
+            cost: The cost of the steps, of at most 64 bits.
+            start: The state that they start in: a value for each variable, or None for the initial state. Values of derived variables are
+                computed anew.
+
+        Returns:
+            Yes if they solve the task. If the start isn't a state of the task, it is refused.
+        """
+        return self._run(_library.TASK_RUN, operators, cost, start, LINE_ROOM)
+
+    def run_trace(
+        self, operators: Iterable[int], cost: int, start: Optional[Iterable[int]] = None, *, max_answer_bytes: Optional[int] = None
+    ) -> Answer:
+        """Checks steps as `run` does, and prints what each of them changes."""
+        numbers = array.array("I", operators)
+        room = USUAL_ROOM + self._initial_size + 100 * len(numbers)
+        return self._run(_library.TASK_RUN_TRACE, numbers, cost, start, room, max_answer_bytes)
+
+    def run_state(self, operators: Iterable[int], start: Optional[Iterable[int]] = None) -> State:
+        """Returns the state that the steps lead to that are these operators."""
+        run, _kept = given_run(operators, 0, start)
+        with self._one_call:
+            return state_of(_library.TASK_RUN_STATE, self._held, ctypes.byref(run), variables=self.variables)
+
+    def _run(
+        self, call: Callable[..., int], operators: Iterable[int], cost: int, start: Optional[Iterable[int]], room: int, most: Optional[int] = None
+    ) -> Answer:
+        """Returns the answer of a call about a run, whose room is so many bytes."""
+        run, _kept = given_run(operators, cost, start)
+        with self._one_call:
+            return answer_of(call, self._held, ctypes.byref(run), room=room, max_answer_bytes=most)
+
     def plan_why(self, plan: Data, *, max_answer_bytes: Optional[int] = None) -> Answer:
         """Checks a plan as `plan` does, with the reasons for a no in further lines of the text: `sas plan --why`.
 
@@ -265,7 +383,11 @@ class Task:
         The task isn't read again.
         """
         file = given(plan)
-        return self._answer(_library.TASK_TRACE, file, USUAL_ROOM + 10 * file[1], max_answer_bytes)
+        answer = self._answer(_library.TASK_TRACE, file, _trace_room(self._initial_size, file[1]), max_answer_bytes)
+        if not self._is_measured and answer.text.startswith(b"initial "):
+            at = answer.text.find(b"\nstep ")
+            self._initial_size, self._is_measured = len(answer.text) if at < 0 else at, True
+        return answer
 
     def _answer(self, call: Callable[..., int], plan: Tuple[Any, int], room: int, max_answer_bytes: Optional[int] = None) -> Answer:
         """Returns the answer of a call about a plan, whose room is so many bytes."""
@@ -279,20 +401,8 @@ class Task:
 
     def __repr__(self) -> str:
         of = f" of {os.fsdecode(self._path)!r}" if self._path is not None else ""
-        try:
-            variables, operators = len(self.trace(b"; cost = 0 (unit cost)\n").initial), self._operators()
-        except NoTask:
-            return f"<sas.Task{of}: closed>"
-        return f"<sas.Task{of}: {variables} variables, {operators} operators>"
-
-    def _operators(self) -> int:
-        """Returns how many operators the task has: the lowest number that no operator has."""
-        low, high = 0, 1 << 31
-        while low < high:
-            middle = (low + high) // 2
-            is_one = self.plan_operators([middle], 0).reason != "step 1: no operator of that number"
-            low, high = (middle + 1, high) if is_one else (low, middle)
-        return low
+        counts = f"{self.variables} variables, {self.operators} operators, {self.goal_facts} goal facts"
+        return f"<sas.Task{of}: {counts if self._held.is_there else 'closed'}>"
 
     def __enter__(self) -> Task:
         return self

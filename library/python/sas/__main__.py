@@ -19,10 +19,12 @@ if __name__ == "__main__":
 
 import importlib
 import importlib.util
+import os
 from typing import Sequence
 
 from ._program import REQUESTS, run
 from ._streams import INVALID_ARGUMENTS, YES, write_error, write_out
+from ._values import readable
 
 
 def main(words: Sequence[str]) -> int:
@@ -41,6 +43,8 @@ def main(words: Sequence[str]) -> int:
     if words in (["--version"], ["-V"]):
         write_out(f"sas {__version__}\n".encode())
         return YES
+    if words and words[0] not in ("--help", "-h"):
+        write_error(f"python -m sas: there is no command {readable(os.fsencode(command))}; these are there:\n")
     write_error(str(__doc__).rstrip())
     return INVALID_ARGUMENTS
 

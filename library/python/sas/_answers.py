@@ -1,17 +1,21 @@
 """Answers, and the exceptions of calls."""
+import array
 import enum
 import re
-from typing import Iterator, List, NamedTuple, Optional, Pattern
+from typing import Any, Callable, Iterator, NamedTuple, Optional, Pattern, Tuple, TypeVar
 
+from ._task_values import Group, Refusal, Summary, groups_of, refusal_of, summary_of
 from ._values import Fact, Reasons, Step, initial_of, readable, reasons_of, steps_of
 
-_VERDICT = re.compile(rb"(plan|task) (valid|invalid|refused): (.*)")
+_VERDICT = re.compile(rb"(plan|task|state) (valid|invalid|refused): (.*)")
 # the line about a mutex group that isn't exclusive
 _GROUP = re.compile(rb"^group \d+ (?!exclusive$).*$", re.MULTILINE)
 _STEPS = re.compile(rb"plan valid: (\d+) steps, cost \d+")
 _COST = re.compile(rb"plan (?:valid: \d+ steps, cost|invalid: cost is \d+, not) (\d+)")
-_SUM = re.compile(rb"plan invalid: cost is (\d+), not \d+")
+_SUM = re.compile(rb"plan (?:valid: \d+ steps, cost|invalid: cost is) (\d+)(?:, not \d+)?")
+_COSTS = re.compile(rb"^step \d+ \d+ (\d+) ", re.MULTILINE)
 _FAILING_STEP = re.compile(rb"plan invalid: step (\d+): .*")
+_FAILURE = re.compile(rb"(state) refused: .*|plan invalid: (?:step \d+: (.*)|(goal) fact .*|(cost) is .*)")
 _GOAL_FACT = re.compile(rb"plan invalid: goal fact (\d+) not reached")
 
 
@@ -36,16 +40,37 @@ class File(str, enum.Enum):
     __str__ = str.__str__
 
 
-class Answer(NamedTuple):
-    """The answer of a call. It is true if the verdict is yes, and unpacks as `is_yes, text = answer`.
+class Failure(str, enum.Enum):
+    """What fails: a step that isn't applicable, names no operator, has the number of none, or has effects that conflict; a fact of the goal;
+    the cost; or the state that a run starts in."""
+
+    NOT_APPLICABLE = "not applicable"
+    NO_SUCH_NAME = "no operator of that name"
+    NO_SUCH_NUMBER = "no operator of that number"
+    CONFLICT = "conflicting effects"
+    GOAL = "goal"
+    COST = "cost"
+    STATE = "state"
+
+    __str__ = str.__str__
+
+
+_Value = TypeVar("_Value")
+
+
+class _Said(NamedTuple):
+    is_yes: bool
+    text: bytes
+
+
+class Answer(_Said):
+    """The answer of a call. It is true if the verdict is yes, and unpacks as `is_yes, text = answer`. The other attributes are read from the
+    text, at the first access.
 
     Attributes:
         is_yes: Whether the answer is yes, or the text was printed.
         text: What `sas` prints, in bytes.
     """
-
-    is_yes: bool
-    text: bytes
 
     def __bool__(self) -> bool:
         return self.is_yes
@@ -56,6 +81,9 @@ class Answer(NamedTuple):
     def __repr__(self) -> str:
         line, lines = readable(self._line()), self.text.count(b"\n")
         return f"<sas.Answer {line!r}{f', {lines} lines' if lines > 1 else ''}>"
+
+    def __reduce__(self) -> Tuple[Any, ...]:
+        return type(self), tuple(self)
 
     @property
     def verdict(self) -> Verdict:
@@ -69,7 +97,14 @@ class Answer(NamedTuple):
     def refused_file(self) -> Optional[File]:
         """Which file is refused, if one is."""
         found = _VERDICT.fullmatch(self._line())
-        return File(found[1].decode()) if found and found[2] == b"refused" else None
+        return File(found[1].decode()) if found and found[2] == b"refused" and found[1] != b"state" else None
+
+    @property
+    def failure(self) -> Optional[Failure]:
+        """What fails, if the answer is `plan invalid: ..`, or a state is refused."""
+        found = _FAILURE.fullmatch(self._line())
+        word = found[found.lastindex or 0].decode() if found else ""
+        return next((it for it in Failure if it.value == word), None)
 
     @property
     def reason(self) -> Optional[str]:
@@ -95,8 +130,11 @@ class Answer(NamedTuple):
 
     @property
     def sum(self) -> Optional[int]:
-        """What the steps cost, if the answer is `plan invalid: cost is SUM, not C`, else None."""
-        return self._number(_SUM)
+        """What the steps cost that go through: of a trace, or if the answer is `plan valid: ..` or `plan invalid: cost is SUM, not C`."""
+        return self._kept("sum", lambda _: self._sum())
+
+    def _sum(self) -> Optional[int]:
+        return sum(map(int, _COSTS.findall(self.text))) if self._is_trace() else self._number(_SUM)
 
     @property
     def failing_step(self) -> Optional[int]:
@@ -109,19 +147,41 @@ class Answer(NamedTuple):
         return self._number(_GOAL_FACT)
 
     @property
-    def initial(self) -> List[Fact]:
-        """The initial state, if the answer is a trace, else an empty list."""
-        return list(initial_of(self.text))
+    def initial(self) -> Tuple[Fact, ...]:
+        """The initial state, if the answer is a trace, else an empty tuple."""
+        return self._kept("initial", lambda text: tuple(initial_of(text)))
 
     @property
     def trace_steps(self) -> Iterator[Step]:
-        """The steps that went through, if the answer is a trace. They are read from the text one by one."""
+        """The steps that went through, if the answer is a trace. They are read from the text one by one, at each access anew."""
         return steps_of(self.text) if self._is_trace() else iter(())
 
     @property
     def reasons(self) -> Optional[Reasons]:
         """The reasons for a no in the answer of `plan_why` or `check_why`. None for a yes, and in other answers."""
-        return reasons_of(self.text)
+        return self._kept("reasons", reasons_of)
+
+    @property
+    def refusal(self) -> Optional[Refusal]:
+        """Why a file is refused. None if none is."""
+        return self._kept("refusal", refusal_of)
+
+    @property
+    def groups(self) -> Tuple[Group, ...]:
+        """A verdict for each mutex group, with its reasons, if the answer is that of `mutex` or `mutex_why`."""
+        return self._kept("groups", groups_of)
+
+    @property
+    def summary(self) -> Optional[Summary]:
+        """What the task is about, if the answer is that of `show`, else None."""
+        return self._kept("summary", summary_of)
+
+    def _kept(self, name: str, read: Callable[[bytes], _Value]) -> _Value:
+        """Returns a value, which is read from the text once."""
+        if name not in self.__dict__:
+            self.__dict__[name] = read(self.text)
+        value: _Value = self.__dict__[name]
+        return value
 
     def _is_trace(self) -> bool:
         return self.text.startswith(b"initial ")
@@ -135,6 +195,22 @@ class Answer(NamedTuple):
         """Returns the number of the line with the verdict, if it has this form."""
         found = line.fullmatch(self._line())
         return int(found[1]) if found else None
+
+
+class State(NamedTuple):
+    """The state behind the steps of a run that go through. It is true if all do.
+
+    Attributes:
+        is_yes: Whether all steps go through.
+        values: A value for each variable, as an array("I"), which `start` takes. If a step doesn't go through, they are those before it.
+            Empty if the start isn't a state of the task.
+    """
+
+    is_yes: bool
+    values: "array.array[int]"
+
+    def __bool__(self) -> bool:
+        return self.is_yes
 
 
 class Refused(ValueError):

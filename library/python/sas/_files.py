@@ -23,6 +23,10 @@ _PROGRAM = "zstd"
 _COMPRESSED = ((b"\x1f\x8b", "gzip"), (b"BZh", "bz2"), (b"\xfd7zXZ\x00", "lzma"), (b"\x28\xb5\x2f\xfd", _PROGRAM))
 
 
+class NotDecompressed(OSError):
+    """A compressed file is damaged, or what decompresses it isn't there."""
+
+
 def read(path: Path, max_bytes: int = LIMIT) -> bytearray:
     """Returns what a file holds. It is decompressed if it begins as one of gzip, bzip2, xz or zstd.
 
@@ -51,10 +55,10 @@ def open_ordinary(path: Path) -> Tuple[FileIO, os.stat_result]:
 def content_of(file: FileIO, about: os.stat_result, path: Path, max_bytes: int = LIMIT) -> bytearray:
     """Returns what an open file holds, as `read` does."""
     if stat.S_ISREG(about.st_mode):
-        first = file.read(min(about.st_size + 1, _PIECE)) or b""
+        start, first = file.tell(), file.read(min(about.st_size + 1, _PIECE)) or b""
         tool = _tool_of(first)
         if tool:
-            file.seek(0)
+            file.seek(start)
             return _decompressed(tool, file, path, max_bytes)
         if about.st_size > max_bytes:
             raise InputTooLong("sas: input too long")
@@ -82,8 +86,8 @@ def _decompressed(tool: str, file: IO[bytes], path: Path, max_bytes: int) -> byt
         raise _damaged(path, str(fault)) from fault
 
 
-def _damaged(path: Path, how: str) -> OSError:
-    return OSError(errno.EIO, f"the compressed file is damaged: {how}", path)
+def _damaged(path: Path, how: str) -> NotDecompressed:
+    return NotDecompressed(errno.EIO, f"the compressed file is damaged: {how}", path)
 
 
 def _all_of(file: Union[FileIO, IO[bytes]], max_bytes: int, first: bytes = b"") -> bytearray:
@@ -103,7 +107,7 @@ def _by_program(file: IO[bytes], path: Path, max_bytes: int) -> bytearray:
         try:
             tool = subprocess.Popen([_PROGRAM, "-dcq"], stdin=source, stdout=subprocess.PIPE, stderr=subprocess.DEVNULL)
         except FileNotFoundError:
-            raise OSError(errno.ENOENT, "there is no program zstd", path) from None
+            raise NotDecompressed(errno.ENOENT, "there is no program zstd", path) from None
         with tool:
             try:
                 assert tool.stdout

@@ -90,7 +90,7 @@ class Judge:
         with file:
             content = content_of(file, about, path, self.max_bytes)
         try:
-            held: Union[Task, Answer] = Task(content)
+            held: Union[Task, Answer] = Task._uncounted(content)
         except Refused as refusal:
             held = check_why(content) if self.is_why else refusal.answer
         self._held = path, held

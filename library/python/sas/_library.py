@@ -9,7 +9,7 @@ import os
 import sys
 from typing import Any, Callable, Iterable, Optional, Tuple, Union
 
-from ._answers import Answer, AnswerTooLong, InputTooLong, NoTask
+from ._answers import Answer, AnswerTooLong, InputTooLong, NoTask, State
 
 Data = Union[bytes, bytearray, memoryview, mmap.mmap, "array.array[Any]"]
 
@@ -22,6 +22,18 @@ class Held(ctypes.Structure):
     """sas_task of sas.h."""
 
     _fields_ = [("is_there", ctypes.c_uint8), ("at", ctypes.c_void_p)]
+
+
+class Run(ctypes.Structure):
+    """sas_run of sas.h."""
+
+    _fields_ = [
+        ("operators", ctypes.c_void_p),
+        ("count", ctypes.c_size_t),
+        ("cost", ctypes.c_uint64),
+        ("start", ctypes.c_void_p),
+        ("start_length", ctypes.c_size_t),
+    ]
 
 
 def _load() -> ctypes.CDLL:
@@ -46,6 +58,7 @@ def _call(name: str, *kinds: Any) -> Callable[..., int]:
 
 _FILE = (ctypes.c_void_p, ctypes.c_size_t)
 _HELD = (ctypes.POINTER(Held), *_FILE)
+_RUN = (ctypes.POINTER(Held), ctypes.POINTER(Run))
 
 try:
     _LIBRARY = _load()
@@ -56,6 +69,8 @@ try:
     TASK_READ, TASK_PLAN = (_call(name, *_HELD) for name in ("sas_task_read", "sas_task_plan"))
     TASK_PLAN_WHY, TASK_TRACE = (_call(name, *_HELD) for name in ("sas_task_plan_why", "sas_task_trace"))
     TASK_PLAN_OPERATORS = _call("sas_task_plan_operators", *_HELD, ctypes.c_uint64)
+    TASK_RUN = _call("sas_task_run", *_RUN)
+    TASK_RUN_TRACE, TASK_RUN_STATE = (_call(name, *_RUN) for name in ("sas_task_run_trace", "sas_task_run_state"))
     VERSION, TASK_FREE = _LIBRARY.sas_version, _LIBRARY.sas_task_free
 except (OSError, AttributeError) as _fault:
     raise ImportError(f"sas: the library isn't found: {_fault}") from _fault
@@ -82,6 +97,13 @@ def given_numbers(numbers: Iterable[int]) -> Tuple[Any, int]:
     ready = numbers if _is_ready(numbers) else array.array("I", numbers)
     count = len(ready)  # type: ignore[arg-type]
     return ctypes.byref(ctypes.c_uint32.from_buffer(ready if count else array.array("I", [0]))), count  # type: ignore[arg-type]
+
+
+def given_run(operators: Iterable[int], cost: int, start: Optional[Iterable[int]]) -> Tuple[Run, Any]:
+    """Returns a run as a call takes it, and what has to be kept until the call returns."""
+    (at, count), (start_at, start_length) = given_numbers(operators), given_numbers(() if start is None else start)
+    run = Run(ctypes.cast(at, ctypes.c_void_p), count, given_cost(cost), ctypes.cast(start_at, ctypes.c_void_p), start_length)
+    return run, (at, start_at)
 
 
 def _is_ready(numbers: Any) -> bool:
@@ -117,10 +139,25 @@ def answer_of(call: Callable[..., int], *inputs: Any, room: int = LINE_ROOM, max
             raise AnswerTooLong(size.value)
         text = ctypes.create_string_buffer(size.value)
         number = call(*inputs, text, len(text), ctypes.byref(size))
+    _check(number)
+    return Answer(number == _YES, ctypes.string_at(text, size.value))
+
+
+def state_of(call: Callable[..., int], *inputs: Any, variables: int) -> State:
+    """Returns the state that a run leads to, of a task with so many variables."""
+    size, number = ctypes.c_size_t(variables), _ROOM_TOO_SHORT
+    while number == _ROOM_TOO_SHORT:
+        values = array.array("I", bytes(4 * max(size.value, 1)))
+        number = call(*inputs, values.buffer_info()[0], len(values), ctypes.byref(size))
+    _check(number)
+    return State(number == _YES, values[: size.value])
+
+
+def _check(number: int) -> None:
+    """Raises the exception of a number without an answer."""
     if number == _OUT_OF_MEMORY:
         raise MemoryError("sas: out of memory")
     if number == _INPUT_TOO_LONG:
         raise InputTooLong("sas: input too long")
     if number == _NO_TASK:
         raise NoTask("sas: no task is held")
-    return Answer(number == _YES, ctypes.string_at(text, size.value))

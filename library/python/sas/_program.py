@@ -1,14 +1,16 @@
-"""The requests of the program `sas`, with its texts and exit statuses. A file is read as a whole before it is judged."""
+"""The requests of the program `sas`, with its texts and exit statuses. A file is read as a whole before it is judged, and a compressed one is
+decompressed."""
 from __future__ import annotations
 
 import contextlib
 import os
 import sys
+from io import FileIO
 from typing import Callable, Dict, Iterator, List, Optional, Sequence, Tuple
 
 from . import Answer, InputTooLong, Refused, Task, check, check_why, mutex, mutex_why, plan_why, print_task, show, steps
-from ._files import LIMIT
-from ._streams import FAULT, INVALID_ARGUMENTS, NO, YES, Stopped, replace_closed, write_error, write_out
+from ._files import NotDecompressed, content_of
+from ._streams import FAULT, INVALID_ARGUMENTS, NO, YES, Stopped, replace_closed, said, write_error, write_out
 
 _OVER_ONE: Dict[str, Callable[[bytearray], Answer]] = {
     "mutex": mutex,
@@ -19,10 +21,9 @@ _OVER_ONE: Dict[str, Callable[[bytearray], Answer]] = {
 }
 _WHY_OVER_ONE: Dict[str, Callable[[bytearray], Answer]] = {"mutex": mutex_why, "check": check_why}
 _OVER_BOTH = ("plan", "trace")
-_USAGE = {"plan": "[--why] TASK PLAN", "plans": "TASK PLAN..", "trace": "[--why] TASK PLAN", "steps": "[--why] PLAN"}
+_USAGE = {"plan": "[--why] TASK PLAN", "plans": "[--why] TASK PLAN..", "trace": "[--why] TASK PLAN", "steps": "[--why] PLAN"}
 _USAGE.update({request: "[--why] TASK" for request in ("mutex", "show", "check", "print")})
 REQUESTS = tuple(_USAGE)
-_PIECE = 1 << 20
 # a task for which a plan that is refused has its reasons
 _SMALLEST = b"""\
 begin_version\n3\nend_version\nbegin_metric\n0\nend_metric\n1\nbegin_variable\nv\n-1\n1\nv\nend_variable
@@ -47,7 +48,10 @@ class _Input:
         try:
             if not self._file and sys.stdin is None:
                 raise OSError("standard input was closed at the start")
-            yield self._read()
+            file = FileIO(self._file, closefd=False)
+            yield content_of(file, os.fstat(self._file), self.name)
+        except NotDecompressed as fault:
+            raise Stopped(FAULT, f"sas: {said(fault)}", self.name) from None
         except OSError:
             raise Stopped(FAULT, "sas: read failed", self.name) from None
         except InputTooLong:
@@ -56,15 +60,6 @@ class _Input:
             if self._file:
                 os.close(self._file)
 
-    def _read(self) -> bytearray:
-        held = bytearray()
-        while len(held) <= LIMIT:
-            piece = os.read(self._file, _PIECE)
-            if not piece:
-                break
-            held += piece
-        return held
-
 
 def run(request: str, words: Sequence[str]) -> int:
     """Answers a request with these words, and returns the exit status."""
@@ -72,7 +67,7 @@ def run(request: str, words: Sequence[str]) -> int:
     try:
         files, why = _files_of(request, words)
         replace_closed()
-        answer = _plans(*files) if request == "plans" else _answer(request, files, why)
+        answer = _plans(why, *files) if request == "plans" else _answer(request, files, why)
         write_out(answer.text)
         return YES if answer else NO
     except Stopped as stop:
@@ -118,7 +113,7 @@ def _answer_over_both(request: str, task: _Input, plan: _Input, why: bool) -> An
     """Answers a request about a plan of a task. If the task is refused, the plan isn't read."""
     with task.judged() as file:
         try:
-            held = Task(file)
+            held = Task._uncounted(file)
         except Refused as refusal:
             return check_why(file) if why else refusal.answer
     with held, plan.judged() as file:
@@ -134,18 +129,18 @@ def _with_reasons(trace: Answer, plan: Answer) -> Answer:
     return Answer(bool(trace), trace.text + reasons)
 
 
-def _plans(task: str, *labels: str) -> Answer:
+def _plans(why: bool, task: str, *labels: str) -> Answer:
     """Answers about many plans of a task, as `sas plans`."""
     with _Input("task", task).judged() as file:
         try:
-            held = Task(file)
+            held = Task._uncounted(file)
         except Refused as refusal:
-            return refusal.answer
+            return check_why(file) if why else refusal.answer
     lines, valid = [], []
     for label in labels:
         try:
             with _Input("plan", label).judged() as file:
-                answer = held.plan(file)
+                answer = held.plan_why(file) if why else held.plan(file)
         except Stopped as stop:
             raise Stopped(stop.status, f"{stop.line}: {label}") from None
         lines.append(os.fsencode(label) + b": " + answer.text)

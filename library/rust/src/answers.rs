@@ -19,16 +19,18 @@ pub struct Answer {
 
 impl Answer {
     /// What the answer says.
+    #[must_use]
     pub fn verdict(&self) -> Verdict {
         match self.headline() {
             line if line.starts_with(b"plan valid: ") => Verdict::Valid,
             line if line.starts_with(b"plan invalid: ") => Verdict::Invalid,
-            _ if self.refused_file().is_some() => Verdict::Refused,
+            line if self.refused_file().is_some() || line.starts_with(b"state refused: ") => Verdict::Refused,
             _ => if self.is_yes { Verdict::Yes } else { Verdict::No },
         }
     }
 
     /// Which file is refused.
+    #[must_use]
     pub fn refused_file(&self) -> Option<File> {
         match self.headline() {
             line if line.starts_with(b"task refused: ") => Some(File::Task),
@@ -39,6 +41,7 @@ impl Answer {
 
     /// The reason for a no, such as `step 2: not applicable` or `line 7: name`. Of mutex groups it is the first line that isn't
     /// `group K exclusive`.
+    #[must_use]
     pub fn reason(&self) -> Option<&str> {
         let line = match self.verdict() {
             Verdict::Invalid | Verdict::Refused => str::from_utf8(self.headline()).ok()?.split_once(": ")?.1.as_bytes(),
@@ -48,46 +51,70 @@ impl Answer {
         str::from_utf8(line).ok()
     }
 
+    /// What fails, if the answer is `plan invalid: ..`, or a state is refused.
+    #[must_use]
+    pub fn failure(&self) -> Option<Failure> {
+        let line = self.headline();
+        match line.strip_prefix(b"plan invalid: ") {
+            Some(why) if why.starts_with(b"goal fact ") => Some(Failure::Goal),
+            Some(why) if why.starts_with(b"cost is ") => Some(Failure::Cost),
+            Some(_) if line.ends_with(b": not applicable") => Some(Failure::NotApplicable),
+            Some(_) if line.ends_with(b": no operator of that name") => Some(Failure::NoSuchName),
+            Some(_) if line.ends_with(b": no operator of that number") => Some(Failure::NoSuchNumber),
+            Some(_) if line.ends_with(b": conflicting effects") => Some(Failure::Conflict),
+            None if line.starts_with(b"state refused: ") => Some(Failure::State),
+            _ => None,
+        }
+    }
+
     /// The step that fails, counted from 1, if the reason is `step S: ..`.
+    #[must_use]
     pub fn failing_step(&self) -> Option<u64> {
         Line::after("plan invalid: step ", self.headline())?.number(": ")
     }
 
     /// The first fact of the goal that fails, counted from 0, if the reason is `goal fact I not reached`.
+    #[must_use]
     pub fn goal_fact(&self) -> Option<u64> {
         Line::after("plan invalid: goal fact ", self.headline())?.number(" not reached")
     }
 
-    /// The sum of the steps' costs, if the reason is `cost is SUM, not COST`.
+    /// The sum of the costs of the steps that go through: of a trace, of a valid plan, or if the reason is `cost is SUM, not COST`.
+    #[must_use]
     pub fn sum(&self) -> Option<u64> {
-        self.sum_and_cost().map(|(sum, _)| sum)
+        if self.is_trace() {
+            return Some(self.trace_steps().fold(0, |sum, step| sum.wrapping_add(step.cost)));
+        }
+        self.steps_and_cost().map(|(_, cost)| cost).or_else(|| self.sum_and_cost().map(|(sum, _)| sum))
     }
 
     /// The number of steps, if the answer is `plan valid: S steps, cost C`.
+    #[must_use]
     pub fn steps(&self) -> Option<u64> {
         self.steps_and_cost().map(|(steps, _)| steps)
     }
 
     /// The cost, if the answer is `plan valid: S steps, cost C`, and COST, if the reason is `cost is SUM, not COST`.
+    #[must_use]
     pub fn cost(&self) -> Option<u64> {
         self.steps_and_cost().or_else(|| self.sum_and_cost()).map(|(_, cost)| cost)
     }
 
     /// The initial state of a trace: a fact for each variable. Empty if the answer is no trace.
+    #[must_use]
     pub fn initial(&self) -> Vec<Fact<'_>> {
         let mut rest = &*self.text;
-        iter::from_fn(|| Line::after("initial ", next_line(&mut rest))?.fact()).collect()
+        iter::from_fn(|| Line::after("initial ", next_line(&mut rest))?.raw_fact()).collect()
     }
 
     /// The steps of a trace that succeed, each read from the text when it is asked for. None if the answer is no trace.
     pub fn trace_steps(&self) -> impl Iterator<Item = Step<'_>> + Clone {
-        let is_at = |it: &[u8]| it.starts_with(b"\nstep ");
-        let at = if self.is_trace() { self.text.windows(6).position(is_at) } else { None };
-        let mut rest = at.map_or(&[][..], |at| &self.text[at + 1..]);
+        let mut rest = if self.is_trace() { self.text.get(self.initial_size() + 1..).unwrap_or_default() } else { &[] };
         iter::from_fn(move || next_step(&mut rest))
     }
 
     /// The reasons of `plan_why`. `None` if the answer has none.
+    #[must_use]
     pub fn reasons(&self) -> Option<Reasons<'_>> {
         let mut rest = &*self.text;
         next_line(&mut rest);
@@ -112,7 +139,12 @@ impl Answer {
         Some((line.number(", not ")?, line.last()?))
     }
 
-    fn is_trace(&self) -> bool {
+    /// How many bytes the initial state of a trace has, without its last line end.
+    pub(crate) fn initial_size(&self) -> usize {
+        self.text.windows(6).position(|it| it == b"\nstep ").unwrap_or(self.text.len())
+    }
+
+    pub(crate) fn is_trace(&self) -> bool {
         self.text.starts_with(b"initial ")
     }
 
@@ -132,6 +164,10 @@ impl<'a> Reasons<'a> {
         }
         let mut line = Line::after("  ", line)?;
         match line.word()? {
+            b"step" if self.step.is_none() && verdict.ends_with(b": no operator of that number") => {
+                let (number, unknown) = (line.number(" number ")?, line.last()?);
+                (self.step, self.unknown_number) = (Some(NamedStep { number, ..NamedStep::default() }), Some(unknown));
+            }
             // a step may have any name, so before the line that counts them none is about what a step could also be
             b"step" if self.step.is_none() && verdict.starts_with(b"plan invalid: step ") => self.step = Some(line.step()?),
             b"step" if self.total.is_none() && verdict.ends_with(b": no operator of that name") => {
@@ -143,8 +179,9 @@ impl<'a> Reasons<'a> {
             }
             b"similar" => {
                 let (operator, line, name) = (line.words("operator ")?.number(" line ")?, line.number(" ")?, line.name());
+                let shown = is_shown(&name);
                 let to = self.further_steps.last_mut().map_or(&mut self.similar_operator, |it| &mut it.similar_operator);
-                *to = Some(SimilarOperator { operator, line, name });
+                *to = Some(SimilarOperator { operator, line, name, shown });
             }
             b"operator" => {
                 let (operator, line) = (line.number(" line ")?, line.last()?);
@@ -152,6 +189,15 @@ impl<'a> Reasons<'a> {
                     self.conflict = Some(Conflict { operator, line, effects: Vec::new() });
                 } else {
                     self.operators.push(BlockedOperator { operator, line, causes: Vec::new() });
+                }
+            }
+            b"if" => {
+                let (failing, all) = (line.words("made anyway ")?.number(" of ")?, line.number(" ")?);
+                if line.0 == b"later steps fail" {
+                    self.if_made = Some(MadeAnyway { failing_later: failing, later: all, ..MadeAnyway::default() });
+                } else if line.0 == b"goal facts fail" {
+                    let it = self.if_made.as_mut()?;
+                    (it.failing_goal, it.goal) = (failing, all);
                 }
             }
             b"goal" => self.goal_facts.push(GoalFact { index: line.words("fact ")?.last()?, cause: Cause::default() }),
@@ -167,7 +213,7 @@ impl<'a> Reasons<'a> {
         Some(())
     }
 
-    /// Adds a line of four spaces to the conflict, or to a cause.
+    /// Adds a line of four spaces to the conflict, to what follows if the step is made anyway, or to a cause.
     fn add_deep(&mut self, mut line: Line<'a>) -> Option<()> {
         match line.word()? {
             b"effect" => {
@@ -181,6 +227,7 @@ impl<'a> Reasons<'a> {
                     None => self.operators.last_mut()?.causes.push(cause),
                 }
             }
+            b"step" => self.if_made.as_mut()?.first_failing.push(line.step()?),
             b"actual" => self.cause()?.actual = line.fact()?,
             b"since" => self.cause()?.since = Some(line.words("step ")?.step()?),
             b"rule" => {
@@ -204,57 +251,68 @@ impl<'a> Reasons<'a> {
     }
 }
 
+/// Whether a name of a reason isn't as in the file: a byte of it is `\xHH`, or it is cut off.
+pub(crate) fn is_shown(name: &[u8]) -> bool {
+    name.contains(&b'\\') || name.len() > 256
+}
+
 /// What is left of a line that is read from its front.
-struct Line<'a>(&'a [u8]);
+pub(crate) struct Line<'a>(pub(crate) &'a [u8]);
 
 impl<'a> Line<'a> {
     /// A line after words that it begins with.
-    fn after(words: &str, line: &'a [u8]) -> Option<Line<'a>> {
+    pub(crate) fn after(words: &str, line: &'a [u8]) -> Option<Line<'a>> {
         line.strip_prefix(words.as_bytes()).map(Line)
     }
 
     /// Takes words.
-    fn words(&mut self, words: &str) -> Option<&mut Line<'a>> {
+    pub(crate) fn words(&mut self, words: &str) -> Option<&mut Line<'a>> {
         self.0 = self.0.strip_prefix(words.as_bytes())?;
         Some(self)
     }
 
     /// Takes a word and the space after it.
-    fn word(&mut self) -> Option<&'a [u8]> {
+    pub(crate) fn word(&mut self) -> Option<&'a [u8]> {
         let (word, rest) = self.0.split_at(self.0.iter().position(|it| *it == b' ')?);
         self.0 = &rest[1..];
         Some(word)
     }
 
     /// Takes a number and the words after it.
-    fn number<N: FromStr>(&mut self, words: &str) -> Option<N> {
+    pub(crate) fn number<N: FromStr>(&mut self, words: &str) -> Option<N> {
         let (number, rest) = self.0.split_at(self.0.iter().take_while(|it| it.is_ascii_digit()).count());
         self.0 = rest.strip_prefix(words.as_bytes())?;
         str::from_utf8(number).ok()?.parse().ok()
     }
 
     /// Takes the number that is all that is left.
-    fn last<N: FromStr>(&mut self) -> Option<N> {
+    pub(crate) fn last<N: FromStr>(&mut self) -> Option<N> {
         let number = self.number("");
         number.filter(|_| self.0.is_empty())
     }
 
     /// The name that is all that is left.
-    fn name(&self) -> Text<'a> {
+    pub(crate) fn name(&self) -> Text<'a> {
         Text(self.0)
     }
 
-    fn fact(&mut self) -> Option<Fact<'a>> {
-        Some(Fact { variable: self.number(" ")?, value: self.number(" ")?, name: self.name() })
+    /// The fact that is all that is left, with its name as it is.
+    pub(crate) fn raw_fact(&mut self) -> Option<Fact<'a>> {
+        Some(Fact { variable: self.number(" ")?, value: self.number(" ")?, name: self.name(), shown: false })
+    }
+
+    /// The fact of a reason that is all that is left.
+    pub(crate) fn fact(&mut self) -> Option<Fact<'a>> {
+        self.raw_fact().map(|it| Fact { shown: is_shown(&it.name), ..it })
     }
 
     fn step(&mut self) -> Option<NamedStep<'a>> {
-        Some(NamedStep { number: self.number(" ")?, name: self.name() })
+        Some(NamedStep { number: self.number(" ")?, name: self.name(), shown: is_shown(self.0) })
     }
 }
 
 /// Takes a line off the front of a text.
-fn next_line<'a>(rest: &mut &'a [u8]) -> &'a [u8] {
+pub(crate) fn next_line<'a>(rest: &mut &'a [u8]) -> &'a [u8] {
     let mut parts = rest.splitn(2, |it| *it == b'\n');
     let line = parts.next().unwrap_or_default();
     *rest = parts.next().unwrap_or_default();

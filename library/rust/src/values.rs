@@ -26,6 +26,26 @@ pub enum File {
     Plan,
 }
 
+/// What fails.
+#[derive(Clone, Copy, Debug, PartialEq, Eq, Hash)]
+#[non_exhaustive]
+pub enum Failure {
+    /// A step isn't applicable.
+    NotApplicable,
+    /// A step names no operator.
+    NoSuchName,
+    /// A step has the number of no operator.
+    NoSuchNumber,
+    /// Effects of a step conflict.
+    Conflict,
+    /// A fact of the goal isn't reached.
+    Goal,
+    /// The cost is another one.
+    Cost,
+    /// The state that a run starts in is none of the task.
+    State,
+}
+
 /// Bytes of an answer, such as a name. In a trace a name may have any bytes but LF and CR; in reasons it is safe for a terminal.
 ///
 /// A text dereferences to its bytes. It prints control characters but LF, and what isn't UTF-8, as `\xHH`.
@@ -41,6 +61,8 @@ pub struct Fact<'a> {
     pub value: u32,
     /// The name of the value.
     pub name: Text<'a>,
+    /// Whether a reason shows another name than the file has: without control characters, or cut off after 256 bytes.
+    pub shown: bool,
 }
 
 /// A variable that a step changed.
@@ -76,6 +98,8 @@ pub struct NamedStep<'a> {
     pub number: u64,
     /// Its name.
     pub name: Text<'a>,
+    /// Whether the name isn't as in the file, as in [`Fact`].
+    pub shown: bool,
 }
 
 /// An operator whose name differs from that of a step only in capitals and spaces.
@@ -87,6 +111,8 @@ pub struct SimilarOperator<'a> {
     pub line: u64,
     /// Its name.
     pub name: Text<'a>,
+    /// Whether the name isn't as in the file, as in [`Fact`].
+    pub shown: bool,
 }
 
 /// A rule in a cause.
@@ -155,6 +181,21 @@ pub struct GoalFact<'a> {
     pub cause: Cause<'a>,
 }
 
+/// What follows if the step that fails is made anyway, and the steps after it.
+#[derive(Clone, Debug, Default, PartialEq, Eq, Hash)]
+pub struct MadeAnyway<'a> {
+    /// How many of the later steps fail.
+    pub failing_later: u64,
+    /// How many later steps there are.
+    pub later: u64,
+    /// The first five of those that fail, or all.
+    pub first_failing: Vec<NamedStep<'a>>,
+    /// How many goal facts fail after the last step.
+    pub failing_goal: u64,
+    /// How many goal facts there are.
+    pub goal: u64,
+}
+
 /// What the cost of a plan is made of.
 #[derive(Clone, Copy, Debug, Default, PartialEq, Eq, Hash)]
 pub struct CostFacts {
@@ -195,6 +236,8 @@ pub struct Reasons<'a> {
     pub operators: Vec<BlockedOperator<'a>>,
     /// The effects that disagree.
     pub conflict: Option<Conflict<'a>>,
+    /// What follows if the step is made anyway, if an operator has its name.
+    pub if_made: Option<MadeAnyway<'a>>,
     /// How many steps name no operator, or how many goal facts fail.
     pub failing: Option<u64>,
     /// How many steps or goal facts there are.
@@ -203,6 +246,8 @@ pub struct Reasons<'a> {
     pub goal_facts: Vec<GoalFact<'a>>,
     /// What the cost is made of, if it isn't that of the plan.
     pub cost: Option<CostFacts>,
+    /// The number of the step, if no operator has it.
+    pub unknown_number: Option<u64>,
     /// What may be the mistake.
     pub hint: Option<&'a str>,
     /// Where the plan may mean another operator.
@@ -246,6 +291,20 @@ impl fmt::Display for Verdict {
             Verdict::Refused => "refused",
             Verdict::Yes => "yes",
             Verdict::No => "no",
+        })
+    }
+}
+
+impl fmt::Display for Failure {
+    fn fmt(&self, out: &mut fmt::Formatter) -> fmt::Result {
+        out.write_str(match self {
+            Failure::NotApplicable => "not applicable",
+            Failure::NoSuchName => "no operator of that name",
+            Failure::NoSuchNumber => "no operator of that number",
+            Failure::Conflict => "conflicting effects",
+            Failure::Goal => "goal",
+            Failure::Cost => "cost",
+            Failure::State => "state",
         })
     }
 }

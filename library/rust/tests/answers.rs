@@ -48,7 +48,7 @@ fn a_cause_says_since_when() {
     assert_eq!(reasons.step.unwrap().number, why.failing_step().unwrap());
     let cause = &reasons.operators[0].causes[0];
     assert_eq!((cause.required.value, cause.actual.value, cause.since.unwrap().number), (0, 1, 1));
-    assert_eq!(format!("{:?}", cause.since), r#"Some(NamedStep { number: 1, name: "take f1" })"#);
+    assert_eq!(format!("{:?}", cause.since), r#"Some(NamedStep { number: 1, name: "take f1", shown: false })"#);
 }
 
 #[test]
@@ -60,6 +60,38 @@ fn operators_are_judged_by_their_numbers() {
     assert_eq!((other.verdict(), other.sum(), other.cost()), (sas::Verdict::Invalid, Some(4), Some(5)));
     assert_eq!(held.plan_operators(&[10], 1).unwrap().reason(), Some("step 1: no operator of that number"));
     assert_eq!(held.plan_operators(&[], 0).unwrap().goal_fact(), Some(0));
+}
+
+#[test]
+fn other_answers_have_values() {
+    let summary = sas::show(FUSES).unwrap();
+    let summary = summary.summary().unwrap();
+    assert_eq!((summary.metric, summary.variables, summary.operators, summary.goal.len()), (0, 8, 10, 1));
+    let doorway = sas::mutex_why(include_bytes!("../../../examples/doorway.sas")).unwrap();
+    let groups = doorway.groups();
+    assert_eq!((groups[0].verdict, groups[0].operator, groups[0].effects[0].number), (sas::GroupVerdict::Operator, Some(4), 0));
+    assert_eq!(groups[1].verdict, sas::GroupVerdict::Exclusive);
+    let answer = sas::plan_why(FUSES, b"(take f1)\n").unwrap();
+    let refusal = answer.refusal().unwrap();
+    assert_eq!((refusal.word, refusal.line, refusal.found, refusal.hint), ("end", Some(2), Some(sas::Found::EndOfFile), Some("the cost line is missing")));
+    let trace = sas::trace(FUSES, FUSES_PLAN).unwrap();
+    assert_eq!((trace.sum(), trace.failure()), (Some(4), None));
+    assert_eq!(sas::plan(FUSES, b"; cost = 0 (unit cost)\n").unwrap().failure(), Some(sas::Failure::Goal));
+}
+
+#[test]
+fn a_run_starts_in_any_state() {
+    let mut held = sas::Task::read(FUSES).unwrap();
+    let before = held.run_state(&[8, 5], None).unwrap();
+    assert!(before.is_yes);
+    assert_eq!(held.run(&[9, 6], 2, Some(&before.values)).unwrap().text, b"plan valid: 2 steps, cost 2\n");
+    assert_eq!(held.run(&[8, 5, 9, 6], 4, None), held.plan(FUSES_PLAN));
+    assert_eq!(held.run(&[6], 1, Some(&before.values)).unwrap().failure(), Some(sas::Failure::NotApplicable));
+    let trace = held.run_trace(&[9, 6], 2, Some(&before.values)).unwrap();
+    assert_eq!((trace.sum(), trace.initial()[2].value), (Some(2), before.values[2]));
+    let refused = held.run(&[9, 6], 2, Some(&[0])).unwrap();
+    assert_eq!((refused.verdict(), refused.failure(), refused.reason()), (sas::Verdict::Refused, Some(sas::Failure::State), Some("1 values, not 8")));
+    assert_eq!(held.run_state(&[], Some(&[0])).unwrap().values, []);
 }
 
 #[test]

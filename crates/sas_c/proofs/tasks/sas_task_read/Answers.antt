@@ -16,9 +16,9 @@ returns-in-Layered-clause-answers c =
 pub returns-in-Ended-clause-answers : goal.returns-in-Ended-clause-answers
 returns-in-Ended-clause-answers c =
     let left = λ (s : Bor (List ℕ)). Some s.now in
-    refused_reported c.args.bytes.now _ _ (ap (λ (v : Vec ℕ). v.items) c.new-text.ensures.device ∙ c.new.ensures.items) c.in-Ended.ended _ _ _ _ ((rw c.in-Ended.is at c.read_layered.ensures.refused).ends.output c.args.bytes.now (ap left c.new-device.ensures.device)) c.report_ended.ensures.answers
+    refused_reported c.args.bytes.now _ _ (ap (λ (v : Vec ℕ). v.items) c.new-text.ensures.device ∙ c.new.ensures.items) c.in-Ended.ended _ _ _ _ ((rw c.in-Ended.is at c.read_layered.ensures.refused).ends.output c.args.bytes.now (ap left c.new-device.ensures.device)) c.tell_ended.ensures.answers
 
 pub returns-in-Ended-clause-held : goal.returns-in-Ended-clause-held
 returns-in-Ended-clause-held c = λ zero.
     let left = λ (s : Bor (List ℕ)). Some s.now in
-    absurd (never_yes c.args.bytes.now _ _ (ap (λ (v : Vec ℕ). v.items) c.new-text.ensures.device ∙ c.new.ensures.items) c.in-Ended.ended _ _ _ _ ((rw c.in-Ended.is at c.read_layered.ensures.refused).ends.output c.args.bytes.now (ap left c.new-device.ensures.device)) c.report_ended.ensures.answers zero)
+    absurd (never_yes c.args.bytes.now _ _ (ap (λ (v : Vec ℕ). v.items) c.new-text.ensures.device ∙ c.new.ensures.items) c.in-Ended.ended _ _ _ _ ((rw c.in-Ended.is at c.read_layered.ensures.refused).ends.output c.args.bytes.now (ap left c.new-device.ensures.device)) c.tell_ended.ensures.answers zero)

@@ -1,6 +1,6 @@
 -- The first operator that fails determines the fault.
 use Rattle.sas_meaning.proofs.Imports.{rules, ◌≡◌, ◌∙◌, Some, arith, refl, result_err, operator_layer_checks}
-use Rattle.sas_meaning.proofs.NumberedChecks.{pass_before_next, fails_at, pass_all}
+use Rattle.sas_meaning.proofs.NumberedChecks.{pass_before_next, fails_at, pass_all, pass_basic}
 use Rattle.sas_meaning.proofs.layer_checks.check_operators.Goals as goal
 
 pub loop-operator-preserved : goal.loop-operator-preserved
@@ -16,3 +16,6 @@ returns-in_err-check_operator g c =
 
 pub returns : goal.returns
 returns g c = search (arith, pass_all, operator_layer_checks)
+
+pub returns-then-not-has_derived : goal.returns-then-not-has_derived
+returns-then-not-has_derived g c = pass_basic (g.T.Grounded.says c.args.task.now) (c.has_derived.ensures c.if-not-has_derived.true)

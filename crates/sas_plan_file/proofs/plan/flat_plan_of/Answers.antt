@@ -1,5 +1,5 @@
 -- All bytes were fed to the reader.
-use Rattle.sas_plan_file.proofs.Imports.{[], Ok, Err, sym, ap, subst, ◌∙◌, Fault, ConcernsText, ReadsAs, most_bytes, IsRefused, end_fault, reported_by, explains, plan_format, PlanLineFits, plan_node, plan_start, plan_behavior, fault_of, found_of, TellsLacks}
+use Rattle.sas_plan_file.proofs.Imports.{[], Ok, Err, sym, ap, subst, ◌∙◌, Fault, ConcernsText, ReadsAs, most_bytes, IsRefused, end_fault, explained_by, explains, plan_format, PlanLineFits, plan_node, plan_start, plan_behavior, fault_of, found_of, TellsLacks}
 use Rattle.sas_plan_file.proofs.PlanEnds.{tells_lacks}
 use Rattle.sas_plan_file.proofs.PlanGrammar.{plan_grammar}
 use Rattle.sas_plan_file.proofs.PlanStanding.{plan_follows, read_plan_parts}
@@ -31,8 +31,8 @@ returns-in-Err-clause-explained c =
     let limit = c.feed.ensures.limit ∙ c.new-reader.ensures.limit in
     let r = c.in-Err.refused in
     let same = c.of.ensures.fault in
-    λ is_reported.
-    let reported = subst (λ (f : Fault). ConcernsText f.kind) same is_reported in
+    λ is_explained.
+    let reported = subst (λ (f : Fault). ConcernsText f.kind) same is_explained in
     explains plan_format PlanLineFits plan_node plan_start plan_grammar plan_behavior plan_follows fault_of found_of TellsLacks r _ same c.of.ensures.found (λ a t s f. tells_lacks plan_behavior plan_follows r.fault.kind r.machine c.of.result (ap (λ (f : Fault). f.kind) same) a t (c.of.ensures.line_end t f) (c.of.ensures.cost_line t f) s) bytes
-    (reported_by plan_format PlanLineFits plan_node plan_start plan_grammar plan_behavior plan_follows most_bytes bytes r reported
+    (explained_by plan_format PlanLineFits plan_node plan_start plan_grammar plan_behavior plan_follows most_bytes bytes r reported
     (subst (λ n. IsRefused plan_behavior n bytes r) limit (c.in-Err.ensures.refused.fault reported.2 bytes stands)))

@@ -1,6 +1,6 @@
 -- What each fault gives is known of the run.
 use Rattle.std.proofs.lemmas.Grind.{common_steps}
-use Rattle.sas_plan_reasons.proofs.Imports.{arith, ℕ, List, Some, sym, subst, IfOk-weaker, operator_at, Agree, PlanFault, RunEndsWith, Step, LineThen, AreOperatorLines, AreConflictLines, AreFaultLines, operators_exist, ReportsOnce}
+use Rattle.sas_plan_reasons.proofs.Imports.{arith, ℕ, List, Some, sym, subst, IfOk-weaker, operator_at, Agree, PlanFault, RunEndsWith, Step, LineThen, AreOperatorLines, AreConflictLines, AreFaultLines, operators_exist, ExplainsOnce}
 use Rattle.sas_plan_reasons.proofs.Behind.{behind, conflict_clashes, last_is, operators_are, operators_as_many}
 use Rattle.sas_plan_reasons.proofs.Faulty.{costs_reported}
 use Rattle.sas_plan_reasons.proofs.faults.lines_of_fault.Goals as goal
@@ -37,14 +37,14 @@ pub returns-in-NotApplicable : goal.returns-in-NotApplicable
 returns-in-NotApplicable g c =
     let p = c.args.layered.now in
     IfOk-weaker c.blocked.result _ _ (λ lines reported run r.
-    subst (λ (f : PlanFault). ReportsOnce lines (AreFaultLines p (g.P.Stepwise.says c.args.plan.now) run f)) (sym c.in-NotApplicable.is)
-    (subst (λ (name : List ℕ). ReportsOnce lines (LineThen (Step c.in-NotApplicable.step) (AreOperatorLines p run name))) c.step.ensures
+    subst (λ (f : PlanFault). ExplainsOnce lines (AreFaultLines p (g.P.Stepwise.says c.args.plan.now) run f)) (sym c.in-NotApplicable.is)
+    (subst (λ (name : List ℕ). ExplainsOnce lines (LineThen (Step c.in-NotApplicable.step) (AreOperatorLines p run name))) c.step.ensures
     (reported run (behind _ _ _ run r))))
     c.blocked.ensures
 
 pub returns-in-Conflict : goal.returns-in-Conflict
 returns-in-Conflict g c = rw c.in-Conflict.is (IfOk-weaker c.conflicting.result _ _
-    (λ lines reported run r. subst (λ (s : List ℕ). ReportsOnce lines (LineThen (Step c.in-Conflict.step) (AreConflictLines c.args.layered.now s c.in-Conflict.operator))) (last_is _ _ _ run r) reported)
+    (λ lines reported run r. subst (λ (s : List ℕ). ExplainsOnce lines (LineThen (Step c.in-Conflict.step) (AreConflictLines c.args.layered.now s c.in-Conflict.operator))) (last_is _ _ _ run r) reported)
     c.conflicting.ensures)
 
 pub returns-in-GoalMissed : goal.returns-in-GoalMissed

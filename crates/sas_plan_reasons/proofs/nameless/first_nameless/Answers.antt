@@ -1,5 +1,5 @@
 -- The first of the steps so far that name no operator are noted.
-use Rattle.sas_plan_reasons.proofs.Imports.{◌≡◌, ℕ, true, false, List, Option, not, is_some, sym, ap, ◌∙◌, arith, take, places_all, existing, get_or}
+use Rattle.sas_plan_reasons.proofs.Imports.{◌≡◌, ℕ, true, false, List, Option, not, is_some, sym, ap, ◌∙◌, arith, take, places_all, get_or}
 use Rattle.sas_plan_reasons.proofs.NamelessLines.{is_none_at, nameless_places, noted_one_more, noted_no_more, noted_enough}
 use Rattle.sas_plan_reasons.proofs.nameless.first_nameless.Goals as goal
 use Rattle.sas_plan_reasons.proofs.nameless.first_nameless.Goals.{then-len-lt-MOST+then-is_none+in_ok-push, else-len-lt-MOST, else-len-lt-MOST-via-then-len-lt-MOST+else-is_none, else-len-lt-MOST-via-else-len-lt-MOST}

@@ -1,6 +1,6 @@
 -- All of these steps were reported.
 use Rattle.std.proofs.Common.{◌++◌}
-use Rattle.sas_plan_reasons.proofs.Imports.{◌≡◌, ℕ, Bool, true, false, List, [], ◌∷◌, if◌then◌else◌, take, flat_map, sym, ap, subst, ◌∙◌, arith, append-nil, length, get_or, Contains, Contains-get_or, take_all, Line, nameless_step_lines, some_similar}
+use Rattle.sas_plan_reasons.proofs.Imports.{◌≡◌, ℕ, Bool, List, [], ◌∷◌, if◌then◌else◌, take, flat_map, sym, ap, subst, ◌∙◌, arith, append-nil, length, get_or, Contains, Contains-get_or, take_all, Line, nameless_step_lines, some_similar}
 use Rattle.sas_answers.specs.declared.line.Line.TheVariants.{NamelessSteps, OtherTaskHint}
 use Rattle.sas_plan_reasons.proofs.NamelessLines.{nameless_within, all_reported}
 use Rattle.sas_plan_reasons.proofs.nameless.unknown.Goals as goal

@@ -1,5 +1,5 @@
 -- The words are the same if they are so at each place.
-use Rattle.std.proofs.Common.{◌≡◌, true, false, get_or, arith, ◌∙◌, sym, subst, inl, inr}
+use Rattle.std.proofs.Common.{◌≡◌, true, get_or, arith, ◌∙◌, sym, subst, inl, inr}
 use Rattle.std.proofs.lemmas.Bool.{false≢true, cases_eq}
 use Rattle.sas_plan_reasons.proofs.BorrowedWords.{same_values, same_at, same_many, ne_is, eq_is, same_there}
 use Rattle.sas_plan_reasons.proofs.similar.are_same.Goals as goal

@@ -1,5 +1,5 @@
 -- The plan ends with a fault, or is valid, after a run.
-use Rattle.sas_plan_reasons.proofs.Imports.{List, ℕ, Some, None, subst, Option, IfOk-weaker, Parts, PlanFault, IsEnding, IsValid, MakeAnswer}
+use Rattle.sas_plan_reasons.proofs.Imports.{List, ℕ, subst, Option, IfOk-weaker, Parts, PlanFault, IsEnding, IsValid, MakeAnswer}
 use Rattle.sas_plan_reasons.proofs.writing.explain_end.Goals as goal
 
 pub returns-in-None-clause-answer : goal.returns-in-None-clause-answer

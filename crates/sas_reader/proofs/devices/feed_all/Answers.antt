@@ -72,7 +72,7 @@ returns-then-taken-eq0 g c =
     let v = c.loop-n.invariant in
     let b = v.read.0 in
     let whole : Consumes _ _ b = subst (Consumes _ _) (ap (λ (n : ℕ). b ++ take n c.take.new.buffer) c.if-taken-eq0.true ∙ append-nil b) (Consumes-trans _ _ _ b _ v.read.1 c.in-Ok.ensures.bytes.0) in
-    ended_so g.M.Machine.behavior g.R.Read.remaining c.args.reader.limit _ _ b c.loop-n.reader c.finish.result c.finish.ensures v.read.2 v.fault v.limit whole (c.in-Ok.ensures.bytes.1 c.if-taken-eq0.true (some_still c.loop-n.buffer _ v.room c.take.auto.buffer)) (λ t. false≢true (c.in-Ok.ensures.note.1 t))
+    ended_so g.M.Machine.behavior g.R.Read.remaining c.args.reader.limit _ _ b c.loop-n.reader c.finish.result c.finish.ensures v.read.2 v.fault v.limit whole (c.in-Ok.ensures.bytes.1 c.if-taken-eq0.true (some_still c.bytes-buffer.result.now _ c.bytes-buffer.ensures c.take.auto.buffer)) (λ t. false≢true (c.in-Ok.ensures.note.1 t))
 
 pub returns-in-Err-feed : goal.returns-in-Err-feed
 returns-in-Err-feed g c =

@@ -6,7 +6,6 @@ abbrev pub invariant-loop-n : goal.invariant-loop-n
 invariant-loop-n g l =
     record {
       note : l.device.failed ≡ false;
-      room : 0 < length l.buffer;
       fault : l.reader.fault ≡ None;
       limit : l.reader.limit ≡ l.fn.reader.limit;
       read : (b : List ℕ) × Consumes (g.R.Read.remaining l.initial.device.device) (g.R.Read.remaining l.device.device) b × Stands g.M.Machine.behavior l.reader b;

@@ -18,5 +18,4 @@ returns-in-Some c = λ name why files accepted is.
 pub returns-in-None : goal.returns-in-None
 returns-in-None c = λ name why files accepted is.
     let call = c.args.call in
-    let its = asks_many call.request call.why why name files c.in-None.ensures is.name is.flag accepted in
-    (its.0, its.1, subst (λ l. IsSource l c.source_of-task.result) is.task c.source_of-task.ensures, is.plans)
+    (asks_many call.request call.why name c.in-None.ensures is.name, is.flag, subst (λ l. IsSource l c.source_of-task.result) is.task c.source_of-task.ensures, is.plans)

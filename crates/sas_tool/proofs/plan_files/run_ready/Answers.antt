@@ -10,16 +10,16 @@ use Rattle.sas_tool.proofs.Running.{left_is, never}
 use Rattle.sas_tool.proofs.plan_files.run_ready.Goals as goal
 
 pub returns-then-not-are_label_texts : goal.returns-then-not-are_label_texts
-returns-then-not-are_label_texts g c = refused_ran (bytes_of_words c.args.labels.now) (2 ≤ times_named (is_input c.args.task.now) c.args.labels.now) _ _ _ (c.args.out.now ≡ c.args.out.now) refl
-    ended.NoLabel refl (λ all. true≢false (sym (c.are_label_texts.ensures.1 (labels_of c.args.labels.now all)) ∙ c.if-not-are_label_texts.true))
+returns-then-not-are_label_texts g c = refused_ran c.args.plans.why (bytes_of_words c.args.plans.labels.now) (2 ≤ times_named (is_input c.args.plans.task.now) c.args.plans.labels.now) _ _ _ (c.args.out.now ≡ c.args.out.now) refl
+    ended.NoLabel refl (λ all. true≢false (sym (c.are_label_texts.ensures.1 (labels_of c.args.plans.labels.now all)) ∙ c.if-not-are_label_texts.true))
 
 pub returns-in-Some : goal.returns-in-Some
 returns-in-Some g c =
     let left = input_left g.N.File.Read.remaining g.I.Read.remaining in
     let files = g.N.NamedFiles.held c.args.inputs.files.now in
     let standard = g.I.Read.remaining c.args.inputs.standard in
-    let task = source_held files standard c.args.task.now in
-    judged_ran (bytes_of_words c.args.labels.now) (2 ≤ times_named (is_input c.args.task.now) c.args.labels.now) task (word_held files standard)
+    let task = source_held files standard c.args.plans.task.now in
+    judged_ran c.args.plans.why (bytes_of_words c.args.plans.labels.now) (2 ≤ times_named (is_input c.args.plans.task.now) c.args.plans.labels.now) task (word_held files standard)
     (g.W.Write.contents c.args.out.now.device) (g.W.Write.contents c.judge_plans.new.out.device) _ c.judge_plans.result
     (λ e. never left task c.in-Some.task c.in-Some.ensures e)
     (λ b cs et all. c.judge_plans.ensures.output b cs (left_is left task c.in-Some.task b c.in-Some.ensures et) all)

@@ -1,4 +1,4 @@
-use Rattle.std.proofs.Common.{◌∙◌, ◌∷◌, ap, codes, false, subst}
+use Rattle.std.proofs.Common.{◌∙◌, ◌∷◌, ap, codes, subst}
 use Rattle.sas_words.specs.Calls.{bytes_of_words, name_of}
 use Rattle.sas_tool.specs.Jobs.{Asks}
 use Rattle.sas_tool.proofs.Answering.{files_do}
@@ -17,10 +17,10 @@ pub returns-in-Plans-clause-does : goal.returns-in-Plans-clause-does
 returns-in-Plans-clause-does g c = λ n why question files is asks. absurd (no_question n why question is (subst (Asks (name_of n) why files) c.in-Plans.is asks).0)
 
 pub returns-in-Files-clause-plans : goal.returns-in-Files-clause-plans
-returns-in-Files-clause-plans g c = λ t labels asks. absurd (no_plans false c.in-Files.question (subst (Asks (codes "plans") false (t ∷ labels)) c.in-Files.is asks).0)
+returns-in-Files-clause-plans g c = λ why t labels asks. absurd (no_plans why c.in-Files.question (subst (Asks (codes "plans") why (t ∷ labels)) c.in-Files.is asks).0)
 
 pub returns-in-Plans-clause-plans : goal.returns-in-Plans-clause-plans
-returns-in-Plans-clause-plans g c = λ t labels asks.
-    let its = subst (Asks (codes "plans") false (t ∷ labels)) c.in-Plans.is asks in
-    plans_do (g.N.NamedFiles.held c.args.inputs.files.now) (g.I.Read.remaining c.args.inputs.standard) t labels c.in-Plans.task c.as_slice-names.result.now _ _ _ _
-    c.run_plans-ended.result _ its.2 (ap bytes_of_words c.as_slice-names.ensures.value ∙ its.3) c.run_plans-ended.ensures c.finish_plans.ensures.status c.finish_plans.ensures.text
+returns-in-Plans-clause-plans g c = λ why t labels asks.
+    let its = subst (Asks (codes "plans") why (t ∷ labels)) c.in-Plans.is asks in
+    plans_do c.in-Plans.why why (g.N.NamedFiles.held c.args.inputs.files.now) (g.I.Read.remaining c.args.inputs.standard) t labels c.in-Plans.task c.as_slice.result.now _ _ _ _
+    c.run_plans-ended.result _ its.1 its.2 (ap bytes_of_words c.as_slice.ensures.value ∙ its.3) c.run_plans-ended.ensures c.finish_plans.ensures.status c.finish_plans.ensures.text

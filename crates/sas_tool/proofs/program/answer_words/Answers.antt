@@ -1,4 +1,4 @@
-use Rattle.std.proofs.Common.{[], ◌∷◌, false, refl, subst, sym, codes}
+use Rattle.std.proofs.Common.{[], ◌∷◌, refl, subst, sym, codes}
 use Rattle.sas_words.specs.Calls.{name_of}
 use Rattle.sas_words.specs.declared.calls.Named.TheVariants.{Mutex, Plan}
 use Rattle.sas_tool.specs.Endings.{Puts}
@@ -29,26 +29,26 @@ returns-in-Ok-clause-others g c = λ none. let only = c.in-Ok.ensures.only in ab
 
 pub returns-in-Err-clause-headline : goal.returns-in-Err-clause-headline
 returns-in-Err-clause-headline g c = λ why t p b b' before call et ep ew.
-    refused_says b b' _ (t ∷ p ∷ []) (λ text. Puts g.E.Write.contents text c.args.errors.now c.report_fault.new.errors) c.report_fault.result c.in-Err.fault (c.in-Err.ensures.taken (codes "plan") why (t ∷ p ∷ []) call) c.report_fault.ensures
+    refused_says b b' _ (t ∷ p ∷ []) (λ text. Puts g.E.Write.contents text c.args.errors.now c.say_fault.new.errors) c.say_fault.result c.in-Err.fault (c.in-Err.ensures.taken (codes "plan") why (t ∷ p ∷ []) call) c.say_fault.ensures
 
 pub returns-in-Err-clause-invariants : goal.returns-in-Err-clause-invariants
 returns-in-Err-clause-invariants g c = λ why t b before call et ew.
-    refused_groups _ (t ∷ []) (λ text. Puts g.E.Write.contents text c.args.errors.now c.report_fault.new.errors) c.report_fault.result c.in-Err.fault (c.in-Err.ensures.taken (codes "mutex") why (t ∷ []) call) c.report_fault.ensures
+    refused_groups _ (t ∷ []) (λ text. Puts g.E.Write.contents text c.args.errors.now c.say_fault.new.errors) c.say_fault.result c.in-Err.fault (c.in-Err.ensures.taken (codes "mutex") why (t ∷ []) call) c.say_fault.ensures
 
 pub returns-in-Err-clause-does : goal.returns-in-Err-clause-does
 returns-in-Err-clause-does g c = λ n why question files is call once.
-    refused_does question _ _ _ files _ _ _ c.report_fault.result c.in-Err.fault refl once (c.in-Err.ensures.taken (name_of n) why files call) c.report_fault.ensures
+    refused_does question _ _ _ files _ _ _ c.say_fault.result c.in-Err.fault refl once (c.in-Err.ensures.taken (name_of n) why files call) c.say_fault.ensures
 
 pub returns-in-Err-clause-twice : goal.returns-in-Err-clause-twice
 returns-in-Err-clause-twice g c = λ n why question is call.
-    (refused_twice (codes "-" ∷ codes "-" ∷ []) (λ text. Puts g.E.Write.contents text c.args.errors.now c.report_fault.new.errors) c.report_fault.result c.in-Err.fault (c.in-Err.ensures.taken (name_of n) why _ call) c.report_fault.ensures, refl)
+    (refused_twice (codes "-" ∷ codes "-" ∷ []) (λ text. Puts g.E.Write.contents text c.args.errors.now c.say_fault.new.errors) c.say_fault.result c.in-Err.fault (c.in-Err.ensures.taken (name_of n) why _ call) c.say_fault.ensures, refl)
 
 pub returns-in-Err-clause-others : goal.returns-in-Err-clause-others
-returns-in-Err-clause-others g c = λ none. (refl, refused_words (λ text. Puts g.E.Write.contents text c.args.errors.now c.report_fault.new.errors) c.report_fault.result c.in-Err.fault c.report_fault.ensures)
+returns-in-Err-clause-others g c = λ none. (refl, refused_words (λ text. Puts g.E.Write.contents text c.args.errors.now c.say_fault.new.errors) c.say_fault.result c.in-Err.fault c.say_fault.ensures)
 
 pub returns-in-Ok-clause-plans : goal.returns-in-Ok-clause-plans
-returns-in-Ok-clause-plans g c = λ t labels call. c.answer_job.ensures.plans t labels (c.in-Ok.ensures.taken (codes "plans") false (t ∷ labels) call)
+returns-in-Ok-clause-plans g c = λ why t labels call. c.answer_job.ensures.plans why t labels (c.in-Ok.ensures.taken (codes "plans") why (t ∷ labels) call)
 
 pub returns-in-Err-clause-plans : goal.returns-in-Err-clause-plans
-returns-in-Err-clause-plans g c = λ t labels call.
-    refused_plans _ t labels _ _ _ c.report_fault.result c.in-Err.fault refl (c.in-Err.ensures.taken (codes "plans") false (t ∷ labels) call) c.report_fault.ensures
+returns-in-Err-clause-plans g c = λ why t labels call.
+    refused_plans why _ t labels _ _ _ c.say_fault.result c.in-Err.fault refl (c.in-Err.ensures.taken (codes "plans") why (t ∷ labels) call) c.say_fault.ensures

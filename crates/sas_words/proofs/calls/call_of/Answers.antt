@@ -24,8 +24,9 @@ returns-in-Ok-clause-only c =
     let words = bytes_of_words c.args.words.now in
     let is = c.in_ok-program.ensures.0 in
     let met : subcommand_rows_of c.in-Ok.matches ≡ subcommand_of sas_app words = (c.in-Ok.ensures.matches (ap is_simple is)).1 ∙ ap (λ a. subcommand_of a words) is in
+    let few : length words ≤ usize_max = omega (arith, length-map c.args.words.now string_bytes, c.count.ensures, c.count.type_inv) in
     let well : fault_of sas_app words ≡ [] = subst (λ a. fault_of a words ≡ []) is (c.in-Ok.ensures.kinds (ap is_simple_and_free is)) in
-    let s = taken_is_call words (characters c.args.words.now) well in
+    let s = taken_is_call words (characters c.args.words.now) few well in
     ok_of c.found_call.result (IsFor s.0 s.1 s.2) _ _ (λ call its. (s.0, s.1, s.2, s.3, its)) (c.found_call.ensures s.0 s.1 s.2 (subst (HasFound s.0 s.1 s.2) (sym met) s.4))
 
 pub returns-in-Err-clause-taken : goal.returns-in-Err-clause-taken

@@ -1,13 +1,13 @@
 use Rattle.std.proofs.Common.{codes}
 use Rattle.sas_words.specs.Grammar.{IsCommand, explained, over_plan, over_plans, over_task, top_app, with_request}
-use Rattle.clap.specs.Words.{App, new_app}
+use Rattle.clap.specs.Words.{App}
 use Rattle.sas_words.proofs.grammar.with_checks.Goals as goal
 
 abbrev plan_app : App
 plan_app = with_request top_app (over_plan (over_task (explained (codes "plan"))))
 
 abbrev plans_app : App
-plans_app = with_request plan_app (over_plans (over_task (new_app (codes "plans"))))
+plans_app = with_request plan_app (over_plans (over_task (explained (codes "plans"))))
 
 pub returns : goal.returns
 returns c =

@@ -1,7 +1,10 @@
--- The fact contradicts those so far that are on other variables.
-use Rattle.sas_mutex.proofs.Imports.{◌≢◌, ℕ, ◌<◌, get_or, Fact, Contradict, IsKept}
+-- The fact contradicts those so far, but those on the variable that is noted, which is that of the effect.
+use Rattle.sas_mutex.proofs.Imports.{◌≡◌, ◌≢◌, ℕ, ◌<◌, Some, get_or, Fact, Contradict, IsKept}
 use Rattle.sas_mutex.proofs.effects.FiringEffect.excluding.Given as goal
 
 abbrev pub invariant-loop-other : goal.invariant-loop-other
-invariant-loop-other g l = (k : ℕ) (d : Fact) → k < l.other-index → (get_or l.other-items k d).var ≢ l.self-inside.change.var
-    → Contradict (IsKept l.self.task l.kept) l.fact (get_or l.other-items k d)
+invariant-loop-other g l = record {
+  exclude : (k : ℕ) (d : Fact) → k < l.other-index → l.var ≢ Some (get_or l.other-items k d).var
+      → Contradict (IsKept l.self.task l.kept) l.fact (get_or l.other-items k d);
+  on : (v : ℕ) → l.var ≡ Some v → v ≡ l.self-inside.change.var;
+}

@@ -7,30 +7,30 @@ use Rattle.sas_plan_reasons.proofs.Noted.{step_there, noted_next}
 use Rattle.sas_plan_reasons.proofs.history.HistorianObserver.observe.Goals as goal
 
 pub note_other-requires-clause-state : goal.note_other-requires-clause-state
-note_other-requires-clause-state g c = (let (first, before, told, derived) = c.requires.told in goes_state c.args.task.now before c.args.self.now.changes.values told.sees.through)
+note_other-requires-clause-state g c = (let (start, first, before, told, derived) = c.requires.told in goes_state c.args.task.now before c.args.self.now.changes.values told.sees.through)
 
 pub list-requires-clause-before : goal.list-requires-clause-before
 list-requires-clause-before g c =
-    let (first, before, told, derived) = c.requires.told in
+    let (start, first, before, told, derived) = c.requires.told in
     let fits = goes_state c.args.task.now before c.args.self.now.changes.values told.sees.through in
     ap (λ (h : Historian). length h.changes.values) c.note_other.ensures.rest ∙ fits.one_each
 
 pub list-requires-clause-step : goal.list-requires-clause-step
 list-requires-clause-step g c =
-    let (first, before, told, derived) = c.requires.told in
+    let (start, first, before, told, derived) = c.requires.told in
     let p = c.args.task.now in
     subst (λ s. Step p s (operator_at p c.args.operator) c.args.state.now) (sym (ap (λ (h : Historian). h.changes.values) c.note_other.ensures.rest))
     (step_there p told.layered before c.args.self.now.changes.values told.sees.through c.args.operator c.args.state.now told.through).1
 
 pub list-requires-clause-derived : goal.list-requires-clause-derived
 list-requires-clause-derived g c =
-    let (first, before, told, derived) = c.requires.told in
+    let (start, first, before, told, derived) = c.requires.told in
     IfSome_then c.args.derived derived (λ listed lists. subst (λ s. ListsDerived c.args.task.now s c.args.state.now listed.now) (sym (ap (λ (h : Historian). h.changes.values) c.note_other.ensures.rest))
     (lists c.args.self.now.changes.values told.sees.through))
 
 pub note-requires-clause-places : goal.note-requires-clause-places
 note-requires-clause-places g c =
-    let (first, before, told, derived) = c.requires.told in
+    let (start, first, before, told, derived) = c.requires.told in
     let p = c.args.task.now in
     let s = c.args.self.now.changes.values in
     let fits = goes_state p before s told.sees.through in
@@ -43,7 +43,7 @@ note-requires-clause-places g c =
 
 pub note-requires-clause-exist : goal.note-requires-clause-exist
 note-requires-clause-exist g c =
-    let (first, before, told, derived) = c.requires.told in
+    let (start, first, before, told, derived) = c.requires.told in
     let p = c.args.task.now in
     let s = c.args.self.now.changes.values in
     let fits = goes_state p before s told.sees.through in
@@ -53,7 +53,7 @@ note-requires-clause-exist g c =
 
 pub returns : goal.returns
 returns g c = record {
-  sees = λ first before told.
+  sees = λ start first before told.
       let p = c.args.task.now in
       let s = c.args.self.now.changes.values in
       let next = c.args.state.now in

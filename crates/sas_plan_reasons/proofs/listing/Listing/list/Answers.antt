@@ -1,5 +1,5 @@
 -- What is listed covers what changed.
-use Rattle.sas_plan_reasons.proofs.Imports.{ap, operator_at}
+use Rattle.sas_plan_reasons.proofs.Imports.{operator_at}
 use Rattle.sas_plan_reasons.proofs.ListedChanges.{lists_effects}
 use Rattle.sas_plan_reasons.proofs.listing.Listing.list.Goals as goal
 

@@ -1,5 +1,5 @@
 -- Names with the same words in order of bytes have the same words in some order, and the same sum.
-use Rattle.std.proofs.Common.{List, ℕ, ◌≡◌, ap, sym, ◌∙◌, subst, sum}
+use Rattle.std.proofs.Common.{List, ℕ, ◌≡◌, ap, sym, ◌∙◌, subst}
 use Rattle.std.proofs.lemmas.Bool.{false≢true}
 use Rattle.sas_plan_reasons.specs.Words.{parts, words}
 use Rattle.sas_plan_reasons.specs.Similar.{AreSorted}

@@ -7,40 +7,40 @@ use Rattle.sas_plan_reasons.proofs.tracing.TracerObserverFlatTask.observe.Goals 
 
 pub push_step_line-requires : goal.push_step_line-requires
 push_step_line-requires g c =
-    let (first, before, told, derived) = c.requires.told in
+    let (start, first, before, told, derived) = c.requires.told in
     (step_there c.args.task.now told.layered before c.args.self.now.printed.now.values told.sees.through c.args.operator c.args.state.now told.through).0
 
 pub list-requires-clause-operator : goal.list-requires-clause-operator
 list-requires-clause-operator g c =
-    let (first, before, told, derived) = c.requires.told in
+    let (start, first, before, told, derived) = c.requires.told in
     (step_there c.args.task.now told.layered before c.args.self.now.printed.now.values told.sees.through c.args.operator c.args.state.now told.through).0
 
 pub list-requires-clause-fits : goal.list-requires-clause-fits
-list-requires-clause-fits g c = (let (first, before, told, derived) = c.requires.told in (goes_state c.args.task.now before c.args.self.now.printed.now.values told.sees.through).one_each)
+list-requires-clause-fits g c = (let (start, first, before, told, derived) = c.requires.told in (goes_state c.args.task.now before c.args.self.now.printed.now.values told.sees.through).one_each)
 
 pub list-requires-clause-step : goal.list-requires-clause-step
 list-requires-clause-step g c =
-    let (first, before, told, derived) = c.requires.told in
+    let (start, first, before, told, derived) = c.requires.told in
     (step_there c.args.task.now told.layered before c.args.self.now.printed.now.values told.sees.through c.args.operator c.args.state.now told.through).1
 
 pub list-requires-clause-derived : goal.list-requires-clause-derived
 list-requires-clause-derived g c =
-    let (first, before, told, derived) = c.requires.told in
+    let (start, first, before, told, derived) = c.requires.told in
     IfSome_then c.args.derived derived (λ listed lists. lists c.args.self.now.printed.now.values told.sees.through)
 
 pub push_listed-requires-clause-fits : goal.push_listed-requires-clause-fits
 push_listed-requires-clause-fits g c =
-    let (first, before, told, derived) = c.requires.told in
+    let (start, first, before, told, derived) = c.requires.told in
     ap length c.list.ensures.values ∙ (goes_state c.args.task.now before c.args.self.now.printed.now.values told.sees.through).one_each
 
 pub push_listed-requires-clause-state : goal.push_listed-requires-clause-state
 push_listed-requires-clause-state g c =
-    let (first, before, told, derived) = c.requires.told in
+    let (start, first, before, told, derived) = c.requires.told in
     (step_there c.args.task.now told.layered before c.args.self.now.printed.now.values told.sees.through c.args.operator c.args.state.now told.through).1.state.one_each
 
 pub returns : goal.returns
 returns g c = record {
-  sees = λ first before told.
+  sees = λ start first before told.
       let p = c.args.task.now in
       let both = pushes_then _ _ _ _ _ _ c.push_step_line.ensures (rw c.list.ensures.values at c.push_listed.ensures.pushes) in
       let old = c.args.self.now in

@@ -1,5 +1,5 @@
 -- The list of the value has one operator more, and the others are as before.
-use Rattle.sas_run.proofs.Imports.{ap, ◌∙◌, refl, ◌++◌, ◌∷◌, [], Vec, unwrap_or}
+use Rattle.sas_run.proofs.Imports.{ap, ◌∙◌, refl, ◌++◌, ◌∷◌, [], Vec}
 use Rattle.sas_run.specs.LongChains.{items_of}
 use Rattle.sas_run.proofs.Collecting.{apart_from, items_or_none}
 use Rattle.sas_run.proofs.long_chains.LongChain.push.Goals as goal

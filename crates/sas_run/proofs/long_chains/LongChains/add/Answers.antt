@@ -1,5 +1,5 @@
 -- The chain is found by its first operator, and the others as before.
-use Rattle.sas_run.proofs.Imports.{◌≡◌, ℕ, Some, sym, subst, ◌∙◌, inl, inr, cases_eq, same_Some, ne_eqb, unsigned_tied, nat_cmp, None, LongChain, IsLongChain}
+use Rattle.sas_run.proofs.Imports.{◌≡◌, Some, sym, subst, ◌∙◌, inl, inr, cases_eq, same_Some, ne_eqb, unsigned_tied, nat_cmp, None, LongChain, IsLongChain}
 use Rattle.std.specs.BTreeMap as tree
 use Rattle.sas_run.proofs.long_chains.LongChains.add.Goals as goal
 

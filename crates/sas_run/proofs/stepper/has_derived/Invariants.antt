@@ -1,6 +1,0 @@
--- The variables so far are basic.
-use Rattle.sas_run.proofs.Imports.{ℕ, ◌<◌, IsBasic}
-use Rattle.sas_run.proofs.stepper.has_derived.Given as goal
-
-abbrev pub invariant-loop-var : goal.invariant-loop-var
-invariant-loop-var g l = (k : ℕ) → k < l.var → IsBasic l.task k
