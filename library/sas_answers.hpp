@@ -72,7 +72,7 @@ struct NamedStep {
     bool shown = false;
 };
 
-// An operator whose name differs from that of a step only in capitals and spaces, and the line of the task file at which it begins.
+// An operator whose name has the words of a step's name, in the same order or in another, and the line of the task file at which it begins.
 struct SimilarOperator {
     std::uint32_t op = 0;
     std::uint64_t line = 0;

@@ -78,8 +78,8 @@ class NamedStep(NamedTuple):
 
 
 class SimilarOperator(NamedTuple):
-    """An operator whose name differs from that of a step only in capitals and spaces. It begins on this line of the task file. `shown` is
-    as in `Fact`."""
+    """An operator whose name has the words of a step's name, in the same order or in another. It begins on this line of the task file.
+    `shown` is as in `Fact`."""
 
     operator: int
     line: int

@@ -102,7 +102,7 @@ pub struct NamedStep<'a> {
     pub shown: bool,
 }
 
-/// An operator whose name differs from that of a step only in capitals and spaces.
+/// An operator whose name has the words of a step's name, in the same order or in another.
 #[derive(Clone, Copy, Debug, Default, PartialEq, Eq, Hash)]
 pub struct SimilarOperator<'a> {
     /// The operator.
