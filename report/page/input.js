@@ -51,7 +51,8 @@ class Page {
     const { run } = this.shown, { variables } = this.task, changes = run.when.map(it => it.length);
     const sum = changes.reduce((a, b) => a + b, 0), most = changes.toSorted((a, b) => b - a)[0];
     const often = sum ? `: ${variables[changes.indexOf(most)].label} has most, ${group(most)}` : "";
-    const counted = `${group(variables.length)} variables, ${group(sum)} changes`;
+    const some = (count, word) => `${group(count)} ${word}${count === 1 ? "" : "s"}`;
+    const counted = `${some(variables.length, "variable")}, ${some(sum, "change")}`;
     get("summary").textContent = `${counted}${often}.`;
     get("at").max = run.total;
     this.shown.step = 0;
